@@ -1,0 +1,13 @@
+pub mod CivilLemmas
+pub mod Equals
+pub mod Fields
+pub mod FunctionExamples
+pub mod JsonLemmas
+pub mod PrintedDatetimes
+pub mod PrintedTimespans
+pub mod SameLemmas
+pub mod Steps
+pub mod Totals
+pub mod Trees
+pub mod Types
+pub mod WrittenExamples
