@@ -1,0 +1,6 @@
+pub mod Chains
+pub mod Places
+pub mod SlotLinks
+pub mod SlotLists
+pub mod Slots
+pub mod Walks

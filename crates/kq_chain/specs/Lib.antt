@@ -1,0 +1,4 @@
+pub mod Added
+pub mod Chain
+pub mod Links
+pub mod SlotList
