@@ -1,0 +1,4 @@
+pub mod Collected
+pub mod Deep
+pub mod Kept
+pub mod Places
