@@ -1,0 +1,4 @@
+pub mod Cases
+pub mod Occurs
+pub mod Pieces
+pub mod Terms

@@ -1,0 +1,11 @@
+//! Searching, splitting and replacing in strings, as `has`, `contains`, `startswith`, `endswith`, `split` and `replace_string` do. What each gives is a definition of `kq_value`.
+#![tactic(auto)]
+
+mod find;
+mod search;
+mod split;
+#[cfg(test)]
+mod tests;
+
+pub use find::{FindKind, find_text};
+pub use split::{replace_text, split_text};

@@ -1,0 +1,50 @@
+// Splitting and replacing.
+ghost use Rattle.std.specs.Prelude.{◌≡◌, ◌<◌, [], ◌∷◌, IfOk, IfSome, MatchOption, length};
+ghost use Rattle.kq_value.specs.Tree.{array};
+ghost use Rattle.kq_value.specs.Seen.{tree_of};
+ghost use Rattle.kq_value.specs.Members.{strings};
+ghost use Rattle.kq_value.specs.Strings.{split, replace_string};
+
+use kq_value::{Dyn, DynList, Memory, Text};
+use std::alloc::Global;
+
+/// What stands before the first occurrence of `part` and what after it, or none where there is none or `part` is empty.
+fn cut<'a>(text: &'a str, part: &str) -> Option<(&'a str, &'a str)>
+    ensures pieces { MatchOption result (split text.now part.now ≡ text.now ∷ [])
+        (λ x. split text.now part.now ≡ x.0.now ∷ split x.1.now part.now) }
+    ensures shorter { IfSome result (λ x. length x.1.now < length text.now) }
+{
+    if part.is_empty() {
+        return None;
+    }
+    text.split_once(part)
+}
+
+/// The pieces of `text` between the occurrences of `part` from the left, as an array of strings; the text alone where `part` is empty.
+pub fn split_text(alloc: Global, text: &str, part: &str) -> Result<Dyn, Memory>
+    ensures { IfOk result (λ d. tree_of d ≡ array (strings (split text.now part.now))) }
+{
+    let mut pieces = DynList::new(alloc);
+    let mut rest = text;
+    while let Some((piece, after)) = cut(rest, part) {
+        pieces.push(Dyn::Text(Text::from_str(alloc, piece)?))?;
+        rest = after;
+    }
+    pieces.push(Dyn::Text(Text::from_str(alloc, rest)?))?;
+    Ok(Dyn::List(pieces))
+}
+
+/// `text` with `by` in place of each occurrence of `part` from the left; the text itself where `part` is empty.
+pub fn replace_text(alloc: Global, text: &str, part: &str, by: &str) -> Result<Text, Memory>
+    ensures { IfOk result (λ t. t ≡ replace_string text.now part.now by.now) }
+{
+    let mut replaced = String::new(alloc);
+    let mut rest = text;
+    while let Some((piece, after)) = cut(rest, part) {
+        replaced.push_str(piece)?;
+        replaced.push_str(by)?;
+        rest = after;
+    }
+    replaced.push_str(rest)?;
+    Ok(Text::from_string(replaced))
+}

@@ -1,0 +1,154 @@
+use super::*;
+use FindKind::*;
+use kq_value::{Dyn, Memory};
+use std::alloc::Global;
+use std::process::Abort;
+use std::test::Fail;
+
+fn assert_found(rt: &impl Abort, cases: &[(FindKind, &str, &str, bool)]) {
+    for (kind, text, part, want) in cases {
+        assert_eq!(rt;
+            find_text(*kind, text, part),
+            *want,
+            "{text} {kind:?} {part}"
+        );
+    }
+}
+
+#[test]
+fn a_term_ends_where_no_alphanumeric_goes_on(rt: HostRuntime) {
+    assert_found(
+        &rt,
+        &[
+            (Has, "Disk-full a_b", "disk", true),
+            (Has, "Disk-full a_b", "dis", false),
+            (Has, "Disk-full a_b", "isk", false),
+            (Has, "Disk-full a_b", "a", true),
+            (HasCs, "Disk-full a_b", "Disk", true),
+            (HasCs, "Disk-full a_b", "disk", false),
+            (Has, "xab ab", "AB", true),
+            (HasCs, "xab abx", "ab", false),
+            (HasCs, "aaa", "aa", false),
+            (HasCs, "aaa-aa", "aa", true),
+        ],
+    );
+}
+
+#[test]
+fn ends_that_are_not_alphanumeric_go_on(rt: HostRuntime) {
+    assert_found(
+        &rt,
+        &[
+            (Has, "a-b", "-", true),
+            (Has, "a-b", "-b", true),
+            (Has, "a-bc", "-b", false),
+            (Has, "ab-", "b-", false),
+            (Has, "b-c", "b-", true),
+            (HasCs, "a--b", "-", true),
+            (Has, "éabcé", "ABC", true),
+            (HasCs, "aéb", "é", true),
+        ],
+    );
+}
+
+#[test]
+fn case_is_that_of_ascii_letters(rt: HostRuntime) {
+    assert_found(
+        &rt,
+        &[
+            (Contains, "abc", "BC", true),
+            (ContainsCs, "abc", "BC", false),
+            (ContainsCs, "aabc", "abc", true),
+            (StartsWith, "Abc", "aB", true),
+            (StartsWithCs, "Abc", "aB", false),
+            (StartsWithCs, "Abc", "bc", false),
+            (EndsWith, "abC", "Bc", true),
+            (EndsWithCs, "abC", "Bc", false),
+            (EndsWithCs, "abC", "ab", false),
+            (Contains, "É", "é", false),
+            (Contains, "aÉ", "AÉ", true),
+            (Contains, "a@[`{b", "`", true),
+            (Contains, "a@b", "`", false),
+        ],
+    );
+}
+
+#[test]
+fn an_empty_part_is_found_and_a_longer_one_is_not(rt: HostRuntime) {
+    for kind in [
+        Has,
+        HasCs,
+        Contains,
+        ContainsCs,
+        StartsWith,
+        StartsWithCs,
+        EndsWith,
+        EndsWithCs,
+    ] {
+        assert_found(
+            &rt,
+            &[
+                (kind, "", "", true),
+                (kind, "a", "", true),
+                (kind, "a", "aa", false),
+                (kind, "", "a", false),
+            ],
+        );
+    }
+}
+
+fn assert_pieces(
+    rt: &impl Abort,
+    alloc: Global,
+    text: &str,
+    part: &str,
+    want: &[&str],
+) -> Result<(), Memory> {
+    let Dyn::List(pieces) = split_text(alloc, text, part)? else {
+        panic!(rt; "no array of {text}");
+    };
+    assert_eq!(rt; pieces.len(), want.len(), "{text}");
+    for (piece, want) in pieces.as_slice().iter().zip(want) {
+        match piece {
+            Dyn::Text(piece) => assert_eq!(rt; piece.as_str(), *want, "{text}"),
+            _ => panic!(rt; "no string in {text}"),
+        }
+    }
+    Ok(())
+}
+
+#[test]
+fn a_text_is_split_from_the_left(rt: HostRuntime) -> Result<(), Fail> {
+    for (text, part, want) in [
+        ("a,b", ",", &["a", "b"][..]),
+        (",a,,b,", ",", &["", "a", "", "b", ""]),
+        ("a--b---c", "--", &["a", "b", "-c"]),
+        ("aaaa", "aa", &["", "", ""]),
+        ("né,é", "é", &["n", ",", ""]),
+        ("abc", "B", &["abc"]),
+        ("abc", "", &["abc"]),
+        ("", ",", &[""]),
+        ("", "", &[""]),
+    ] {
+        assert_pieces(&rt, rt.alloc(), text, part, want)?;
+    }
+    Ok(())
+}
+
+#[test]
+fn occurrences_are_replaced_from_the_left(rt: HostRuntime) -> Result<(), Fail> {
+    for (text, part, by, want) in [
+        ("aXbX", "X", "-", "a-b-"),
+        ("aaa", "aa", "b", "ba"),
+        ("aab", "ab", "b", "ab"),
+        ("a.b.", ".", "::", "a::b::"),
+        ("é,é", "é", "", ","),
+        ("abc", "B", "x", "abc"),
+        ("abc", "", "x", "abc"),
+        ("", "a", "x", ""),
+    ] {
+        let replaced = replace_text(rt.alloc(), text, part, by)?;
+        assert_eq!(rt; replaced.as_str(), want, "{text}");
+    }
+    Ok(())
+}
