@@ -1,0 +1,14 @@
+pub mod DelimitedLemmas
+pub mod LeadLemmas
+pub mod NumberLemmas
+pub mod NumberTails
+pub mod OpeningLemmas
+pub mod ReadingLemmas
+pub mod RunLemmas
+pub mod SpelledLemmas
+pub mod StringLemmas
+pub mod TableLemmas
+pub mod TestLemmas
+pub mod TokenLemmas
+pub mod UniqueTokens
+pub mod WordLemmas
