@@ -1,0 +1,62 @@
+-- What a list of events says: its commits, its cursor and its tables.
+use Rattle.std.specs.Prelude.{ℕ, ◌+◌, List, [], ◌∷◌, ◌++◌, length, map, Option, nat_eq}
+use Rattle.std.specs.List.{find, flat_map}
+use Rattle.std.specs.Cmp.Lexicographic.{pointwise}
+use Rattle.kq_model.specs.declared.table.Table.{Table}
+use Rattle.kq_model.specs.declared.event.By.{By}
+use Rattle.kq_model.specs.declared.event.Commit.{Commit}
+use Rattle.kq_model.specs.declared.event.Commit.TheVariants.{CreateTable}
+use Rattle.kq_model.specs.declared.event.Operation.{Operation}
+use Rattle.kq_model.specs.declared.event.Operation.TheVariants as operation
+use Rattle.kq_model.specs.declared.event.Event.{Event}
+
+abbrev pub History : Type 0
+History = List Event
+
+abbrev pub Log : Type 0
+Log = List Commit
+
+-- the commits of an operation: one or none
+abbrev pub commits_of : Operation → Log
+commits_of (operation.Commit c) = c ∷ []
+
+-- the commits, in order
+abbrev pub log : History → Log
+log = flat_map (λ (e : Event). commits_of e.operation)
+
+-- the number of commits; the cursor of a commit is its place in the log, from 1
+abbrev pub cursor : History → ℕ
+cursor h = length (log h)
+
+-- the tables after one more commit, whose cursor is given
+abbrev pub tables_with : ℕ → Commit → List Table → List Table
+tables_with at (CreateTable name schema) tables = tables ++ record { name = name; schema = schema; made = at } ∷ []
+
+abbrev pub tables_from : ℕ → List Table → Log → List Table
+tables_from n tables [] = tables
+tables_from n tables (c ∷ l) = tables_from (n + 1) (tables_with (n + 1) c tables) l
+
+-- the tables, in the order of their creation
+abbrev pub tables : Log → List Table
+tables = tables_from 0 []
+
+-- the table of a name
+abbrev pub table_named : List ℕ → List Table → Option Table
+table_named name = find (λ (t : Table). pointwise nat_eq t.name name)
+
+-- a commit's place in the journal, from 1, and its mark
+pub record CommitAt : Type 0 where
+  pub place : ℕ
+  pub by : By
+
+-- an event's commit at its place, if it has one
+abbrev pub commit_at : Event → ℕ → List CommitAt
+commit_at e place = map (λ (c : Commit). record { place = place; by = e.by }) (commits_of e.operation)
+
+abbrev pub commits_from : ℕ → History → List CommitAt
+commits_from n [] = []
+commits_from n (e ∷ h) = commit_at e (n + 1) ++ commits_from (n + 1) h
+
+-- the commits with their places and marks, in order
+abbrev pub commits_at : History → List CommitAt
+commits_at = commits_from 0

@@ -1,0 +1,5 @@
+pub mod History
+pub mod Lawful
+pub mod Limits
+pub mod Marks
+pub mod Names

@@ -1,0 +1,53 @@
+// Commits and events.
+ghost use Rattle.std.specs.Prelude.{◌≡◌, IfOk};
+
+use kq_value::{Memory, Schema, Text};
+
+/// The mark of a command: who asked, and with which of its commands, counted from 1.
+#[derive(Clone, Copy, Debug)]
+pub struct By {
+    pub actor: u32,
+    pub number: u64,
+}
+
+impl By {
+    ghost use Rattle.kq_model.specs.Marks.{same_by};
+
+    pub fn same(self, other: By) -> bool
+        ensures { result ≡ same_by self other }
+    {
+        self.actor == other.actor && self.number == other.number
+    }
+}
+
+/// What a client's command changes for good.
+#[derive(Debug, Drop)]
+pub enum Commit {
+    CreateTable { name: Text, schema: Schema },
+}
+
+impl Commit {
+    pub fn clone_in(&self) -> Result<Commit, Memory>
+        ensures { IfOk result (λ c. c ≡ self.now) }
+    {
+        match self {
+            Commit::CreateTable { name, schema } => Ok(Commit::CreateTable {
+                name: name.clone_in()?,
+                schema: schema.clone_in()?,
+            }),
+        }
+    }
+}
+
+/// What an event does.
+#[derive(Debug, Drop)]
+pub enum Operation {
+    Commit(Commit),
+}
+
+/// An entry of the journal: an operation with the mark of the command that made it.
+#[derive(Debug, Drop)]
+pub struct Event {
+    pub by: By,
+    pub operation: Operation,
+}

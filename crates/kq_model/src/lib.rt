@@ -1,0 +1,13 @@
+//! The words that the engine speaks: commits, events, tables and limits, with the definitions of what a history of
+//! events says. It holds no algorithm: storing a history is left to the catalogue, answering commands to the engine.
+#![tactic(auto)]
+
+mod cause;
+mod event;
+mod limits;
+mod table;
+
+pub use cause::{Cause, Why};
+pub use event::{By, Commit, Event, Operation};
+pub use limits::Limits;
+pub use table::Table;
