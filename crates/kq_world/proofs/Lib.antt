@@ -1,0 +1,3 @@
+pub mod Handed
+mod Sent
+pub mod Told

@@ -1,0 +1,4 @@
+pub mod Given
+pub mod Memory
+pub mod Outside
+pub mod Told
