@@ -1,0 +1,265 @@
+-- A reader, a step further on.
+use Rattle.std.proofs.Common.{◌≡◌, ◌⊎◌, ◌≤◌, ◌<◌, ◌+◌, ◌-◌, ◌++◌, ℕ, true, false, List, [], ◌∷◌, length, take, drop, Option, Some, None, Result, Ok, Err, refl, sym, ap, ◌∙◌, subst, inl, inr, arith, append-nil, append_assoc, length-append, if◌then◌else◌}
+use Rattle.std.proofs.lemmas.List.{take_all, take-append-drop, drop-take, drop-drop, length-take}
+use Rattle.kq_script.specs.Script.{Block, Script, script_blocks, block_of, is_blank}
+use Rattle.kq_script.specs.Item.{IsItemOf}
+use Rattle.kq_script.specs.Open.{IsOpen, AreItem, open_run, open_line}
+use Rattle.kq_script.specs.Reading.{IsPrefix, IsReading, GoesOn, Outcome, Reads}
+use Rattle.kq_script.specs.State.{IsAt, unread, HasLooked, HasEnded, GivesLast, IsDrained}
+use Rattle.kq_world.specs.Told.{Loses, IsEmpty}
+use Rattle.kq_world.proofs.Told.{Loses-none, Loses-trans}
+use Rattle.kq_script.specs.declared.block.OpenBlock.{OpenBlock}
+use Rattle.kq_script.specs.declared.reader.ScriptReader.{ScriptReader}
+use Rattle.kq_script.specs.declared.reader.Phase.{Phase}
+use Rattle.kq_script.specs.declared.reader.Phase.TheVariants as phases
+use Rattle.kq_script.specs.declared.item.ScriptFault.{ScriptFault}
+use Rattle.kq_script.specs.declared.item.ScriptFault.TheVariants.{ReadFault, InputLimit}
+use Rattle.kq_script.specs.declared.item.Item.{Item}
+use Rattle.kq_script.specs.declared.item.Item.TheVariants.{Command, TooLong, Lost, Finished}
+use Rattle.kq_script.proofs.Scripts.{script_blocks-ended, script_blocks-append, script_blocks-prefix}
+
+-- n more bytes of a piece are looked at
+pub piece-looked : (xs : List ℕ) (a e n : ℕ) → n ≤ length (take (e - a) (drop a xs)) → take (e - a) (drop a xs) ≡ take n (take (e - a) (drop a xs)) ++ take (e - (a + n)) (drop (a + n) xs)
+piece-looked xs a e n h =
+    let split : e - a ≡ n + (e - (a + n)) = omega (arith, length-take (e - a) (drop a xs)) in
+    let rest = ap (λ m. drop n (take m (drop a xs))) split ∙ drop-take n (e - (a + n)) (drop a xs) ∙ ap (take (e - (a + n))) (drop-drop n a xs) in
+    sym (take-append-drop n (take (e - a) (drop a xs))) ∙ ap (λ t. take n (take (e - a) (drop a xs)) ++ t) rest
+
+-- nothing is left to look at
+looked_all : (command : ℕ) (reader : ScriptReader) (taken : List ℕ) (given : List Block) (h : HasLooked command reader taken given) → unread reader ≡ [] → h.looked ≡ taken
+looked_all command reader taken given h none = sym (h.ahead ∙ ap (λ bs. h.looked ++ bs) none ∙ append-nil h.looked)
+
+gives_last : (command : ℕ) (item : Item) (taken : List ℕ) (given : List Block) (block : Block) → IsItemOf command item block → given ++ block ∷ [] ≡ script_blocks command taken true → GivesLast command item phases.Ended taken given
+gives_last command (Command bytes) taken given block is all = (refl, block, is, all)
+gives_last command (TooLong bytes) taken given block is all = (refl, block, is, all)
+gives_last command Lost taken given block is all = (refl, block, is, all)
+gives_last command Finished taken given block is all = absurd is
+
+all_given : (command : ℕ) (reader : ScriptReader) (taken : List ℕ) (given blocks : List Block) (h : HasLooked command reader taken given) → unread reader ≡ []
+    → block_of command (if is_blank (open_line h.looked) then open_run h.looked else (open_run h.looked ++ open_line h.looked ∷ [])) ≡ blocks → given ++ blocks ≡ script_blocks command taken true
+all_given command reader taken given blocks h none e = ap (λ bs. bs ++ blocks) h.given_all ∙ ap (λ bs. script_blocks command h.looked false ++ bs) (sym e) ∙ sym (script_blocks-ended command h.looked) ∙ ap (λ bs. script_blocks command bs true) (looked_all command reader taken given h none)
+
+pub GivesLast-some : (reader : ScriptReader) (item : Item) (taken : List ℕ) (given : List Block) (h : HasLooked reader.block.limit reader taken given) → unread reader ≡ []
+    → AreItem reader.block.limit (Some item) (block_of reader.block.limit (if is_blank (open_line h.looked) then open_run h.looked else (open_run h.looked ++ open_line h.looked ∷ [])))
+    → GivesLast reader.block.limit item phases.Ended taken given
+GivesLast-some reader item taken given h none one = gives_last reader.block.limit item taken given one.0 one.1 (all_given reader.block.limit reader taken given (one.0 ∷ []) h none one.2)
+
+pub GivesLast-none : (reader : ScriptReader) (taken : List ℕ) (given : List Block) (h : HasLooked reader.block.limit reader taken given) → unread reader ≡ []
+    → AreItem reader.block.limit None (block_of reader.block.limit (if is_blank (open_line h.looked) then open_run h.looked else (open_run h.looked ++ open_line h.looked ∷ [])))
+    → given ≡ script_blocks reader.block.limit taken true
+GivesLast-none reader taken given h none one = sym (append-nil given) ∙ all_given reader.block.limit reader taken given [] h none one
+
+-- a call that reads on: these bytes were taken so far
+pub record Goes (command input : ℕ) (reader : ScriptReader) (first left left' : Option (List ℕ)) (taken : List ℕ) (given : List Block) : Type 0 where
+  pub before : List ℕ
+  pub last : List ℕ
+  pub loses : Loses left left' (before ++ last)
+  pub piece : length last ≤ 4096
+  pub needed : (before ++ last ≡ []) ⊎ Script command (taken ++ before) false given
+  pub reading : IsReading command input reader first left' (taken ++ (before ++ last)) given
+
+pub Goes-start : (command input : ℕ) (reader : ScriptReader) (first left : Option (List ℕ)) (taken : List ℕ) (given : List Block) → IsReading command input reader first left taken given → Goes command input reader first left left taken given
+Goes-start command input reader first left taken given h = record {
+  before = [];
+  last = [];
+  loses = Loses-none left;
+  piece = omega arith;
+  needed = inl refl;
+  reading = subst (λ bs. IsReading command input reader first left bs given) (sym (append-nil taken)) h;
+}
+
+-- what a step that only looks leaves as it was, and what it gives
+abbrev pub Same : ScriptReader → ScriptReader → Type 0
+Same old new = (new.taken ≡ old.taken) × (new.input ≡ old.input) × (new.phase ≡ old.phase) × (new.block.limit ≡ old.block.limit)
+
+abbrev pub Looks : ScriptReader → ScriptReader → Option Item → Type 0
+Looks old new item = (taken : List ℕ) (given : List Block) → HasLooked old.block.limit old taken given → (blocks : List Block) × AreItem old.block.limit item blocks × HasLooked old.block.limit new taken (given ++ blocks)
+
+looked_prefix : (command : ℕ) (reader : ScriptReader) (taken : List ℕ) (given : List Block) → HasLooked command reader taken given → IsPrefix given (script_blocks command taken true)
+looked_prefix command reader taken given h =
+    let more = script_blocks-prefix command h.looked (unread reader) in
+    (more.0, ap (λ bs. script_blocks command bs true) h.ahead ∙ more.1 ∙ ap (λ bs. bs ++ more.0) (sym h.given_all))
+
+pub has_looked : (command input : ℕ) (reader : ScriptReader) (first left : Option (List ℕ)) (taken : List ℕ) (given : List Block) → reader.phase ≡ phases.Reading → IsReading command input reader first left taken given → HasLooked command reader taken given
+has_looked command input reader first left taken given phase h = subst (λ p. IsAt p command input reader first left taken given) phase h.state
+
+-- a step that only looks
+pub looked_on : (command input : ℕ) (old new : ScriptReader) (item : Option Item) (first left : Option (List ℕ)) (taken : List ℕ) (given : List Block) → old.phase ≡ phases.Reading → Same old new → Looks old new item
+    → IsReading command input old first left taken given → (blocks : List Block) × AreItem command item blocks × HasLooked command new taken (given ++ blocks) × IsReading command input new first left taken (given ++ blocks)
+looked_on command input old new item first left taken given phase same looks h =
+    let At : ℕ → Type 0 = λ m. (blocks : List Block) × AreItem m item blocks × HasLooked m new taken (given ++ blocks) in
+    let was : HasLooked old.block.limit old taken given = subst (λ m. HasLooked m old taken given) (sym h.command_limit) (has_looked command input old first left taken given phase h) in
+    let now = subst At h.command_limit (looks taken given was) in (
+      now.0,
+      now.1,
+      now.2,
+      record {
+        command_limit = same.3 ∙ h.command_limit;
+        input_limit = same.1 ∙ h.input_limit;
+        counted = same.0 ∙ h.counted;
+        within = h.within;
+        loses = h.loses;
+        prefix = looked_prefix command new taken (given ++ now.0) now.2;
+        state = subst (λ p. IsAt p command input new first left taken (given ++ now.0)) (sym (same.2 ∙ phase)) now.2;
+      },
+    )
+
+-- the fault at the limit comes wherever it is due
+too_many : (given : List Block) (block : Block) (more : List Block) → given ≡ (given ++ block ∷ []) ++ more → ⊥
+too_many given block more e =
+    let n = ap length e in
+    omega (arith, length-append (given ++ block ∷ []) more, length-append given (block ∷ []))
+
+not_due : (p : Phase) (command input : ℕ) (reader : ScriptReader) (first left : Option (List ℕ)) (taken : List ℕ) (given : List Block) (block : Block) → length taken ≡ input → given ≡ script_blocks command taken false → IsAt p command input reader first left taken (given ++ block ∷ []) → ⊥
+not_due phases.Reading command input reader first left taken given block full all h =
+    let more = script_blocks-append command h.looked (unread reader) in
+    too_many given block more.0 (all ∙ ap (λ bs. script_blocks command bs false) h.ahead ∙ more.1 ∙ ap (λ bs. bs ++ more.0) (sym h.given_all))
+not_due phases.Ended command input reader first left taken given block full all h = let below = h.below in omega arith
+not_due phases.Closed command input reader first left taken given block full all h = h
+
+pub due : (command input : ℕ) (result : Result Item ScriptFault) (reader : ScriptReader) (first left : Option (List ℕ)) (taken : List ℕ) (given : List Block) → Outcome command input result reader first left taken given
+    → length taken ≡ input → given ≡ script_blocks command taken false → result ≡ Err InputLimit
+due command input (Ok Finished) reader first left taken given h full all = let below = h.2 in absurd (omega arith)
+due command input (Ok (Command bytes)) reader first left taken given h full all = absurd (not_due reader.phase command input reader first left taken given h.0 full all h.2.state)
+due command input (Ok (TooLong bytes)) reader first left taken given h full all = absurd (not_due reader.phase command input reader first left taken given h.0 full all h.2.state)
+due command input (Ok Lost) reader first left taken given h full all = absurd (not_due reader.phase command input reader first left taken given h.0 full all h.2.state)
+due command input (Err ReadFault) reader first left taken given h full all = let below = h.1 in absurd (omega arith)
+due command input (Err InputLimit) reader first left taken given h full all = refl
+
+pub outcome_item : (command input : ℕ) (item : Item) (reader : ScriptReader) (first left : Option (List ℕ)) (taken : List ℕ) (given : List Block) (block : Block) → IsItemOf command item block → IsReading command input reader first left taken (given ++ block ∷ []) → Outcome command input (Ok item) reader first left taken given
+outcome_item command input (Command bytes) reader first left taken given block is h = (block, is, h)
+outcome_item command input (TooLong bytes) reader first left taken given block is h = (block, is, h)
+outcome_item command input Lost reader first left taken given block is h = (block, is, h)
+outcome_item command input Finished reader first left taken given block is h = absurd is
+
+-- after a closed block
+pub Reads-item : (command input : ℕ) (old new : ScriptReader) (item : Item) (first left left' : Option (List ℕ)) (taken : List ℕ) (given : List Block) → old.phase ≡ phases.Reading → Same old new → Looks old new (Some item)
+    → Goes command input old first left left' taken given → Reads command input (Ok item) new first left left' taken given
+Reads-item command input old new item first left left' taken given phase same looks h =
+    let all = taken ++ (h.before ++ h.last) in
+    let on = looked_on command input old new (Some item) first left' all given phase same looks h.reading in
+    let now : IsReading command input new first left' all (given ++ on.1.0 ∷ []) = subst (λ bs. IsReading command input new first left' all (given ++ bs)) on.1.2 on.3 in
+    let outcome = outcome_item command input item new first left' all given on.1.0 on.1.1 now in
+    record { before = h.before; last = h.last; loses = h.loses; piece = h.piece; needed = h.needed; outcome = outcome; at_limit = due command input (Ok item) new first left' all given outcome }
+
+-- the same where none was closed, and nothing is left to look at
+pub record Waits (command input : ℕ) (reader : ScriptReader) (first left left' : Option (List ℕ)) (taken : List ℕ) (given : List Block) : Type 0 where
+  pub goes : Goes command input reader first left left' taken given
+  pub looked : HasLooked command reader (taken ++ (goes.before ++ goes.last)) given
+  pub all : looked.looked ≡ taken ++ (goes.before ++ goes.last)
+
+pub Waits-looked : (command input : ℕ) (old new : ScriptReader) (first left left' : Option (List ℕ)) (taken : List ℕ) (given : List Block) → old.phase ≡ phases.Reading → Same old new → Looks old new None → new.at ≡ new.end
+    → Goes command input old first left left' taken given → Waits command input new first left left' taken given
+Waits-looked command input old new first left left' taken given phase same looks end h =
+    let all = taken ++ (h.before ++ h.last) in
+    let on = looked_on command input old new None first left' all given phase same looks h.reading in
+    let none : given ++ on.0 ≡ given = ap (λ bs. given ++ bs) on.1 ∙ append-nil given in
+    let now = subst (λ bs. IsReading command input new first left' all bs) none on.3 in
+    let looked = subst (λ bs. HasLooked command new all bs) none on.2 in
+    let past : new.end - new.at ≡ 0 = omega arith in
+    record {
+      goes = record { before = h.before; last = h.last; loses = h.loses; piece = h.piece; needed = h.needed; reading = now };
+      looked = looked;
+      all = looked_all command new all given looked (ap (λ m. take m (drop new.at new.piece.items)) past);
+    }
+
+-- then the next piece is taken
+pub Goes-filled : (command input n : ℕ) (old new : ScriptReader) (first left left' left'' : Option (List ℕ)) (taken : List ℕ) (given : List Block) → new.phase ≡ phases.Reading
+    → (new.block ≡ old.block) × (new.input ≡ old.input) → new.taken ≡ old.taken + n → length (unread new) ≡ n → n ≤ 4096 → Loses left' left'' (take n (unread new))
+    → Waits command input old first left left' taken given → Goes command input new first left left'' taken given
+Goes-filled command input n old new first left left' left'' taken given phase same more size small loses h =
+    let before = h.goes.before ++ h.goes.last in
+    let was = taken ++ before in
+    let bytes = unread new in
+    let whole : take n bytes ≡ bytes = take_all n bytes (omega arith) in
+    let lost : Loses left' left'' bytes = subst (λ bs. Loses left' left'' bs) whole loses in
+    let r = h.goes.reading in
+    let all : (taken ++ before) ++ bytes ≡ taken ++ (before ++ bytes) = append_assoc taken before bytes in
+    let looked : HasLooked command new (was ++ bytes) given = record {
+      looked = h.looked.looked;
+      ahead = ap (λ bs. bs ++ bytes) (sym h.all);
+      given_all = h.looked.given_all;
+      block = subst (λ b. IsOpen b (open_run h.looked.looked) (open_line h.looked.looked)) (sym same.0) h.looked.block;
+    } in
+    let count = length-append was bytes in
+    let reading : IsReading command input new first left'' (was ++ bytes) given = record {
+      command_limit = ap (λ (b : OpenBlock). b.limit) same.0 ∙ r.command_limit;
+      input_limit = same.1 ∙ r.input_limit;
+      counted = omega (arith, r.counted);
+      within = omega (arith, r.counted, r.input_limit, new.within);
+      loses = Loses-trans first left' left'' was bytes r.loses lost;
+      prefix = looked_prefix command new (was ++ bytes) given looked;
+      state = subst (λ p. IsAt p command input new first left'' (was ++ bytes) given) (sym phase) looked;
+    } in
+    record {
+      before = before;
+      last = bytes;
+      loses = Loses-trans left left' left'' before bytes h.goes.loses lost;
+      piece = omega arith;
+      needed = inr (h.looked.given_all ∙ ap (λ bs. script_blocks command bs false) h.all);
+      reading = subst (λ bs. IsReading command input new first left'' bs given) all reading;
+    }
+
+-- or the end was read
+pub drained : (first left left' : Option (List ℕ)) (taken : List ℕ) → Loses first left taken → Loses left left' [] → IsEmpty left → IsDrained first left'
+drained None left left' taken h k e = tt
+drained (Some bytes) None left' taken h k e = absurd h
+drained (Some bytes) (Some xs) None taken h k e = absurd k
+drained (Some bytes) (Some xs) (Some ys) taken h k e = sym k ∙ e
+
+at_end : (command input : ℕ) (reader : ScriptReader) (first left : Option (List ℕ)) (taken : List ℕ) (given : List Block) → reader.block.limit ≡ command → reader.input ≡ input → reader.taken ≡ length taken → length taken < input → Loses first left taken → IsDrained first left
+    → reader.phase ≡ phases.Ended → given ≡ script_blocks command taken true → IsReading command input reader first left taken given
+at_end command input reader first left taken given limit max count below loses empty phase all = record {
+  command_limit = limit;
+  input_limit = max;
+  counted = count;
+  within = omega arith;
+  loses = loses;
+  prefix = ([], sym all ∙ sym (append-nil given));
+  state = subst (λ p. IsAt p command input reader first left taken given) (sym phase) (record { given_all = all; empty = empty; below = below });
+}
+
+outcome_last : (command input : ℕ) (item : Item) (reader : ScriptReader) (first left : Option (List ℕ)) (taken : List ℕ) (given : List Block) → reader.block.limit ≡ command → reader.input ≡ input → reader.taken ≡ length taken → length taken < input → Loses first left taken → IsDrained first left
+    → GivesLast command item reader.phase taken given → Outcome command input (Ok item) reader first left taken given
+outcome_last command input Finished reader first left taken given limit max count below loses empty h = (h.1, empty, below)
+outcome_last command input (Command bytes) reader first left taken given limit max count below loses empty h =
+    (h.1, h.2, at_end command input reader first left taken (given ++ h.1 ∷ []) limit max count below loses empty h.0 h.3)
+outcome_last command input (TooLong bytes) reader first left taken given limit max count below loses empty h =
+    (h.1, h.2, at_end command input reader first left taken (given ++ h.1 ∷ []) limit max count below loses empty h.0 h.3)
+outcome_last command input Lost reader first left taken given limit max count below loses empty h =
+    (h.1, h.2, at_end command input reader first left taken (given ++ h.1 ∷ []) limit max count below loses empty h.0 h.3)
+
+pub Reads-ended : (command input : ℕ) (old new : ScriptReader) (item : Item) (first left left' : Option (List ℕ)) (taken : List ℕ) (given : List Block) → old.phase ≡ phases.Reading → (new.taken ≡ old.taken) × (new.input ≡ old.input) × (new.block.limit ≡ old.block.limit)
+    → ((taken : List ℕ) (given : List Block) → HasLooked old.block.limit old taken given → unread old ≡ [] → GivesLast old.block.limit item new.phase taken given)
+    → unread old ≡ [] → old.taken < old.input → IsDrained first left' → Goes command input old first left left' taken given → Reads command input (Ok item) new first left left' taken given
+Reads-ended command input old new item first left left' taken given phase same gives none room empty h =
+    let r = h.reading in
+    let all = taken ++ (h.before ++ h.last) in
+    let was = subst (λ m. HasLooked m old all given) (sym r.command_limit) (has_looked command input old first left' all given phase r) in
+    let last = subst (λ m. GivesLast m item new.phase all given) r.command_limit (gives all given was none) in
+    let outcome = outcome_last command input item new first left' all given (same.2 ∙ r.command_limit) (same.1 ∙ r.input_limit) (same.0 ∙ r.counted) (omega (arith, r.counted, r.input_limit)) r.loses empty last in
+    record { before = h.before; last = h.last; loses = h.loses; piece = h.piece; needed = h.needed; outcome = outcome; at_limit = due command input (Ok item) new first left' all given outcome }
+
+-- the answer after the end
+pub Reads-again : (command input : ℕ) (old new : ScriptReader) (first left : Option (List ℕ)) (taken : List ℕ) (given : List Block) → old.phase ≡ phases.Ended → IsReading command input old first left taken given → Reads command input (Ok Finished) new first left left taken given
+Reads-again command input old new first left taken given phase h =
+    let ended : HasEnded command input first left taken given = subst (λ p. IsAt p command input old first left taken given) phase h.state in
+    let all = sym (append-nil taken) in
+    let outcome : Outcome command input (Ok Finished) new first left (taken ++ []) given = subst (λ bs. Outcome command input (Ok Finished) new first left bs given) all (ended.given_all, ended.empty, ended.below) in
+    record { before = []; last = []; loses = Loses-none left; piece = omega arith; needed = inl refl; outcome = outcome; at_limit = due command input (Ok Finished) new first left (taken ++ []) given outcome }
+
+-- all bytes taken are those that the source lost from the first
+pub Reads-loses : (command input : ℕ) (result : Result Item ScriptFault) (old new : ScriptReader) (first left left' : Option (List ℕ)) (taken : List ℕ) (given : List Block) → IsReading command input old first left taken given → (h : Reads command input result new first left left' taken given) → Loses first left' (taken ++ (h.before ++ h.last))
+Reads-loses command input result old new first left left' taken given r h = Loses-trans first left left' taken (h.before ++ h.last) r.loses h.loses
+
+-- what an item other than the end was: the next block
+pub Outcome-block : (command input : ℕ) (item : Item) (reader : ScriptReader) (first left : Option (List ℕ)) (taken : List ℕ) (given : List Block) → (item ≡ Finished → ⊥) → Outcome command input (Ok item) reader first left taken given
+    → (block : Block) × IsItemOf command item block × IsReading command input reader first left taken (given ++ block ∷ [])
+Outcome-block command input (Command bytes) reader first left taken given more h = h
+Outcome-block command input (TooLong bytes) reader first left taken given more h = h
+Outcome-block command input Lost reader first left taken given more h = h
+Outcome-block command input Finished reader first left taken given more h = absurd (more refl)
+
+-- a reader that has taken and given may be called again
+pub GoesOn-reading : (command input : ℕ) (reader : ScriptReader) (first left : Option (List ℕ)) (taken : List ℕ) (given : List Block) → IsReading command input reader first left taken given → GoesOn reader
+GoesOn-reading command input reader first left taken given h = λ closed. subst (λ p. IsAt p command input reader first left taken given) closed h.state
