@@ -1,0 +1,5 @@
+pub mod Choice
+pub mod FirstPiece
+pub mod Names
+pub mod Reading
+pub mod Repeats

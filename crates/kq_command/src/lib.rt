@@ -1,0 +1,16 @@
+//! Commands: what a block of text asks for, and the reader that tells it.
+//!
+//! The reader knows the text alone. Whether a command can be done is left to the engine.
+#![tactic(auto)]
+
+mod columns;
+mod command;
+mod pieces;
+mod read;
+#[cfg(test)]
+mod tests;
+mod words;
+
+pub use columns::{Column, Columns, Identifier};
+pub use command::{Command, CommandFault};
+pub use read::read_command;
