@@ -1,0 +1,65 @@
+-- When a reply fits, and what one call of the engine does.
+use Rattle.std.specs.Prelude.{◌≡◌, ◌≤◌, ◌⊎◌, ℕ, ℤ, Bool, true, false, List, [], ◌∷◌, ◌++◌, length, take, Some, None, Result, Ok, Err}
+use Rattle.kq_model.specs.declared.event.By.{By}
+use Rattle.kq_model.specs.declared.event.Commit.{Commit}
+use Rattle.kq_model.specs.declared.event.Operation.TheVariants as operation
+use Rattle.kq_model.specs.declared.limits.Limits.{Limits}
+use Rattle.kq_model.specs.History.{History, CommitAt, log, commits_at}
+use Rattle.kq_command.specs.declared.command.Command.{Command}
+use Rattle.kq_reply.specs.declared.refusal.Refusal.{Refusal}
+use Rattle.kq_reply.specs.declared.refusal.Refusal.TheVariants as refusals
+use Rattle.kq_reply.specs.declared.reply.Reply.{Reply}
+use Rattle.kq_reply.specs.declared.reply.Reply.TheVariants as replies
+use Rattle.kq_engine.specs.declared.work.Outcome.{Outcome}
+use Rattle.kq_engine.specs.declared.work.Prepared.{Prepared}
+use Rattle.kq_engine.specs.declared.work.Work.{Work}
+use Rattle.kq_engine.specs.Accept.{Accept}
+
+-- a reply without a commit: the one that is due, or want of memory
+abbrev pub Answers : Limits → History → Command → Reply → Type 0
+Answers limits h command reply = (reply ≡ replies.Refused refusals.Memory) ⊎ Accept limits (log h) command reply None
+
+-- the reply fits this whole history: with `own`, its last event is the command's commit
+abbrev pub FitsNow : Limits → History → By → Command → ℤ → Bool → Reply → Type 0
+FitsNow limits h mark command now false reply = Answers limits h command reply
+FitsNow limits h mark command now true reply = (before : History) × (c : Commit) × (h ≡ before ++ record { by = mark; operation = operation.Commit c } ∷ []) × Accept limits (log before) command reply (Some c)
+
+-- the reply fits the command at a place of the history
+pub record Fits (limits : Limits) (h : History) (mark : By) (command : Command) (now : ℤ) (place : ℕ) (own : Bool) (reply : Reply) : Type 0 where
+  pub within : place ≤ length h
+  pub at : FitsNow limits (take place h) mark command now own reply
+
+-- prepared on a snapshot of this history
+pub record IsPrepared (limits : Limits) (h : History) (prepared : Prepared) : Type 0 where
+  pub at : prepared.place ≡ length h
+
+-- what `begin` gives
+pub record Begins (limits : Limits) (h : History) (work : Work) (prepared : Prepared) : Type 0 where
+  pub prepared_here : IsPrepared limits h prepared
+  pub same_work : prepared.work ≡ work
+
+-- the outcome of an answer: that of a refusal is at the end of the history
+abbrev pub outcome_of : History → Result Outcome Refusal → Outcome
+outcome_of h (Ok outcome) = outcome
+outcome_of h (Err r) = record { place = length h; own = false; reply = replies.Refused r }
+
+-- with `own` the command's commit was appended, and without it the history stayed
+abbrev pub Did : Limits → History → History → By → Command → Bool → Reply → Type 0
+Did limits old new mark command true reply = (c : Commit) × (new ≡ old ++ record { by = mark; operation = operation.Commit c } ∷ []) × Accept limits (log old) command reply (Some c)
+Did limits old new mark command false reply = (new ≡ old) × Answers limits old command reply
+
+-- at most the command's own event, at the new end of the history
+abbrev pub Acts : Limits → History → History → By → Command → Outcome → Type 0
+Acts limits old new mark command outcome = (outcome.place ≡ length new) × Did limits old new mark command outcome.own outcome.reply
+
+-- the commit of an outcome, if it made one
+abbrev pub own_commit : Bool → ℕ → By → List CommitAt
+own_commit true place mark = record { place = place; by = mark } ∷ []
+own_commit false place mark = []
+
+-- one step of the engine: the history goes on, its commits by the outcome's own alone, and the outcome fits it
+pub record Advances (limits : Limits) (old new : History) (work : Work) (began : ℕ) (outcome : Outcome) : Type 0 where
+  pub goes_on : (more : History) × (new ≡ old ++ more)
+  pub commits : commits_at new ≡ commits_at old ++ own_commit outcome.own outcome.place work.by
+  pub fits : Fits limits new work.by work.command work.now outcome.place outcome.own outcome.reply
+  pub since : began ≤ outcome.place
