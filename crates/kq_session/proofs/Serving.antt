@@ -1,0 +1,226 @@
+-- A session goes on by one turn.
+use Rattle.std.proofs.Common.{◌≡◌, ◌≤◌, ◌+◌, ℕ, List, [], ◌∷◌, ◌++◌, length, map, take, Some, None, Result, Ok, Err, true, ap, sym, ◌∙◌, subst, refl, arith, append-nil, append_assoc, length-append}
+use Rattle.std.proofs.lemmas.List.{map_push, flat_map_more, length_push}
+use Rattle.kq_world.specs.Told.{Adds, Loses}
+use Rattle.kq_world.specs.Outside.{Contents}
+use Rattle.kq_world.proofs.Told.{Loses-none, Adds-none, Loses-trans, Adds-trans, Adds-stays}
+use Rattle.kq_model.specs.declared.limits.Limits.{Limits}
+use Rattle.kq_model.specs.History.{History, commits_at}
+use Rattle.kq_reply.specs.Text.{text_of}
+use Rattle.kq_script.specs.Script.{Block, script_blocks}
+use Rattle.kq_script.specs.Reading.{IsReading}
+use Rattle.kq_script.specs.declared.reader.ScriptReader.{ScriptReader}
+use Rattle.kq_engine.specs.Fits.{own_commit}
+use Rattle.kq_session.specs.declared.end.End.{End}
+use Rattle.kq_session.specs.declared.end.End.TheVariants.{Finished, Short, SourceFault, SinkFault, InputLimit}
+use Rattle.kq_session.specs.declared.receipt.Receipt.{Receipt}
+use Rattle.kq_session.specs.Blocks.{FitsBlock}
+use Rattle.kq_session.specs.Session.{Turn, IsTurn, AreTurns, AreWritten, Ends, GoesOn, blocks_of, moments_of, texts_of, own_commits, command_bytes, input_bytes}
+use Rattle.kq_session.specs.Turns.{Went, Idle, TurnBy}
+use Rattle.kq_session.proofs.Blocks.{FitsBlock-append}
+
+IsTurn-later : (limits : Limits) (actor : ℕ) (h new more : History) → new ≡ h ++ more → (t : Turn) → IsTurn limits h actor t → IsTurn limits new actor t
+IsTurn-later limits actor h new more is t turn = subst (λ (n : History). IsTurn limits n actor t) (sym is) (record {
+  fits = FitsBlock-append limits h more _ t.block t.receipt.moment t.receipt.place t.receipt.own t.reply turn.fits;
+  within = omega (arith, turn.within, length-append h more);
+  kind = turn.kind;
+})
+
+AreTurns-later : (limits : Limits) (actor : ℕ) (h new more : History) (n q : ℕ) → new ≡ h ++ more → (ts : List Turn) → AreTurns limits h actor n q ts → AreTurns limits new actor n q ts
+AreTurns-later limits actor h new more n q is [] all = tt
+AreTurns-later limits actor h new more n q is (t ∷ ts) all = (all.0, all.1, IsTurn-later limits actor h new more is t all.2, AreTurns-later limits actor h new more (n + 1) t.receipt.place is ts all.3)
+
+-- the place of the last turn, or the one before the turns
+abbrev last_place : ℕ → List Turn → ℕ
+last_place q [] = q
+last_place q (t ∷ ts) = last_place t.receipt.place ts
+
+AreTurns-push : (limits : Limits) (actor : ℕ) (h : History) (n q : ℕ) (ts : List Turn) (t : Turn) → AreTurns limits h actor n q ts → t.receipt.number ≡ n + length ts + 1 → last_place q ts ≤ t.receipt.place → IsTurn limits h actor t → AreTurns limits h actor n q (ts ++ t ∷ [])
+AreTurns-push limits actor h n q [] t all number place turn = (omega arith, place, turn, tt)
+AreTurns-push limits actor h n q (x ∷ ts) t all number place turn = (all.0, all.1, all.2, AreTurns-push limits actor h (n + 1) x.receipt.place ts t all.3 (omega arith) place turn)
+
+-- the last place lies within the history
+last_place-within : (limits : Limits) (actor : ℕ) (h : History) (n q : ℕ) (ts : List Turn) → q ≤ length h → AreTurns limits h actor n q ts → last_place q ts ≤ length h
+last_place-within limits actor h n q [] within all = within
+last_place-within limits actor h n q (t ∷ ts) within all = last_place-within limits actor h (n + 1) t.receipt.place ts all.2.within all.3
+
+-- the session before its n-th block
+pub record SoFar (limits : Limits) (actor : ℕ) (first h : History) (start now : Contents) (reader : ScriptReader) (receipts : List Receipt) (n : ℕ) : Type 0 where
+  pub turns : List Turn
+  pub taken : List ℕ
+  pub of_turns : receipts ≡ map (λ (t : Turn). t.receipt) turns
+  pub each : AreTurns limits h actor 0 0 turns
+  pub bytes : Loses start.left now.left taken
+  pub reading : IsReading command_bytes input_bytes reader start.left now.left taken (blocks_of turns)
+  pub moments : Adds start.readings now.readings (moments_of turns)
+  pub written : Adds start.written now.written (texts_of turns)
+  pub goes_on : GoesOn first h actor receipts
+  pub count : length turns + 1 ≡ n
+
+pub SoFar-none : (limits : Limits) (actor : ℕ) (h : History) (o : Contents) (reader : ScriptReader) → IsReading command_bytes input_bytes reader o.left o.left [] [] → SoFar limits actor h h o o reader [] 1
+SoFar-none limits actor h o reader reading = record {
+  turns = [];
+  taken = [];
+  of_turns = refl;
+  each = tt;
+  bytes = Loses-none o.left;
+  reading = reading;
+  moments = Adds-none o.readings;
+  written = Adds-none o.written;
+  goes_on = record { begins = ([], sym (append-nil h)); commits = sym (append-nil (commits_at h)) };
+  count = refl;
+}
+
+texts_of-push : (turns : List Turn) (t : Turn) → texts_of (turns ++ t ∷ []) ≡ texts_of turns ++ text_of t.reply
+texts_of-push turns t = sym (flat_map_more (λ (u : Turn). text_of u.reply) [] turns t)
+
+GoesOn-push : (first old new : History) (actor : ℕ) (receipts : List Receipt) (r : Receipt) → GoesOn first old actor receipts → (more : History) → new ≡ old ++ more → commits_at new ≡ commits_at old ++ own_commit r.own r.place (record { actor = actor; number = r.number }) → GoesOn first new actor (receipts ++ r ∷ [])
+GoesOn-push first old new actor receipts r goes_on more is commits = record {
+  begins = (goes_on.begins.0 ++ more, is ∙ ap (λ (h : History). h ++ more) goes_on.begins.1 ∙ append_assoc first goes_on.begins.0 more);
+  commits = commits ∙ ap (λ l. l ++ own_commit r.own r.place (record { actor = actor; number = r.number })) goes_on.commits ∙ append_assoc (commits_at first) (own_commits actor receipts) (own_commit r.own r.place (record { actor = actor; number = r.number }))
+      ∙ ap (λ l. commits_at first ++ l) (flat_map_more (λ (x : Receipt). own_commit x.own x.place (record { actor = actor; number = x.number })) [] receipts r);
+}
+
+-- the turns with one more
+record More (limits : Limits) (actor : ℕ) (first new : History) (start now : Contents) (reader : ScriptReader) (receipts : List Receipt) (turns : List Turn) (n : ℕ) : Type 0 where
+  pub taken : List ℕ
+  pub of_turns : receipts ≡ map (λ (t : Turn). t.receipt) turns
+  pub each : AreTurns limits new actor 0 0 turns
+  pub bytes : Loses start.left now.left taken
+  pub reading : IsReading command_bytes input_bytes reader start.left now.left taken (blocks_of turns)
+  pub moments : Adds start.readings now.readings (moments_of turns)
+  pub goes_on : GoesOn first new actor receipts
+  pub count : length turns + 1 ≡ n
+
+more_by : {E : Type 0} (limits : Limits) (actor n : ℕ) (first old new : History) (start before now : Contents) (was reader : ScriptReader) (receipts more : List Receipt) (so_far : SoFar limits actor first old start before was receipts n) (result : Result (Unit {0}) E)
+    → (went : Went limits (record { actor = actor; number = n }) old new start.left before now reader so_far.taken (blocks_of so_far.turns) receipts more result) → More limits actor first new start now reader more (so_far.turns ++ went.replied.turn ∷ []) (n + 1)
+more_by limits actor n first old new start before now was reader receipts more so_far result went =
+    let t = went.replied.turn in
+    let answered = went.replied.answered in
+    let step = answered.step in
+    let grown = step.goes_on in
+    let r = t.receipt in
+    let turns = so_far.turns in
+    let low : last_place 0 turns ≤ length old = last_place-within limits actor old 0 0 turns (omega arith) so_far.each in
+    let number : t.receipt.number ≡ 0 + length turns + 1 = omega (arith, answered.number, so_far.count) in
+    record {
+      taken = so_far.taken ++ went.reads.bytes;
+      of_turns = answered.receipt ∙ ap (λ (l : List Receipt). l ++ r ∷ []) so_far.of_turns ∙ sym (map_push (λ (u : Turn). u.receipt) turns t);
+      each = AreTurns-push limits actor new 0 0 turns t (AreTurns-later limits actor old new grown.0 0 0 grown.1 turns so_far.each) number (omega (arith, low, step.since))
+          (record {
+            fits = subst (λ (m : ℕ). FitsBlock limits new (record { actor = actor; number = m }) t.block r.moment r.place r.own t.reply) (sym answered.number) step.fits;
+            within = step.within;
+            kind = answered.kind;
+          });
+      bytes = Loses-trans start.left before.left now.left so_far.taken went.reads.bytes so_far.bytes went.reads.loses;
+      reading = subst (IsReading command_bytes input_bytes reader start.left now.left (so_far.taken ++ went.reads.bytes)) (ap (λ (b : Block). blocks_of turns ++ b ∷ []) (sym went.replied.same_block) ∙ sym (map_push (λ (u : Turn). u.block) turns t)) went.reads.reading;
+      moments = subst (Adds start.readings now.readings) (sym (map_push (λ (u : Turn). u.receipt.moment) turns t)) (Adds-trans start.readings before.readings now.readings (moments_of turns) _ so_far.moments answered.moment);
+      goes_on = subst (GoesOn first new actor) (sym answered.receipt) (GoesOn-push first old new actor receipts r so_far.goes_on grown.0 grown.1 (step.commits ∙ ap (λ (m : ℕ). commits_at old ++ own_commit r.own r.place (record { actor = actor; number = m })) (sym answered.number)));
+      count = omega (arith, so_far.count, length_push turns t);
+    }
+
+pub SoFar-push : (limits : Limits) (actor n : ℕ) (first old new : History) (start before now : Contents) (was reader : ScriptReader) (receipts more : List Receipt) (so_far : SoFar limits actor first old start before was receipts n)
+    → TurnBy limits (record { actor = actor; number = n }) old new start.left before now reader so_far.taken (blocks_of so_far.turns) receipts more None → SoFar limits actor first new start now reader more (n + 1)
+SoFar-push limits actor n first old new start before now was reader receipts more so_far went =
+    let t = went.replied.turn in
+    let m = more_by limits actor n first old new start before now was reader receipts more so_far (Ok tt) went in
+    record {
+      turns = so_far.turns ++ t ∷ [];
+      taken = m.taken;
+      of_turns = m.of_turns;
+      each = m.each;
+      bytes = m.bytes;
+      reading = m.reading;
+      moments = m.moments;
+      written = subst (Adds start.written now.written) (sym (texts_of-push so_far.turns t)) (Adds-trans start.written before.written now.written (texts_of so_far.turns) (text_of t.reply) so_far.written went.replied.written);
+      goes_on = m.goes_on;
+      count = m.count;
+    }
+
+-- nothing was answered any more
+Ends-idle : (limits : Limits) (actor n : ℕ) (first old new : History) (start before now : Contents) (was : ScriptReader) (receipts more : List Receipt) (end : End) (so_far : SoFar limits actor first old start before was receipts n) → Idle old new start.left before now so_far.taken (blocks_of so_far.turns) receipts more end
+    → ((turns : List Turn) → Adds start.written now.written (texts_of turns) → AreWritten end start.written now.written turns) → Ends limits new actor start now more end
+Ends-idle limits actor n first old new start before now was receipts more end so_far idle all_written = record {
+  turns = so_far.turns;
+  taken = so_far.taken ++ idle.bytes;
+  of_turns = idle.same_receipts ∙ so_far.of_turns;
+  each = subst (λ (h : History). AreTurns limits h actor 0 0 so_far.turns) (sym idle.history) so_far.each;
+  bytes = Loses-trans start.left before.left now.left so_far.taken idle.bytes so_far.bytes idle.loses;
+  blocks = idle.blocks;
+  at_end = idle.at_end;
+  moments = Adds-stays start.readings before.readings now.readings (moments_of so_far.turns) so_far.moments idle.readings;
+  written = all_written so_far.turns (Adds-stays start.written before.written now.written (texts_of so_far.turns) so_far.written idle.written);
+}
+
+GoesOn-idle : (first old new : History) (actor : ℕ) (receipts more : List Receipt) → GoesOn first old actor receipts → new ≡ old → more ≡ receipts → GoesOn first new actor more
+GoesOn-idle first old new actor receipts more goes_on same same_receipts = subst (λ (h : History). GoesOn first h actor more) (sym same) (subst (GoesOn first old actor) (sym same_receipts) goes_on)
+
+-- what a session comes to
+pub record Comes (limits : Limits) (actor : ℕ) (first new : History) (start now : Contents) (receipts : List Receipt) (end : End) : Type 0 where
+  pub ends : Ends limits new actor start now receipts end
+  pub goes_on : GoesOn first new actor receipts
+
+idle_comes : (limits : Limits) (actor n : ℕ) (first old new : History) (start before now : Contents) (was : ScriptReader) (receipts more : List Receipt) (end : End) (so_far : SoFar limits actor first old start before was receipts n) → Idle old new start.left before now so_far.taken (blocks_of so_far.turns) receipts more end
+    → ((turns : List Turn) → Adds start.written now.written (texts_of turns) → AreWritten end start.written now.written turns) → Comes limits actor first new start now more end
+idle_comes limits actor n first old new start before now was receipts more end so_far idle all_written = record {
+  ends = Ends-idle limits actor n first old new start before now was receipts more end so_far idle all_written;
+  goes_on = GoesOn-idle first old new actor receipts more so_far.goes_on idle.history idle.same_receipts;
+}
+
+pub Comes-end : (limits : Limits) (actor n : ℕ) (first old new : History) (start before now : Contents) (was reader : ScriptReader) (receipts more : List Receipt) (end : End) (so_far : SoFar limits actor first old start before was receipts n)
+    → TurnBy limits (record { actor = actor; number = n }) old new start.left before now reader so_far.taken (blocks_of so_far.turns) receipts more (Some end) → Comes limits actor first new start now more end
+Comes-end limits actor n first old new start before now was reader receipts more SinkFault so_far failed =
+    let went = failed.1 in
+    let t = went.replied.turn in
+    let turns = so_far.turns in
+    let cut = went.replied.written in
+    let m = more_by limits actor n first old new start before now was reader receipts more so_far (Err failed.0) went in
+    record {
+      ends = record {
+        turns = turns ++ t ∷ [];
+        taken = m.taken;
+        of_turns = m.of_turns;
+        each = m.each;
+        bytes = m.bytes;
+        blocks = m.reading.prefix;
+        at_end = tt;
+        moments = m.moments;
+        written = (turns, t, cut.0, refl, Adds-trans start.written before.written now.written (texts_of turns) (take cut.0 (text_of t.reply)) so_far.written cut.1);
+      };
+      goes_on = m.goes_on;
+    }
+Comes-end limits actor n first old new start before now was reader receipts more Finished so_far turn = idle_comes limits actor n first old new start before now was receipts more Finished so_far turn (λ turns w. w)
+Comes-end limits actor n first old new start before now was reader receipts more Short so_far turn = idle_comes limits actor n first old new start before now was receipts more Short so_far turn (λ turns w. w)
+Comes-end limits actor n first old new start before now was reader receipts more SourceFault so_far turn = idle_comes limits actor n first old new start before now was receipts more SourceFault so_far turn (λ turns w. w)
+Comes-end limits actor n first old new start before now was reader receipts more InputLimit so_far turn = idle_comes limits actor n first old new start before now was receipts more InputLimit so_far turn (λ turns w. w)
+
+-- there was no room for the next receipt
+pub Comes-short : (limits : Limits) (actor n : ℕ) (first h : History) (start now : Contents) (reader : ScriptReader) (receipts : List Receipt) → SoFar limits actor first h start now reader receipts n → Comes limits actor first h start now receipts Short
+Comes-short limits actor n first h start now reader receipts so_far = record {
+  ends = record {
+    turns = so_far.turns;
+    taken = so_far.taken;
+    of_turns = so_far.of_turns;
+    each = so_far.each;
+    bytes = so_far.bytes;
+    blocks = so_far.reading.prefix;
+    at_end = tt;
+    moments = so_far.moments;
+    written = so_far.written;
+  };
+  goes_on = so_far.goes_on;
+}
+
+-- there was no room for the first receipt
+pub Ends-none : (limits : Limits) (actor : ℕ) (h : History) (o : Contents) → Ends limits h actor o o [] Short
+Ends-none limits actor h o = record {
+  turns = [];
+  taken = [];
+  of_turns = refl;
+  each = tt;
+  bytes = Loses-none o.left;
+  blocks = (script_blocks command_bytes [] true, refl);
+  at_end = tt;
+  moments = Adds-none o.readings;
+  written = Adds-none o.written;
+}

@@ -1,0 +1,47 @@
+-- When a reply fits a block of a script.
+use Rattle.std.specs.Prelude.{◌≡◌, ◌≤◌, ◌⊎◌, ℕ, ℤ, Bool, false, List, ◌++◌, length, Result, Ok, Err}
+use Rattle.kq_model.specs.declared.event.By.{By}
+use Rattle.kq_model.specs.declared.limits.Limits.{Limits}
+use Rattle.kq_model.specs.History.{History, commits_at}
+use Rattle.kq_command.specs.declared.command.Command.{Command}
+use Rattle.kq_command.specs.declared.command.CommandFault.{CommandFault}
+use Rattle.kq_command.specs.declared.command.CommandFault.TheVariants.{NotText, Memory}
+use Rattle.kq_command.specs.Reads.{Reads}
+use Rattle.kq_reply.specs.declared.refusal.Refusal.{Refusal}
+use Rattle.kq_reply.specs.declared.refusal.Refusal.TheVariants as refusals
+use Rattle.kq_reply.specs.declared.reply.Reply.{Reply}
+use Rattle.kq_reply.specs.declared.reply.Reply.TheVariants as replies
+use Rattle.kq_script.specs.Script.{Block, command, too_long}
+use Rattle.kq_engine.specs.declared.work.Outcome.{Outcome}
+use Rattle.kq_engine.specs.Fits.{Fits, own_commit}
+
+-- refused for the text alone, or for want of memory
+pub record Refuses (h : History) (place : ℕ) (own : Bool) (reply : Reply) (r : Refusal) : Type 0 where
+  pub within : place ≤ length h
+  pub not_own : own ≡ false
+  pub reason : (reply ≡ replies.Refused r) ⊎ (reply ≡ replies.Refused refusals.Memory)
+
+-- the reply to what a text reads as
+abbrev pub FitsRead : Limits → History → By → Result Command CommandFault → ℤ → ℕ → Bool → Reply → Type 0
+FitsRead limits h mark (Ok asked) now place own reply = Fits limits h mark asked now place own reply
+FitsRead limits h mark (Err (NotText at)) now place own reply = Refuses h place own reply (refusals.NotText at)
+FitsRead limits h mark (Err Memory) now place own reply = Refuses h place own reply refusals.Memory
+
+-- the reply to a text fits the command that the text reads as, or is the refusal of the text
+pub record FitsText (limits : Limits) (h : History) (mark : By) (text : List ℕ) (now : ℤ) (place : ℕ) (own : Bool) (reply : Reply) : Type 0 where
+  pub read : Result Command CommandFault
+  pub reads : Reads text read
+  pub fits : FitsRead limits h mark read now place own reply
+
+-- the reply to a block
+abbrev pub FitsBlock : Limits → History → By → Block → ℤ → ℕ → Bool → Reply → Type 0
+FitsBlock limits h mark (command text) now place own reply = FitsText limits h mark text now place own reply
+FitsBlock limits h mark (too_long bytes) now place own reply = Refuses h place own reply (refusals.TooLong bytes)
+
+-- one block was answered: the history goes on, its commits by the outcome's own alone, and the outcome fits it
+pub record Steps (limits : Limits) (old new : History) (by : By) (block : Block) (now : ℤ) (outcome : Outcome) : Type 0 where
+  pub goes_on : (more : History) × (new ≡ old ++ more)
+  pub commits : commits_at new ≡ commits_at old ++ own_commit outcome.own outcome.place by
+  pub fits : FitsBlock limits new by block now outcome.place outcome.own outcome.reply
+  pub since : length old ≤ outcome.place
+  pub within : outcome.place ≤ length new

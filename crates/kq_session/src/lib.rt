@@ -1,0 +1,13 @@
+//! One session: a script is read block by block, each command is answered and its reply written, until the script ends.
+//!
+//! It knows of a command only that the engine answers it, and of a reply its number and its printed form.
+#![tactic(auto)]
+
+mod answer;
+mod end;
+mod receipt;
+mod serve;
+
+pub use end::End;
+pub use receipt::{Receipt, Receipts};
+pub use serve::{Alone, serve_alone};
