@@ -1,0 +1,5 @@
+pub mod Given
+pub mod Lists
+pub mod Once
+mod Plain
+pub mod Walking
