@@ -1,0 +1,24 @@
+-- What the words of a run ask for, and what its status says of them.
+use Rattle.std.specs.Prelude.{◌≡◌, ◌≢◌, ◌⊎◌, ◌==◌, ◌&&◌, ℕ, Bool, true, false, not, length, Option, Some, None, is_some}
+use Rattle.kq_words.specs.Words.{Asked}
+
+-- no workers, no generated script and no feeds, so session 0 alone
+abbrev pub asks_no_more : Asked → Bool
+asks_no_more asked = asked.workers == 0 && not (is_some asked.generate) && length asked.feeds == 0
+
+abbrev pub AsksNoMore : Option Asked → Type 0
+AsksNoMore None = ⊥
+AsksNoMore (Some asked) = asks_no_more asked ≡ true
+
+-- the words have the form and ask for what isn't built yet
+abbrev pub AsksMore : Option Asked → Type 0
+AsksMore None = ⊥
+AsksMore (Some asked) = asks_no_more asked ≡ false
+
+-- the status is the code just where P holds, but that it may be 1 there, for want of memory
+abbrev pub IsJustWhere : ℕ → ℕ → Type 0 → Type 0
+IsJustWhere status code P = (status ≡ code → P) × (P → (status ≡ code) ⊎ (status ≡ 1))
+
+-- the status is none that says something of the words
+abbrev pub IsOfSession : ℕ → Type 0
+IsOfSession status = (status ≢ 2) × (status ≢ 7)

@@ -1,0 +1,4 @@
+// What crosses the crates.
+mod scripts;
+mod steps;
+mod words;
