@@ -9,6 +9,7 @@ pub mod Hash
 pub mod Json
 pub mod Members
 pub mod Numerals
+pub mod RecordIds
 pub mod Same
 pub mod Schema
 pub mod Seen

@@ -56,6 +56,11 @@ impl Bytes {
         self.bytes.is_empty()
     }
 
+    /// Where the bytes lie, for what is made beside them.
+    pub fn allocator(&self) -> Global {
+        *self.bytes.allocator()
+    }
+
     pub fn push(&mut self, byte: u8) -> Result<(), Memory>
         ensures ok { OnOk result (self.new ≡ self.old ++ byte ∷ []) }
         ensures err { OnErr result (self.new ≡ self.old) }

@@ -256,9 +256,21 @@ impl DynList {
     {
         let mut items = Vec::with_capacity(*self.items.allocator(), self.items.len())?;
         for item in &self.items {
-            items.push(item.clone_in()?)?;
+            items.push_reserved(item.clone_in()?);
         }
         Ok(DynList { items })
+    }
+}
+
+impl Member {
+    #[cycle(copy)]
+    fn clone_in(&self) -> Result<Member, Memory>
+        ensures { IfOk result (λ m. m ≡ self.now) }
+    {
+        Ok(Member {
+            key: self.key.clone_in()?,
+            value: self.value.clone_in()?,
+        })
     }
 }
 
@@ -374,9 +386,7 @@ impl DynBag {
     {
         let mut members = Vec::with_capacity(*self.members.allocator(), self.members.len())?;
         for member in &self.members {
-            let key = member.key.clone_in()?;
-            let value = member.value.clone_in()?;
-            members.push(Member { key, value })?;
+            members.push_reserved(member.clone_in()?);
         }
         Ok(DynBag { members })
     }

@@ -1,13 +1,17 @@
-//! Values, rows and schemas: their types, their total order, their hashes, and, as definitions for contracts alone, the texts that they are written as and what the language's functions of datetimes, strings and dynamics give. Reading, printing and evaluating is left to the crates that meet these definitions.
+//! Values, rows, schemas, tags and what names a record: their types, their total order, their hashes, and, as definitions for contracts alone, the texts that they are written as and what the language's functions of datetimes, strings and dynamics give. Reading, printing and evaluating is left to the crates that meet these definitions.
 //!
 //! Contracts see a text as its bytes, a collection as its list and a dynamic as its tree, with no allocator, capacity or pointer in sight, so that two values which the order doesn't tell apart are equal.
 #![tactic(auto)]
 
 mod bytes;
+mod dyn_box;
 mod dynamic;
 mod hash;
+mod record;
+mod record_id;
 mod row;
 mod schema;
+mod tags;
 #[cfg(test)]
 mod tests;
 mod text;
@@ -16,9 +20,13 @@ mod value;
 mod zone;
 
 pub use bytes::Bytes;
+pub use dyn_box::DynBox;
 pub use dynamic::{Dyn, DynBag, DynList, Member};
+pub use record::Record;
+pub use record_id::RecordId;
 pub use row::{Row, Rows};
 pub use schema::{Field, Schema};
+pub use tags::Tags;
 pub use text::Text;
 pub use ty::Ty;
 pub use value::{LAST_MOMENT, Value, is_moment};

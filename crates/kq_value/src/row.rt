@@ -163,11 +163,16 @@ impl Row {
     pub fn clone_in(&self) -> Result<Row, Memory>
         ensures { IfOk result (λ r. r ≡ self.now) }
     {
-        let mut cells = Vec::with_capacity(*self.cells.allocator(), self.cells.len())?;
-        for cell in &self.cells {
-            cells.push(cell.clone_in()?)?;
-        }
+        let cells = Vec::from_clones(*self.cells.allocator(), self.cells.as_slice())?;
         Ok(Row { cells })
+    }
+}
+
+impl Clone for Row {
+    ghost is_clone = { λ r s. s ≡ r };
+
+    fn clone(&self) -> Result<Row, Memory> {
+        self.clone_in()
     }
 }
 
@@ -229,10 +234,7 @@ impl Rows {
     pub fn clone_in(&self) -> Result<Rows, Memory>
         ensures { IfOk result (λ r. r ≡ self.now) }
     {
-        let mut rows = Vec::with_capacity(*self.rows.allocator(), self.rows.len())?;
-        for row in &self.rows {
-            rows.push(row.clone_in()?)?;
-        }
+        let rows = Vec::from_clones(*self.rows.allocator(), self.rows.as_slice())?;
         Ok(Rows { rows })
     }
 }

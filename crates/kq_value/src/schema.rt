@@ -35,6 +35,14 @@ impl Field {
     }
 }
 
+impl Clone for Field {
+    ghost is_clone = { λ f g. g ≡ f };
+
+    fn clone(&self) -> Result<Field, Memory> {
+        self.clone_in()
+    }
+}
+
 /// Columns in order. Contracts see their list.
 #[derive(Debug, Drop)]
 pub struct Schema {
@@ -111,10 +119,7 @@ impl Schema {
     pub fn clone_in(&self) -> Result<Schema, Memory>
         ensures { IfOk result (λ s. s ≡ self.now) }
     {
-        let mut fields = Vec::with_capacity(*self.fields.allocator(), self.fields.len())?;
-        for field in &self.fields {
-            fields.push(field.clone_in()?)?;
-        }
+        let fields = Vec::from_clones(*self.fields.allocator(), self.fields.as_slice())?;
         Ok(Schema { fields })
     }
 }

@@ -10,7 +10,7 @@ fn text(alloc: Global, text: &str) -> Result<Value, Memory> {
 }
 
 fn dyn_text(alloc: Global, text: &str) -> Result<Value, Memory> {
-    Ok(Value::Dynamic(Dyn::Text(Text::from_str(alloc, text)?)))
+    Value::dynamic(alloc, Dyn::Text(Text::from_str(alloc, text)?))
 }
 
 fn list(rt: &impl Abort, alloc: Global, items: Vec<Dyn>) -> Result<Dyn, Memory> {
@@ -27,7 +27,7 @@ fn longs(rt: &impl Abort, alloc: Global, numbers: &[i64]) -> Result<Value, Memor
     for number in numbers {
         items.push(Dyn::Long(*number))?;
     }
-    Ok(Value::Dynamic(list(rt, alloc, items)?))
+    Value::dynamic(alloc, list(rt, alloc, items)?)
 }
 
 fn bag(alloc: Global, key: &str, value: i64) -> Result<Value, Memory> {
@@ -37,7 +37,7 @@ fn bag(alloc: Global, key: &str, value: i64) -> Result<Value, Memory> {
         key,
         value: Dyn::Long(value),
     })?;
-    Ok(Value::Dynamic(Dyn::Bag(bag)))
+    Value::dynamic(alloc, Dyn::Bag(bag))
 }
 
 fn add_nulls(values: &mut Vec<Value>) -> Result<(), Memory> {
@@ -80,10 +80,10 @@ fn add_ticks(values: &mut Vec<Value>) -> Result<(), Memory> {
 fn add_dynamics(alloc: Global, values: &mut Vec<Value>) -> Result<(), Memory> {
     values.push(Value::missing(alloc, Ty::Dynamic))?;
     for truth in [false, true] {
-        values.push(Value::Dynamic(Dyn::Bool(truth)))?;
+        values.push(Value::dynamic(alloc, Dyn::Bool(truth))?)?;
     }
     for number in [-1, 7] {
-        values.push(Value::Dynamic(Dyn::Long(number)))?;
+        values.push(Value::dynamic(alloc, Dyn::Long(number))?)?;
     }
     for word in ["", "b"] {
         values.push(dyn_text(alloc, word)?)?;
@@ -95,7 +95,7 @@ fn add_nested(rt: &impl Abort, alloc: Global, values: &mut Vec<Value>) -> Result
     for numbers in [&[][..], &[1][..], &[1, 2][..], &[2][..]] {
         values.push(longs(rt, alloc, numbers)?)?;
     }
-    values.push(Value::Dynamic(Dyn::Bag(DynBag::new(alloc))))?;
+    values.push(Value::dynamic(alloc, Dyn::Bag(DynBag::new(alloc)))?)?;
     for (key, value) in [("a", 1), ("a", 2), ("b", 0)] {
         values.push(bag(alloc, key, value)?)?;
     }
@@ -180,8 +180,9 @@ fn nested(rt: &impl Abort, alloc: Global, levels: u8) -> Result<Dyn, Memory> {
 
 #[test]
 fn dynamics_nest_127_levels(rt: HostRuntime) -> Result<(), Fail> {
-    let deep = Value::Dynamic(nested(&rt, rt.alloc(), 127)?);
-    let less = Value::Dynamic(nested(&rt, rt.alloc(), 126)?);
+    let alloc = rt.alloc();
+    let deep = Value::dynamic(alloc, nested(&rt, alloc, 127)?)?;
+    let less = Value::dynamic(alloc, nested(&rt, alloc, 126)?)?;
     assert!(rt; deep.same(&deep.clone_in()?));
     assert!(rt; less.cmp(&deep).is_lt(), "a null comes before an array");
     assert_ne!(rt; less.hash64(), deep.hash64());
@@ -229,8 +230,40 @@ fn schemas_and_bytes_copy(rt: HostRuntime) -> Result<(), Fail> {
     let mut bytes = Bytes::new(alloc);
     bytes.push(1)?;
     bytes.extend(b"23")?;
+    assert!(rt; Bytes::new(bytes.allocator()).is_empty());
     assert_eq!(rt; bytes.clone_in()?.as_slice(), [1, 50, 51].as_slice());
     Ok(())
+}
+
+#[test]
+fn tags_stay_in_order(rt: HostRuntime) -> Result<(), Fail> {
+    let alloc = rt.alloc();
+    let mut tags = Tags::new(alloc);
+    for tag in ["ingest-by:batch-7", "a"] {
+        tags.push(Text::from_str(alloc, tag)?)?;
+    }
+    let mut copied = String::new(alloc);
+    for tag in tags.clone_in()?.as_slice() {
+        copied.push_str(tag.as_str())?;
+    }
+    assert_eq!(rt; copied.as_str(), "ingest-by:batch-7a");
+    Ok(())
+}
+
+#[test]
+fn records_are_told_apart_by_both_numbers(rt: HostRuntime) {
+    let first = RecordId {
+        cursor: 3,
+        ordinal: 0,
+    };
+    assert!(rt; first.same(first));
+    assert!(rt;
+        !first.same(RecordId {
+            ordinal: 1,
+            ..first
+        })
+    );
+    assert!(rt; !first.same(RecordId { cursor: 4, ..first }));
 }
 
 #[test]
@@ -263,5 +296,5 @@ fn tests_of_columns_are_met_by_no_null(rt: HostRuntime) -> Result<(), Fail> {
 
 #[test]
 fn values_are_small(rt: HostRuntime) {
-    assert!(rt; size_of::<Value>() <= 40);
+    assert!(rt; size_of::<Value>() <= 32);
 }

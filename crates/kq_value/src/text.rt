@@ -81,3 +81,11 @@ impl Text {
         Ok(Text { text })
     }
 }
+
+impl Clone for Text {
+    ghost is_clone = { λ t u. u ≡ t };
+
+    fn clone(&self) -> Result<Text, Memory> {
+        self.clone_in()
+    }
+}

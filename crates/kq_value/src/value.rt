@@ -1,11 +1,13 @@
 // Values.
 ghost use Rattle.std.specs.Prelude.{◌≡◌, ◌↔◌, IfOk, IsTrue};
+ghost use Rattle.kq_value.specs.declared.value.Value.TheVariants.{Dynamic};
 ghost use Rattle.std.specs.declared.cmp.Ordering.TheVariants.{Equal};
 ghost use Rattle.kq_value.specs.Values.{value_kind, value_cmp, is_same};
 ghost use Rattle.kq_value.specs.Typed.{type_of, HasType, IsProper, IsMoment, is_null, missing_of};
 ghost use Rattle.kq_value.specs.Hash.{content_hash, hash_of};
 
 use crate::Memory;
+use crate::dyn_box::DynBox;
 use crate::dynamic::Dyn;
 use crate::hash::{SEED, finish, step, step_bytes};
 use crate::text::Text;
@@ -13,7 +15,7 @@ use crate::ty::Ty;
 use std::alloc::Global;
 use std::cmp::Ordering;
 
-/// A cell. A datetime and a timespan are in ticks of 100 ns, a datetime from 0001-01-01. A null has the type of its column, but a missing string is empty and a missing dynamic is `Dyn::Null`, so that no `Null` of a table has these two types.
+/// A cell. A datetime and a timespan are in ticks of 100 ns, a datetime from 0001-01-01. A null has the type of its column, but a missing string is empty and a missing dynamic is the null of dynamics, so that no `Null` of a table has these two types.
 #[derive(Debug, Drop)]
 pub enum Value {
     Null(Ty),
@@ -23,7 +25,7 @@ pub enum Value {
     Bool(bool),
     Moment(i64),
     Span(i64),
-    Dynamic(Dyn),
+    Dynamic(DynBox),
 }
 
 /// The last tick of the year 9999.
@@ -149,7 +151,17 @@ impl Value {
     pub fn is_null(&self) -> bool
         ensures { result ≡ is_null self.now }
     {
-        matches!(self, Value::Null(_) | Value::Dynamic(Dyn::Null))
+        match self {
+            Value::Null(_) => true,
+            Value::Dynamic(d) => d.is_null(),
+            _ => false,
+        }
+    }
+
+    pub fn dynamic(alloc: Global, dynamic: Dyn) -> Result<Value, Memory>
+        ensures { IfOk result (λ v. v ≡ Dynamic dynamic) }
+    {
+        Ok(Value::Dynamic(DynBox::new(alloc, dynamic)?))
     }
 
     /// The cell that stands where a row has none: null, or empty for a string.
@@ -159,8 +171,16 @@ impl Value {
     {
         match ty {
             Ty::Text => Value::Text(Text::from_string(String::new(alloc))),
-            Ty::Dynamic => Value::Dynamic(Dyn::Null),
+            Ty::Dynamic => Value::Dynamic(DynBox::null()),
             _ => Value::Null(ty),
         }
+    }
+}
+
+impl Clone for Value {
+    ghost is_clone = { λ v w. w ≡ v };
+
+    fn clone(&self) -> Result<Value, Memory> {
+        self.clone_in()
     }
 }

@@ -63,6 +63,14 @@ impl ZoneTest {
     }
 }
 
+impl Clone for ZoneTest {
+    ghost is_clone = { λ t u. u ≡ t };
+
+    fn clone(&self) -> Result<ZoneTest, Memory> {
+        self.clone_in()
+    }
+}
+
 /// Tests, of which a row meets all. Contracts see their list.
 #[derive(Debug, Drop)]
 pub struct ZoneTests {
@@ -133,10 +141,7 @@ impl ZoneTests {
     pub fn clone_in(&self) -> Result<ZoneTests, Memory>
         ensures { IfOk result (λ t. t ≡ self.now) }
     {
-        let mut tests = Vec::with_capacity(*self.tests.allocator(), self.tests.len())?;
-        for test in &self.tests {
-            tests.push(test.clone_in()?)?;
-        }
+        let tests = Vec::from_clones(*self.tests.allocator(), self.tests.as_slice())?;
         Ok(ZoneTests { tests })
     }
 }
