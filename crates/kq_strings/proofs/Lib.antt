@@ -1,4 +1,5 @@
 pub mod Cases
+pub mod Counted
 pub mod Occurs
 pub mod Pieces
-pub mod Terms
+pub mod Polynomials

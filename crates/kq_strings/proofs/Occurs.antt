@@ -1,17 +1,17 @@
 -- Where a text stands in another, in the words of the searches.
-use Rattle.std.proofs.Common.{◌≡◌, ◌<◌, ◌≤◌, ℕ, zero, suc, ◌+◌, ◌-◌, Bool, true, false, ◌||◌, ◌&&◌, List, [], ◌∷◌, length, take, drop, nat_eq, Option, Some, None, refl, sym, ap, ◌∙◌, subst, arith}
+use Rattle.std.proofs.Common.{◌≡◌, ◌<◌, ◌≤◌, ℕ, zero, suc, ◌+◌, ◌-◌, Bool, true, false, ◌||◌, ◌&&◌, List, [], ◌∷◌, ◌++◌, length, take, drop, nat_eq, Option, Some, None, refl, sym, ap, ◌∙◌, subst, arith}
 use Rattle.std.specs.Prelude.{IsTrue, ◌↔◌}
 use Rattle.std.specs.Option.{is_some}
-use Rattle.std.specs.List.{list_any, range_with_len, starts_with}
+use Rattle.std.specs.List.{list_any, range_with_len}
 use Rattle.std.specs.Cmp.Lexicographic.{pointwise}
+use Rattle.std.proofs.Math.Seq.{take-add}
 use Rattle.std.proofs.lemmas.Bool.{and_from, and_parts, le-leb}
 use Rattle.std.proofs.lemmas.Bool.Decides.{same_from_decides}
 use Rattle.std.proofs.lemmas.Slice.Eq.{bytes_eq-Decides}
-use Rattle.std.proofs.lemmas.List.{length-take, length-drop, drop-drop, take_all}
+use Rattle.std.proofs.lemmas.List.{length-take, length-drop, take_all}
 use Rattle.memchr.specs.Find.{OccursAt, FindsNeedle}
 use Rattle.memchr.proofs.lemmas.MatchLemmas.{OccursAt-true, occurs_at-true}
-use Rattle.kq_value.specs.Strings.{occurs_at, endswith_cs}
-use Rattle.kq_strings.specs.Places.{IsFirstPlace}
+use Rattle.kq_value.specs.Strings.{occurs_at, contains_cs, endswith_cs}
 
 -- ---- equal bytes, as a test
 
@@ -42,33 +42,16 @@ occurs_at-from s t i h =
     let same : take (length t) (drop i s) ≡ t = (bytes_eq-Decides _ t).0 parts.1 in
     (bytes_eq-Decides t _).1 (sym same)
 
-not_true : (b : Bool) → (b ≡ true → ⊥) → b ≡ false
+pub not_true : (b : Bool) → (b ≡ true → ⊥) → b ≡ false
 not_true true h = absurd (h refl)
 not_true false h = refl
 
-drop_both : (s : List ℕ) (from k : ℕ) → drop k (drop from s) ≡ drop (from + k) s
-drop_both s from k = drop-drop k from s
+pub past : (s t : List ℕ) (i : ℕ) → i ≤ length s → length s < i + length t → occurs_at s t i ≡ false
+past s t i h far = not_true _ (λ e. let fits = (OccursAt-from s t i h e).fits in omega arith)
 
-occurs_at-rest : (s t : List ℕ) (from k : ℕ) → occurs_at (drop from s) t k ≡ occurs_at s t (from + k)
-occurs_at-rest s t from k = ap (λ xs. starts_with nat_eq xs t) (drop_both s from k)
-
-pub first_place-none : (s t : List ℕ) (from : ℕ) → from ≤ length s → FindsNeedle (drop from s) t 0 None → IsFirstPlace (occurs_at s t) from (length s) None
-first_place-none s t from h none = λ k low high.
-    let at : from + (k - from) ≡ k = omega arith in
-    let len = length-drop from s in
-    not_true _ (λ e. none (k - from) (omega arith) (omega arith) (OccursAt-from (drop from s) t (k - from) (omega arith) (occurs_at-rest s t from (k - from) ∙ ap (occurs_at s t) at ∙ e)))
-
-pub first_place-some : (s t : List ℕ) (from i : ℕ) → from ≤ length s → FindsNeedle (drop from s) t 0 (Some i) → IsFirstPlace (occurs_at s t) from (length s) (Some (from + i))
-first_place-some s t from i h some =
-    let len = length-drop from s in
-    let fits = some.1.fits in (
-      omega arith,
-      omega arith,
-      sym (occurs_at-rest s t from i) ∙ occurs_at-from (drop from s) t i some.1,
-      λ k low high.
-          let at : from + (k - from) ≡ k = omega arith in
-          not_true _ (λ e. some.0.before (k - from) (omega arith) (omega arith) (OccursAt-from (drop from s) t (k - from) (omega arith) (occurs_at-rest s t from (k - from) ∙ ap (occurs_at s t) at ∙ e))),
-    )
+-- what stands up to the end of an occurrence
+pub up_to : (s t : List ℕ) (i : ℕ) → occurs_at s t i ≡ true → take (i + length t) s ≡ take i s ++ t
+up_to s t i e = take-add i (length t) s ∙ ap (λ xs. take i s ++ xs) (sym ((bytes_eq-Decides t _).0 e))
 
 -- ---- a search through all places
 
@@ -92,9 +75,9 @@ any_some P a (suc n) (suc k) h e =
 pub any_at : (P : ℕ → Bool) (n k : ℕ) → k < n → P k ≡ true → list_any P (range_with_len 0 n) ≡ true
 any_at P n k h e = any_some P 0 n k h (subst (λ (j : ℕ). P j ≡ true) (omega arith) e)
 
-pub is_some-first : (P : ℕ → Bool) (n : ℕ) (r : Option ℕ) → IsFirstPlace P 0 n r → is_some r ≡ list_any P (range_with_len 0 (n + 1))
-is_some-first P n None h = sym (any_none P 0 (n + 1) (λ k low high. h k low (omega arith)))
-is_some-first P n (Some i) h = sym (any_at P (n + 1) i (omega (arith, h.1)) h.2)
+pub is_some-occurs : (s t : List ℕ) (r : Option ℕ) → FindsNeedle s t 0 r → is_some r ≡ contains_cs s t
+is_some-occurs s t None h = sym (any_none (occurs_at s t) 0 (length s + 1) (λ k low high. not_true _ (λ e. h k low (omega arith) (OccursAt-from s t k (omega arith) e))))
+is_some-occurs s t (Some i) h = sym (any_at (occurs_at s t) (length s + 1) i (omega (arith, h.1.fits)) (occurs_at-from s t i h.1))
 
 -- ---- at the end
 

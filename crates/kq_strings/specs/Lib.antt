@@ -1,3 +1,4 @@
 pub mod Case
 pub mod Find
-pub mod Places
+pub mod Found
+pub mod Sums

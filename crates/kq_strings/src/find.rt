@@ -1,10 +1,12 @@
 // Whether a text is found in another.
-ghost use Rattle.std.specs.Prelude.{◌≡◌, ◌+◌, ◌≤◌, ◌<◌, length};
-ghost use Rattle.kq_value.specs.Strings.{are_joined as joined, is_term_at, has_cs, contains_cs, startswith_cs, endswith_cs};
+ghost use Rattle.std.specs.Prelude.{◌≡◌};
+ghost use Rattle.kq_value.specs.Strings.{has_cs, contains_cs, endswith_cs};
 ghost use Rattle.kq_strings.specs.Find.{finds};
 ghost use Rattle.kq_strings.specs.Case.{in_case};
 
-use crate::search::{Case, find_place, stands_at};
+use crate::case::Case;
+use crate::search::{Occurrence, is_found, stands_at};
+use memchr::memmem;
 
 /// A string operator. Those without `Cs` don't tell upper from lower case, of ASCII letters alone.
 #[derive(Clone, Copy, Debug)]
@@ -19,7 +21,9 @@ pub enum FindKind {
     EndsWithCs,
 }
 
-/// Whether `part` is found in `text`.
+/// Whether `part` is found in `text`. Takes no memory, and time in the length of `text`. Only for texts made to spoil that
+/// can it take time in the product of the lengths: where window after window has the sum of `part` by a fixed prime and
+/// begins as it does, but then differs.
 pub fn find_text(kind: FindKind, text: &str, part: &str) -> bool
     ensures { result ≡ finds kind text.now part.now }
 {
@@ -36,48 +40,23 @@ pub fn find_text(kind: FindKind, text: &str, part: &str) -> bool
     }
 }
 
+fn has(by: Case, text: &[u8], part: &[u8]) -> bool
+    ensures { result ≡ has_cs (in_case by text.now) (in_case by part.now) }
+{
+    part.is_empty() || is_found(Occurrence::Term, by, text, part)
+}
+
 fn contains(by: Case, text: &[u8], part: &[u8]) -> bool
     ensures { result ≡ contains_cs (in_case by text.now) (in_case by part.now) }
 {
-    find_place(by, text, part, 0).is_some()
+    match by {
+        Case::Exact => memmem::find(text, part).is_some(),
+        Case::Ignored => part.is_empty() || is_found(Occurrence::Any, by, text, part),
+    }
 }
 
 fn ends_with(by: Case, text: &[u8], part: &[u8]) -> bool
     ensures { result ≡ endswith_cs (in_case by text.now) (in_case by part.now) }
 {
     part.len() <= text.len() && stands_at(by, text, part, text.len() - part.len())
-}
-
-fn has(by: Case, text: &[u8], part: &[u8]) -> bool
-    ensures { result ≡ has_cs (in_case by text.now) (in_case by part.now) }
-{
-    if part.is_empty() {
-        return true;
-    }
-    let mut from = 0;
-    while let Some(at) = find_place(by, text, part, from) {
-        if is_term(text, part, at) {
-            return true;
-        }
-        from = at + 1;
-    }
-    false
-}
-
-/// Whether what stands at `at` doesn't go on before it, nor after it.
-fn is_term(text: &[u8], part: &[u8], at: usize) -> bool
-    requires fits { at + length part.now ≤ length text.now }
-    requires some { 0 < length part.now }
-    ensures { result ≡ is_term_at text.now part.now at }
-{
-    let end = at + part.len();
-    let begins = at == 0 || !are_joined(text[at - 1], part[0]);
-    let ends = end == text.len() || !are_joined(part[part.len() - 1], text[end]);
-    begins && ends
-}
-
-fn are_joined(a: u8, b: u8) -> bool
-    ensures { result ≡ joined a b }
-{
-    a.is_ascii_alphanumeric() && b.is_ascii_alphanumeric()
 }

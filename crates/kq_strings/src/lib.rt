@@ -1,9 +1,12 @@
 //! Searching, splitting and replacing in strings, as `has`, `contains`, `startswith`, `endswith`, `split` and `replace_string` do. What each gives is a definition of `kq_value`.
 #![tactic(auto)]
 
+mod case;
 mod find;
 mod search;
 mod split;
+mod sums;
+mod terms;
 #[cfg(test)]
 mod tests;
 

@@ -1,17 +1,18 @@
-// The places at which a text stands in another.
-ghost use Rattle.std.specs.Prelude.{◌≡◌, ◌≤◌, length};
+// Searching a text for the places at which another stands.
+ghost use Rattle.std.specs.Prelude.{◌≡◌, ◌+◌, ◌≤◌, ◌<◌, length};
 ghost use Rattle.kq_value.specs.Strings.{occurs_at};
 ghost use Rattle.kq_strings.specs.Case.{in_case};
-ghost use Rattle.std.specs.Str.{str_to_ascii_lowercase};
-ghost use Rattle.kq_strings.specs.Places.{IsFirstPlace};
+ghost use Rattle.kq_strings.specs.Found.{counts_at as counts, is_found as found};
 
-use memchr::memmem;
+use crate::case::{Case, folded};
+use crate::sums::{extended, joined, sum_of, weight_of};
+use crate::terms::is_term;
 
-/// Whether upper and lower case of ASCII letters are told apart.
+/// Which occurrences count.
 #[derive(Clone, Copy)]
-pub(crate) enum Case {
-    Exact,
-    Ignored,
+pub(crate) enum Occurrence {
+    Any,
+    Term,
 }
 
 /// Whether `part` stands in `text` from the place `at` on.
@@ -26,35 +27,40 @@ pub(crate) fn stands_at(by: Case, text: &[u8], part: &[u8], at: usize) -> bool
     }
 }
 
-/// The first place from `from` on at which `part` stands in `text`.
-pub(crate) fn find_place(by: Case, text: &[u8], part: &[u8], from: usize) -> Option<usize>
-    requires { from ≤ length text.now }
-    ensures { IsFirstPlace (occurs_at (in_case by text.now) (in_case by part.now)) from (length text.now) result }
+/// Whether an occurrence of `part` that counts stands at `at`. The neighbours are looked at first, which takes constant time.
+fn counts_at(occurrence: Occurrence, by: Case, text: &[u8], part: &[u8], at: usize) -> bool
+    requires fits { at + length part.now ≤ length text.now }
+    requires some { 0 < length part.now }
+    ensures { result ≡ counts occurrence (in_case by text.now) (in_case by part.now) at }
 {
-    match by {
-        Case::Exact => find_exact(text, part, from),
-        Case::Ignored => find_ignoring_case(text, part, from),
+    match occurrence {
+        Occurrence::Any => stands_at(by, text, part, at),
+        Occurrence::Term => is_term(text, part, at) && stands_at(by, text, part, at),
     }
 }
 
-fn find_exact(text: &[u8], part: &[u8], from: usize) -> Option<usize>
-    requires { from ≤ length text.now }
-    ensures { IsFirstPlace (occurs_at text.now part.now) from (length text.now) result }
+/// Whether an occurrence of `part` that counts stands in `text`, by the method of Karp and Rabin: bytes are compared only
+/// where the sum of the window is that of `part`, so the time grows with the length of `text`. It can grow with the product
+/// of the lengths only where window after window has the sum of `part` and begins as it does, but then differs.
+pub(crate) fn is_found(occurrence: Occurrence, by: Case, text: &[u8], part: &[u8]) -> bool
+    requires { 0 < length part.now }
+    ensures { result ≡ found occurrence (in_case by text.now) (in_case by part.now) }
 {
-    match memmem::find(&text[from..], part) {
-        Some(at) => Some(from + at),
-        None => None,
+    if text.len() < part.len() {
+        return false;
     }
-}
-
-fn find_ignoring_case(text: &[u8], part: &[u8], from: usize) -> Option<usize>
-    requires { from ≤ length text.now }
-    ensures { IsFirstPlace (occurs_at (str_to_ascii_lowercase text.now) (str_to_ascii_lowercase part.now)) from (length text.now) result }
-{
-    for at in from..text.len() + 1 {
-        if stands_at(Case::Ignored, text, part, at) {
-            return Some(at);
+    let (sought, weight) = (sum_of(by, part), weight_of(part.len()));
+    let last = text.len() - part.len();
+    // the sums of what stands before the window, and of that with the window
+    let mut before = 0;
+    let mut through = sum_of(by, &text[..part.len()]);
+    for at in 0..last {
+        let agrees = through == joined(before, sought, weight);
+        if agrees && counts_at(occurrence, by, text, part, at) {
+            return true;
         }
+        before = extended(before, folded(by, text[at]));
+        through = extended(through, folded(by, text[at + part.len()]));
     }
-    None
+    counts_at(occurrence, by, text, part, last)
 }

@@ -97,6 +97,46 @@ fn an_empty_part_is_found_and_a_longer_one_is_not(rt: HostRuntime) {
     }
 }
 
+fn repeated(alloc: Global, piece: &str, times: usize) -> Result<String, Memory> {
+    let mut text = String::new(alloc);
+    for _ in 0..times {
+        text.push_str(piece)?;
+    }
+    Ok(text)
+}
+
+// a search in the product of these lengths doesn't end in a test's time
+const TEXT: usize = 1 << 21;
+
+const PART: usize = 1 << 20;
+
+#[test]
+fn a_long_part_that_nearly_stands_everywhere_is_searched_in_linear_time(
+    rt: HostRuntime,
+) -> Result<(), Fail> {
+    let text = repeated(rt.alloc(), "a", TEXT)?;
+    let mut part = repeated(rt.alloc(), "a", PART)?;
+    part.push_str("b")?;
+    for kind in [Has, HasCs, Contains, ContainsCs] {
+        assert!(rt; !find_text(kind, text.as_str(), part.as_str()), "{kind:?}");
+    }
+    let pieces = split_text(rt.alloc(), text.as_str(), part.as_str())?;
+    assert!(rt; matches!(pieces, Dyn::List(ref pieces) if pieces.len() == 1));
+    Ok(())
+}
+
+#[test]
+fn a_long_part_that_stands_everywhere_but_as_no_term_is_searched_in_linear_time(
+    rt: HostRuntime,
+) -> Result<(), Fail> {
+    let text = repeated(rt.alloc(), "a", TEXT)?;
+    let part = repeated(rt.alloc(), "a", PART)?;
+    for kind in [Has, HasCs] {
+        assert!(rt; !find_text(kind, text.as_str(), part.as_str()), "{kind:?}");
+    }
+    Ok(())
+}
+
 fn assert_pieces(
     rt: &impl Abort,
     alloc: Global,
