@@ -1,2 +1,4 @@
 pub mod Histories
+pub mod Records
 pub mod Repeats
+pub mod Tables

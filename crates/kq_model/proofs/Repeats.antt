@@ -1,5 +1,5 @@
 -- A repeated name stands within its list.
-use Rattle.std.proofs.Common.{◌≡◌, ◌<◌, ◌+◌, ℕ, Bool, true, false, cond, List, [], ◌∷◌, ◌++◌, length, Option, Some, None, arith, length-append}
+use Rattle.std.proofs.Common.{◌≡◌, ◌<◌, ◌+◌, ℕ, Bool, true, false, cond, List, [], ◌∷◌, ◌++◌, length, Some, arith, length-append}
 use Rattle.kq_model.specs.Names.{is_among, repeat_after, repeat_of}
 
 repeat_after-within : (before names : List (List ℕ)) (i : ℕ) → repeat_after before names ≡ Some i → i < length before + length names

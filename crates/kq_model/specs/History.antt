@@ -1,11 +1,11 @@
 -- What a list of events says: its commits, its cursor and its tables.
-use Rattle.std.specs.Prelude.{ℕ, ◌+◌, List, [], ◌∷◌, ◌++◌, length, map, Option, nat_eq}
+use Rattle.std.specs.Prelude.{ℕ, ◌+◌, List, [], ◌∷◌, ◌++◌, length, map, Option, Some, None, nat_eq, if◌then◌else◌}
 use Rattle.std.specs.List.{find, flat_map}
 use Rattle.std.specs.Cmp.Lexicographic.{pointwise}
 use Rattle.kq_model.specs.declared.table.Table.{Table}
 use Rattle.kq_model.specs.declared.event.By.{By}
 use Rattle.kq_model.specs.declared.event.Commit.{Commit}
-use Rattle.kq_model.specs.declared.event.Commit.TheVariants.{CreateTable}
+use Rattle.kq_model.specs.declared.event.Commit.TheVariants.{CreateTable, Ingest}
 use Rattle.kq_model.specs.declared.event.Operation.{Operation}
 use Rattle.kq_model.specs.declared.event.Operation.TheVariants as operation
 use Rattle.kq_model.specs.declared.event.Event.{Event}
@@ -31,6 +31,7 @@ cursor h = length (log h)
 -- the tables after one more commit, whose cursor is given
 abbrev pub tables_with : ℕ → Commit → List Table → List Table
 tables_with at (CreateTable name schema) tables = tables ++ record { name = name; schema = schema; made = at } ∷ []
+tables_with at (Ingest batches failures) tables = tables
 
 abbrev pub tables_from : ℕ → List Table → Log → List Table
 tables_from n tables [] = tables
@@ -43,6 +44,19 @@ tables = tables_from 0 []
 -- the table of a name
 abbrev pub table_named : List ℕ → List Table → Option Table
 table_named name = find (λ (t : Table). pointwise nat_eq t.name name)
+
+-- a table and its number: its place, from 0
+pub record Numbered : Type 0 where
+  pub number : ℕ
+  pub table : Table
+
+abbrev pub numbered_from : ℕ → List ℕ → List Table → Option Numbered
+numbered_from n name [] = None
+numbered_from n name (t ∷ ts) = if pointwise nat_eq t.name name then Some (record { number = n; table = t }) else numbered_from (n + 1) name ts
+
+-- the table of a name, with its number
+abbrev pub table_numbered : List ℕ → List Table → Option Numbered
+table_numbered = numbered_from 0
 
 -- a commit's place in the journal, from 1, and its mark
 pub record CommitAt : Type 0 where

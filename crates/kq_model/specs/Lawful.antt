@@ -1,36 +1,57 @@
 -- What may stand in a journal.
-use Rattle.std.specs.Prelude.{◌≡◌, ◌<◌, ℕ, List, [], ◌∷◌, ◌++◌, length, Option, Some, None, if◌then◌else◌, nat_lt}
+use Rattle.std.specs.Prelude.{◌≡◌, ◌<◌, ℕ, List, [], ◌∷◌, ◌++◌, length, Option, Some, None, All, if◌then◌else◌, nat_lt}
+use Rattle.std.specs.List.{slice_get}
 use Rattle.kq_value.specs.declared.schema.Field.{Field}
+use Rattle.kq_value.specs.Typed.{HasTypes}
 use Rattle.kq_model.specs.declared.limits.Limits.{Limits}
 use Rattle.kq_model.specs.declared.table.Table.{Table}
 use Rattle.kq_model.specs.declared.event.Commit.{Commit}
-use Rattle.kq_model.specs.declared.event.Commit.TheVariants.{CreateTable}
+use Rattle.kq_model.specs.declared.batch.Batch.{Batch}
+use Rattle.kq_model.specs.declared.batch.Failure.{Failure}
+use Rattle.kq_model.specs.declared.event.Commit.TheVariants.{CreateTable, Ingest}
 use Rattle.kq_model.specs.declared.event.Operation.{Operation}
 use Rattle.kq_model.specs.declared.event.Operation.TheVariants as operation
 use Rattle.kq_model.specs.declared.event.Event.{Event}
+use Rattle.kq_model.specs.Derived.{IsDerived}
 use Rattle.kq_model.specs.History.{History, Log, log, tables, table_named}
 use Rattle.kq_model.specs.Names.{repeat_of, names_of}
 
--- why a table of this name and these columns can't be made
+-- why a table of this name and these columns, or a batch of so many rows, can't be made
 pub data Bar : Type 0 where
   TooWide : Bar
   Exists : Bar
   TooMany : Bar
+  TooLong : Bar
   NoCommits : Bar
+
+abbrev pub bar_to_name : Limits → Log → Option Table → Option Bar
+bar_to_name limits l (Some t) = Some Exists
+bar_to_name limits l None = if nat_lt (length (tables l)) limits.tables then (if nat_lt (length l) limits.commits then None else Some NoCommits) else Some TooMany
 
 -- the first bar to a new table after this log, in the order of the refusals
 abbrev pub bar_to_table : Limits → Log → List ℕ → List Field → Option Bar
-bar_to_table limits l name schema =
-    if nat_lt limits.columns (length schema) then Some TooWide
-    else bar_to_name (table_named name (tables l))
-  where
-    bar_to_name : Option Table → Option Bar
-    bar_to_name (Some t) = Some Exists
-    bar_to_name None =
-        if nat_lt (length (tables l)) limits.tables then (if nat_lt (length l) limits.commits then None else Some NoCommits) else Some TooMany
+bar_to_table limits l name schema = if nat_lt limits.columns (length schema) then Some TooWide else bar_to_name limits l (table_named name (tables l))
+
+-- the first bar to a batch of so many rows after this log, in the order of the refusals
+abbrev pub bar_to_batch : Limits → Log → ℕ → Option Bar
+bar_to_batch limits l rows = if nat_lt limits.batch rows then Some TooLong else if nat_lt (length l) limits.commits then None else Some NoCommits
+
+-- an ingestion's own batch goes into a table and has rows of its types, and these are the batch's whole cascade
+pub record IsIngestion (l : Log) (batches : List Batch) (failures : List Failure) : Type 0 where
+  pub own : Batch
+  pub table : Table
+  pub stands : slice_get (tables l) own.table ≡ Some table
+  pub typed : All (HasTypes table.schema) own.rows
+  pub derived : IsDerived l own batches failures
+
+-- the number of rows of an ingestion's own batch
+abbrev pub own_rows : List Batch → ℕ
+own_rows [] = 0
+own_rows (own ∷ bs) = length own.rows
 
 abbrev pub LawfulCommit : Limits → Log → Commit → Type 0
 LawfulCommit limits l (CreateTable name schema) = (0 < length schema) × (repeat_of (names_of schema) ≡ None) × (bar_to_table limits l name schema ≡ None)
+LawfulCommit limits l (Ingest batches failures) = IsIngestion l batches failures × (bar_to_batch limits l (own_rows batches) ≡ None)
 
 abbrev pub LawfulOperation : Limits → History → Operation → Type 0
 LawfulOperation limits h (operation.Commit c) = LawfulCommit limits (log h) c

@@ -1,7 +1,8 @@
 // Commits and events.
-ghost use Rattle.std.specs.Prelude.{◌≡◌, IfOk};
+ghost use Rattle.std.specs.Prelude.{◌≡◌};
 
-use kq_value::{Memory, Schema, Text};
+use crate::batch::{Batches, Failures};
+use kq_value::{Schema, Text};
 
 /// The mark of a command: who asked, and with which of its commands, counted from 1.
 #[derive(Clone, Copy, Debug)]
@@ -23,20 +24,14 @@ impl By {
 /// What a client's command changes for good.
 #[derive(Debug, Drop)]
 pub enum Commit {
-    CreateTable { name: Text, schema: Schema },
-}
-
-impl Commit {
-    pub fn clone_in(&self) -> Result<Commit, Memory>
-        ensures { IfOk result (λ c. c ≡ self.now) }
-    {
-        match self {
-            Commit::CreateTable { name, schema } => Ok(Commit::CreateTable {
-                name: name.clone_in()?,
-                schema: schema.clone_in()?,
-            }),
-        }
-    }
+    CreateTable {
+        name: Text,
+        schema: Schema,
+    },
+    Ingest {
+        batches: Batches,
+        failures: Failures,
+    },
 }
 
 /// What an event does.
@@ -45,7 +40,7 @@ pub enum Operation {
     Commit(Commit),
 }
 
-/// An entry of the journal: an operation with the mark of the command that made it.
+/// An entry of the history: an operation with the mark of the command that made it.
 #[derive(Debug, Drop)]
 pub struct Event {
     pub by: By,

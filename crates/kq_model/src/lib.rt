@@ -1,12 +1,16 @@
-//! The words that the engine speaks: commits, events, tables and limits, with the definitions of what a history of
-//! events says. It holds no algorithm: storing a history is left to the catalogue, answering commands to the engine.
+//! The words that the engine speaks: commits, events, tables, answers and limits, with the definitions of what a history
+//! of events says. It holds no algorithm: storing a history is left to the catalogue, answering commands to the engine.
 #![tactic(auto)]
 
+mod answer;
+mod batch;
 mod cause;
 mod event;
 mod limits;
 mod table;
 
+pub use answer::Answer;
+pub use batch::{Batch, Batches, Failure, Failures};
 pub use cause::{Cause, Why};
 pub use event::{By, Commit, Event, Operation};
 pub use limits::Limits;

@@ -1,0 +1,10 @@
+// Answers.
+use kq_value::{Rows, Schema};
+
+/// What a query gives: its columns and its rows, and whether their order is part of it.
+#[derive(Debug, Drop)]
+pub struct Answer {
+    pub schema: Schema,
+    pub ordered: bool,
+    pub rows: Rows,
+}
