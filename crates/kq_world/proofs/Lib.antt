@@ -1,3 +1,4 @@
+pub mod Feeds
 pub mod Handed
 mod Sent
 pub mod Told

@@ -1,6 +1,7 @@
 -- What is told, call after call.
 use Rattle.std.proofs.Common.{List, [], ◌++◌, Option, Some, None, ap, sym, ◌∙◌, refl, append_assoc, append-nil}
 use Rattle.kq_world.specs.Told.{Stays, Adds, Loses}
+use Rattle.kq_world.specs.Outside.{Contents, AreTold}
 
 pub Stays-same : {A : Type 0} (a : Option (List A)) → Stays a a
 Stays-same None = tt
@@ -37,3 +38,23 @@ Adds-stays None b c xs h k = tt
 Adds-stays (Some x) None c xs h k = absurd h
 Adds-stays (Some x) (Some y) None xs h k = absurd k
 Adds-stays (Some x) (Some y) (Some z) xs h k = k ∙ h
+
+pub Stays-trans : {A : Type 0} (a b c : Option (List A)) → Stays a b → Stays b c → Stays a c
+Stays-trans None b c h k = tt
+Stays-trans (Some x) None c h k = absurd h
+Stays-trans (Some x) (Some y) None h k = absurd k
+Stays-trans (Some x) (Some y) (Some z) h k = k ∙ h
+
+pub AreTold-same : (a : Contents) → AreTold a a
+AreTold-same a = record {
+  left = Stays-same a.left;
+  written = Stays-same a.written;
+  readings = Stays-same a.readings;
+}
+
+pub AreTold-trans : (a b c : Contents) → AreTold a b → AreTold b c → AreTold a c
+AreTold-trans a b c h k = record {
+  left = Stays-trans a.left b.left c.left h.left k.left;
+  written = Stays-trans a.written b.written c.written h.written k.written;
+  readings = Stays-trans a.readings b.readings c.readings h.readings k.readings;
+}

@@ -1,7 +1,5 @@
 -- The objects in memory, as contracts see them.
-use Rattle.std.specs.Prelude.{ℕ, ℤ, pos, ◌+◌, ◌-◌, ◌^◌, min, List, length, slice_index_or, Option, Some, None}
-use Rattle.kq_world.specs.declared.outside.Parts.{Parts}
-use Rattle.kq_world.specs.Outside.{Contents}
+use Rattle.std.specs.Prelude.{ℕ, ℤ, pos, ◌+◌, ◌-◌, ◌^◌, min, List, length, slice_index_or}
 
 -- a source: the bytes left, the most that a read gives, the numbers of the calls that fail, and the counts of the
 -- calls and of the faults
@@ -32,8 +30,3 @@ counted n = min (n + 1) (2 ^ 64 - 1)
 -- the reading at this place from 0, of which the last repeats
 abbrev pub reading_at : List ℤ → ℕ → ℤ
 reading_at list n = slice_index_or list (min n (length list - 1)) (pos 0)
-
--- what the objects tell that a world in memory will give
-abbrev pub contents_of : Option (Parts SourceState SinkState ClockState) → Contents
-contents_of None = record { left = None; written = None; readings = None }
-contents_of (Some p) = record { left = Some p.source.left; written = Some p.sink.written; readings = Some p.clock.given }

@@ -1,6 +1,8 @@
 -- What a read takes and a write leaves, and when a call may fail.
-use Rattle.std.specs.Prelude.{◌≡◌, ◌<◌, ◌≤◌, ◌⊎◌, ◌-◌, ◌^◌, ℕ, ℤ, List, length, take, Option, Result, Ok, Err}
+use Rattle.std.specs.Prelude.{◌≡◌, ◌<◌, ◌≤◌, ◌⊎◌, ◌-◌, ◌^◌, ℕ, ℤ, List, [], ◌∷◌, ◌++◌, length, take, Option, Result, Ok, Err}
 use Rattle.kq_world.specs.Told.{Stays, Adds, Loses, IsEmpty}
+use Rattle.kq_world.specs.declared.outside.OpenFault.{OpenFault}
+use Rattle.kq_world.specs.declared.outside.OpenFault.TheVariants.{Failed, Memory}
 
 -- `Ok n` takes the next n bytes, which are now at the front of the buffer; n is 0 exactly at the end. `Err` leaves the bytes
 abbrev pub Takes : {E : Type 0} → Option (List ℕ) → Option (List ℕ) → Result ℕ E → List ℕ → Type 0
@@ -37,3 +39,15 @@ pub record AreTold (before now : Contents) : Type 0 where
   pub left : Stays before.left now.left
   pub written : Stays before.written now.written
   pub readings : Stays before.readings now.readings
+
+-- the count of a World's faults never falls, and a feed fails to open only where it rose
+abbrev pub OpensByCause : {T : Type 0} → ℕ → ℕ → Result T OpenFault → Type 0
+OpensByCause before now (Ok x) = before ≤ now
+OpensByCause before now (Err Failed) = Rose before now
+OpensByCause before now (Err Memory) = before ≤ now
+
+-- the name is the last one asked for; where memory wasn't found it may be left out
+abbrev pub AsksFor : {T : Type 0} → List (List ℕ) → List (List ℕ) → Result T OpenFault → List ℕ → Type 0
+AsksFor before now (Ok x) name = now ≡ before ++ name ∷ []
+AsksFor before now (Err Failed) name = now ≡ before ++ name ∷ []
+AsksFor before now (Err Memory) name = (now ≡ before ++ name ∷ []) ⊎ (now ≡ before)

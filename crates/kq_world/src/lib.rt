@@ -11,7 +11,9 @@ mod real;
 #[cfg(test)]
 mod tests;
 
-pub use memory::{ListClock, MemorySink, MemorySource, MemoryWorld, OpenGate};
-pub use outside::{Clock, Failed, Gate, Parts, Point, Sink, Source, World};
+pub use memory::{Feed, HoldGate, ListClock, MemorySink, MemorySource, MemoryWorld, OpenGate};
+pub use outside::{Clock, Failed, Gate, OpenFault, Parts, Point, Sink, Source, World};
 pub use put::put_all;
-pub use real::{RealWorld, StdinSource, StdoutSink, SystemClock};
+pub use real::{
+    FileSink, FileSource, RealSink, RealSource, RealWorld, StdinSource, StdoutSink, SystemClock,
+};

@@ -1,12 +1,45 @@
 // What a session is given.
-ghost use Rattle.std.specs.Prelude.{◌≡◌, ◌<◌, ◌≤◌, ◌++◌, ◌∷◌, [], true, false, Bool, ℕ, ℤ, List, Option, length};
+ghost use Rattle.std.specs.Prelude.{◌≡◌, ◌≢◌, ◌<◌, ◌≤◌, ◌++◌, ◌∷◌, [], true, false, Bool, ℕ, ℤ, List, Option, IfOk, OnErr, length};
 ghost use Rattle.kq_world.specs.Told.{Adds};
-ghost use Rattle.kq_world.specs.Outside.{Takes, Puts, HasCause, Contents, AreTold};
+ghost use Rattle.kq_world.specs.Outside.{Takes, Puts, HasCause, OpensByCause, AsksFor, Contents, AreTold};
 ghost use Rattle.kq_value.specs.Typed.{IsMoment};
+
+use kq_value::Memory;
+use std::alloc::AllocFailed;
 
 /// The outside failed.
 #[derive(Clone, Copy, Debug, PartialEq, Eq)]
 pub struct Failed;
+
+/// Why a feed wasn't opened.
+#[derive(Clone, Copy, Debug, PartialEq, Eq)]
+pub enum OpenFault {
+    /// The outside failed.
+    Failed,
+    Memory,
+}
+
+impl From<Memory> for OpenFault {
+    ghost use Rattle.std.specs.Prelude.{◌≡◌};
+    ghost use Rattle.kq_world.specs.declared.outside.OpenFault.TheVariants.{Memory};
+
+    ghost from_gives = { λ _ e. e ≡ Memory };
+
+    fn from(_: Memory) -> OpenFault {
+        OpenFault::Memory
+    }
+}
+
+impl<T: Drop> From<AllocFailed<T>> for OpenFault {
+    ghost use Rattle.std.specs.Prelude.{◌≡◌};
+    ghost use Rattle.kq_world.specs.declared.outside.OpenFault.TheVariants.{Memory};
+
+    ghost from_gives = { λ _ e. e ≡ Memory };
+
+    fn from(_: AllocFailed<T>) -> OpenFault {
+        OpenFault::Memory
+    }
+}
 
 /// Bytes that come in.
 pub trait Source: Drop {
@@ -62,7 +95,7 @@ pub enum Point {
     Answered { actor: u32, number: u64 },
 }
 
-/// It may hold a thread at a point. It tells nothing.
+/// It may hold a thread at a point. It tells nothing. One that threads share is `Sync`.
 pub trait Gate {
     fn at(&self, point: Point);
 }
@@ -75,7 +108,7 @@ pub struct Parts<S: Drop, K: Drop, C: Drop> {
     pub clock: C,
 }
 
-/// It gives the sessions' objects.
+/// It gives the sessions' objects. The sources and sinks that it gives have not failed yet.
 pub trait World {
     type Source: Source + Send;
 
@@ -86,14 +119,41 @@ pub trait World {
     /// Whether `first` was asked.
     ghost begun: { Self → Bool };
 
+    /// The names that `open_feed` was asked for, in order.
+    ghost asked: { Self → List (List ℕ) };
+
+    /// How often it has failed.
+    ghost faults: { Self → ℕ };
+
     /// What the objects tell that `first` will give, where told.
     ghost first_contents: { Self → Contents };
 
-    /// The objects of session 0. Their counts of faults are 0.
+    /// What the objects tell that `open_feed` will give for a name, where told.
+    ghost feed_contents: { Self → List ℕ → Contents };
+
+    /// The objects of session 0.
     fn first(&mut self) -> Parts<Self::Source, Self::Sink, Self::Clock>
         requires { begun self.old ≡ false }
         ensures begun { begun self.new ≡ true }
         ensures told { AreTold (first_contents self.old) (record { left = Self.Source.left result.source; written = Self.Sink.written result.sink; readings = Self.Clock.readings result.clock }) }
         ensures source { Self.Source.faults result.source ≡ 0 }
-        ensures sink { Self.Sink.faults result.sink ≡ 0 };
+        ensures sink { Self.Sink.faults result.sink ≡ 0 }
+        ensures feeds { (name : List ℕ) → AreTold (feed_contents self.old name) (feed_contents self.new name) }
+        ensures asked { asked self.new ≡ asked self.old }
+        ensures cause { faults self.old ≤ faults self.new };
+
+    /// The objects of a feed. A refusal leaves all feeds to be opened as before.
+    fn open_feed(
+        &mut self,
+        name: &str,
+    ) -> Result<Parts<Self::Source, Self::Sink, Self::Clock>, OpenFault>
+        ensures told { IfOk result (λ p. AreTold (feed_contents self.old name.now) (record { left = Self.Source.left p.source; written = Self.Sink.written p.sink; readings = Self.Clock.readings p.clock })) }
+        ensures source { IfOk result (λ p. Self.Source.faults p.source ≡ 0) }
+        ensures sink { IfOk result (λ p. Self.Sink.faults p.sink ≡ 0) }
+        ensures others { (other : List ℕ) → other ≢ name.now → AreTold (feed_contents self.old other) (feed_contents self.new other) }
+        ensures refused { OnErr result (AreTold (feed_contents self.old name.now) (feed_contents self.new name.now)) }
+        ensures first { AreTold (first_contents self.old) (first_contents self.new) }
+        ensures begun { begun self.new ≡ begun self.old }
+        ensures asked { AsksFor (asked self.old) (asked self.new) result name.now }
+        ensures cause { OpensByCause (faults self.old) (faults self.new) result };
 }

@@ -1,6 +1,9 @@
 // Each object once through its trait.
 ghost use Rattle.std.specs.Prelude.{◌≡◌, ◌<◌, false, IfOk};
 
+mod feeds;
+mod hold;
+
 use crate::outside::{Clock, Failed, Gate, Parts, Point, Sink, Source, World};
 use crate::put::put_all;
 use crate::{
@@ -73,11 +76,13 @@ fn sends<T: Send>(_x: &T) {}
 
 #[test]
 fn a_world_in_memory_gives_its_objects(rt: HostRuntime) -> Result<(), Fail> {
-    let mut world = MemoryWorld::new(Parts {
+    let parts = Parts {
         source: source(rt.alloc(), b"a", 1)?,
         sink: MemorySink::new(rt.alloc(), 1, Vec::new(rt.alloc()))?,
         clock: ListClock::new([7].to_vec(rt.alloc())?),
-    });
+    };
+    let feeds = Vec::new(rt.alloc());
+    let mut world = MemoryWorld::new(rt.alloc(), parts, feeds, Vec::new(rt.alloc()));
     let parts = begins(&mut world, &OpenGate);
     assert_eq!(rt; parts.source.left(), b"a".as_slice());
     sends(&parts.source);
