@@ -1,0 +1,5 @@
+pub mod Faults
+pub mod Longs
+pub mod Records
+pub mod RowLemmas
+pub mod Taking

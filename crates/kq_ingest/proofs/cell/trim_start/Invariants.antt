@@ -1,0 +1,12 @@
+use Rattle.std.proofs.Common.{◌≡◌, ◌≤◌, ◌-◌, drop, length}
+use Rattle.kq_ingest.specs.Blanks.{without_leading_blanks}
+use Rattle.kq_ingest.proofs.cell.trim_start.Given as goal
+
+abbrev pub invariant-loop-start : goal.invariant-loop-start
+invariant-loop-start l = record {
+  within : l.start ≤ length l.text;
+  same : without_leading_blanks (drop l.start l.text) ≡ without_leading_blanks l.text;
+}
+
+abbrev pub decreases-loop-start : goal.decreases-loop-start
+decreases-loop-start l = length l.text - l.start
