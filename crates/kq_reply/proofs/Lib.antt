@@ -1,3 +1,4 @@
 pub mod Escapes
 pub mod Lines
+pub mod Printed
 pub mod Puts

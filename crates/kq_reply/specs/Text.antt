@@ -1,6 +1,6 @@
 -- The printed form of a reply.
-use Rattle.std.specs.Prelude.{ℕ, List, [], ◌∷◌, ◌++◌, codes, decimal, nat_eq, if◌then◌else◌}
-use Rattle.std.specs.List.{flat_map}
+use Rattle.std.specs.Prelude.{ℕ, List, [], ◌++◌, codes, decimal}
+use Rattle.kq_value.specs.Cells.{escaped}
 use Rattle.kq_model.specs.declared.cause.Why.{Why}
 use Rattle.kq_model.specs.declared.cause.Why.TheVariants.{Form, Source, Query, Body, Schema}
 use Rattle.kq_model.specs.declared.cause.Cause.{Cause}
@@ -9,19 +9,6 @@ use Rattle.kq_reply.specs.declared.refusal.Refusal.{Refusal}
 use Rattle.kq_reply.specs.declared.refusal.Refusal.TheVariants.{Memory, Syntax, Deep, TooLong, Overflow, Full, WideRow, BadTags, Unsupported, Unknown, Mistyped, Exists, Cycle, BadView, BadPolicy, PolicyFailed, NotText, Unbuilt, NoExporter, ArtefactFault, BadExport}
 use Rattle.kq_reply.specs.declared.reply.Reply.{Reply}
 use Rattle.kq_reply.specs.declared.reply.Reply.TheVariants.{Done, Kept, Ingested, Skipped, Folded, Merged, Nothing, Rows, Exporting, Exported, Refused}
-
--- backslash, tab, LF and CR are written by a backslash and a sign
-abbrev pub escape_of : ℕ → List ℕ
-escape_of b =
-    if nat_eq b 92 then codes "\\\\"
-    else if nat_eq b 9 then codes "\\t"
-    else if nat_eq b 10 then codes "\\n"
-    else if nat_eq b 13 then codes "\\r"
-    else b ∷ []
-
--- a name as it is printed
-abbrev pub escaped : List ℕ → List ℕ
-escaped = flat_map escape_of
 
 -- words and a number
 abbrev pub counted : List ℕ → ℕ → List ℕ

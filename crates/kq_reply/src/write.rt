@@ -1,8 +1,10 @@
 // The printed form.
 ghost use Rattle.std.specs.Prelude.{◌++◌, codes};
 ghost use Rattle.kq_world.specs.Outside.{PutsAll, HasCause};
-ghost use Rattle.kq_reply.specs.Text.{counted, escape_of, escaped, why_text, cause_text, refusal_text, words_of, lines_of, text_of};
+ghost use Rattle.kq_value.specs.Cells.{escaped_byte, escaped};
+ghost use Rattle.kq_reply.specs.Text.{counted, why_text, cause_text, refusal_text, words_of, lines_of, text_of};
 
+use crate::escape::escape_sign;
 use crate::refusal::Refusal;
 use crate::reply::Reply;
 use itoa::Buffer;
@@ -174,14 +176,11 @@ fn put_escaped<K: Sink>(sink: &mut K, name: &[u8]) -> Result<(), Failed>
 }
 
 fn put_escape<K: Sink>(sink: &mut K, byte: u8) -> Result<(), Failed>
-    ensures puts { PutsAll (K.written sink.old) (K.written sink.new) result (escape_of byte) }
+    ensures puts { PutsAll (K.written sink.old) (K.written sink.new) result (escaped_byte byte) }
     ensures cause { HasCause (K.faults sink.old) (K.faults sink.new) result }
 {
-    match byte {
-        b'\\' => put_all(sink, b"\\\\"),
-        b'\t' => put_all(sink, b"\\t"),
-        b'\n' => put_all(sink, b"\\n"),
-        b'\r' => put_all(sink, b"\\r"),
-        _ => put_all(sink, &[byte]),
+    match escape_sign(byte) {
+        Some(sign) => put_all(sink, &[b'\\', sign]),
+        None => put_all(sink, &[byte]),
     }
 }

@@ -1,6 +1,6 @@
 use Rattle.std.proofs.Common.{◌≤◌, take}
 use Rattle.kq_world.specs.Told.{Adds}
-use Rattle.kq_reply.specs.Text.{escaped}
+use Rattle.kq_value.specs.Cells.{escaped}
 use Rattle.kq_reply.proofs.write.put_escaped.Given as goal
 
 abbrev pub invariant-loop-byte : goal.invariant-loop-byte

@@ -1,5 +1,6 @@
 use Rattle.std.proofs.Common.{rules, ◌++◌, codes}
-use Rattle.kq_reply.specs.Text.{escaped, cause_text}
+use Rattle.kq_value.specs.Cells.{escaped}
+use Rattle.kq_reply.specs.Text.{cause_text}
 use Rattle.kq_world.proofs.Told.{Adds-trans}
 use Rattle.kq_reply.proofs.Puts.{puts-then, puts-cut, puts-part}
 use Rattle.kq_reply.proofs.write.put_failed.Goals as goal

@@ -1,5 +1,5 @@
 use Rattle.std.proofs.Common.{◌∙◌, rules, ap, ◌≡◌}
-use Rattle.kq_reply.specs.Text.{escaped}
+use Rattle.kq_value.specs.Cells.{escaped}
 use Rattle.kq_reply.proofs.Puts.{puts-then, puts-cut, puts-as}
 use Rattle.kq_reply.proofs.write.put_named.Goals as goal
 
