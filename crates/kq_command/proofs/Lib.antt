@@ -3,3 +3,4 @@ pub mod FirstPiece
 pub mod Names
 pub mod Reading
 pub mod Repeats
+mod Within

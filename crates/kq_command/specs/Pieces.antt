@@ -10,6 +10,11 @@ pub record Piece : Type 0 where
 abbrev pub is_white : ℕ → Bool
 is_white b = nat_eq b 32 || nat_eq b 9 || nat_eq b 13 || nat_eq b 10
 
+-- the bytes without the white space that they begin with
+abbrev pub without_white : List ℕ → List ℕ
+without_white [] = []
+without_white (b ∷ bs) = if is_white b then without_white bs else b ∷ bs
+
 abbrev pub between : ℕ → ℕ → ℕ → Bool
 between low high b = nat_le low b && nat_le b high
 

@@ -1,5 +1,5 @@
 -- What a text reads as.
-use Rattle.std.specs.Prelude.{◌≡◌, ⊤, ℕ, Bool, false, not, ◌&&◌, List, [], ◌∷◌, Option, Some, None, Result, Ok, Err, codes, nat_eq, if◌then◌else◌}
+use Rattle.std.specs.Prelude.{◌≡◌, ⊤, ℕ, ◌+◌, Bool, true, false, drop, not, ◌&&◌, List, [], ◌∷◌, Option, Some, None, Result, Ok, Err, codes, nat_eq, if◌then◌else◌}
 use Rattle.std.specs.List.{list_any, list_all}
 use Rattle.std.specs.Cmp.Lexicographic.{pointwise}
 use Rattle.std.specs.Str.{IsUtf8}
@@ -9,10 +9,10 @@ use Rattle.kq_value.specs.declared.ty.Ty.TheVariants.{Long, Int, Text, Bool as T
 use Rattle.kq_command.specs.declared.columns.Identifier.{Identifier}
 use Rattle.kq_command.specs.declared.columns.Column.{Column}
 use Rattle.kq_command.specs.declared.command.Command.{Command}
-use Rattle.kq_command.specs.declared.command.Command.TheVariants.{CreateTable, Unbuilt}
+use Rattle.kq_command.specs.declared.command.Command.TheVariants.{CreateTable, Ingest, Query, Unbuilt}
 use Rattle.kq_command.specs.declared.command.CommandFault.{CommandFault}
 use Rattle.kq_command.specs.declared.command.CommandFault.TheVariants.{NotText, Memory}
-use Rattle.kq_command.specs.Pieces.{Piece, begins_name, in_word, pieces}
+use Rattle.kq_command.specs.Pieces.{Piece, begins_name, in_word, pieces, without_white}
 
 abbrev pub same : List ℕ → List ℕ → Bool
 same = pointwise nat_eq
@@ -94,8 +94,51 @@ command_of_pieces (dot ∷ create ∷ table ∷ name ∷ open_sign ∷ rest) =
     else Unbuilt
 command_of_pieces _ = Unbuilt
 
+-- the bytes from an offset on, without the white space that they begin with
+abbrev pub rows_after : ℕ → List ℕ → List ℕ
+rows_after at text = without_white (drop at text)
+
+-- `.` `ingest` `inline` `into` `table` NAME `<|`, and the rows behind it; no white space parts `<` and `|`
+abbrev pub ingest_of_pieces : List ℕ → List Piece → Command
+ingest_of_pieces text (dot ∷ ingest ∷ inline ∷ into ∷ table ∷ name ∷ less ∷ bar ∷ rest) =
+    if same dot.text (codes ".") && same ingest.text (codes "ingest") && same inline.text (codes "inline") && same into.text (codes "into") && same table.text (codes "table")
+    && is_name name.text && same less.text (codes "<") && same bar.text (codes "|") && nat_eq bar.at (less.at + 1)
+    then Ingest (identifier_of name) (rows_after (bar.at + 1) text)
+    else Unbuilt
+ingest_of_pieces text _ = Unbuilt
+
+-- the words that begin a source of another kind
+abbrev pub source_words : List (List ℕ)
+source_words = codes "print" ∷ codes "range" ∷ codes "datatable" ∷ codes "union" ∷ codes "materialized_view" ∷ []
+
+-- a name that stands where a query begins
+abbrev pub is_source_name : List ℕ → Bool
+is_source_name text = is_name text && not (is_one_of source_words text)
+
+-- nothing, or `|` `count`: whether the rows are counted
+abbrev pub tail_of : List Piece → Option Bool
+tail_of [] = Some false
+tail_of (bar ∷ count ∷ []) = if same bar.text (codes "|") && same count.text (codes "count") then Some true else None
+tail_of _ = None
+
+abbrev pub table_read : Piece → Option Bool → Command
+table_read name (Some counted) = Query (record { table = identifier_of name; counted = counted })
+table_read name None = Unbuilt
+
+-- NAME, or NAME `|` `count`
+abbrev pub query_of_pieces : List Piece → Command
+query_of_pieces [] = Unbuilt
+query_of_pieces (name ∷ rest) = if is_source_name name.text then table_read name (tail_of rest) else Unbuilt
+
+-- the command, or another where it is none
+abbrev pub or_else : Command → Command → Command
+or_else (CreateTable name columns) other = CreateTable name columns
+or_else (Ingest table body) other = Ingest table body
+or_else (Query query) other = Query query
+or_else Unbuilt other = other
+
 abbrev pub command_of : List ℕ → Command
-command_of text = command_of_pieces (pieces text)
+command_of text = or_else (command_of_pieces (pieces text)) (or_else (ingest_of_pieces text (pieces text)) (query_of_pieces (pieces text)))
 
 -- a text that is UTF-8 reads as its command, and another as its first byte that isn't; want of memory is free
 abbrev pub Reads : List ℕ → Result Command CommandFault → Type 0

@@ -2,7 +2,7 @@
 ghost use Rattle.std.specs.Prelude.{◌≡◌, IfOk};
 
 use crate::columns::{Columns, Identifier};
-use kq_value::Memory;
+use kq_value::{Bytes, Memory};
 use std::alloc::{AllocError, AllocFailed};
 
 /// What a text asks for.
@@ -10,8 +10,30 @@ use std::alloc::{AllocError, AllocFailed};
 pub enum Command {
     /// `.create table NAME (COLUMN:TYPE, ..)`
     CreateTable { name: Identifier, columns: Columns },
+    /// `.ingest inline into table NAME <|` and the rows behind it, as bytes of CSV.
+    Ingest { table: Identifier, body: Bytes },
+    /// A query.
+    Query(Query),
     /// A form that isn't built yet.
     Unbuilt,
+}
+
+/// `NAME` or `NAME | count`: a table's rows, or their number where `counted` is set.
+#[derive(Debug, Drop)]
+pub struct Query {
+    pub table: Identifier,
+    pub counted: bool,
+}
+
+impl Query {
+    pub fn clone_in(&self) -> Result<Query, Memory>
+        ensures { IfOk result (λ q. q ≡ self.now) }
+    {
+        Ok(Query {
+            table: self.table.clone_in()?,
+            counted: self.counted,
+        })
+    }
 }
 
 impl Command {
@@ -23,6 +45,11 @@ impl Command {
                 name: name.clone_in()?,
                 columns: columns.clone_in()?,
             }),
+            Command::Ingest { table, body } => Ok(Command::Ingest {
+                table: table.clone_in()?,
+                body: body.clone_in()?,
+            }),
+            Command::Query(query) => Ok(Command::Query(query.clone_in()?)),
             Command::Unbuilt => Ok(Command::Unbuilt),
         }
     }

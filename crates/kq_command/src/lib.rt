@@ -12,5 +12,5 @@ mod tests;
 mod words;
 
 pub use columns::{Column, Columns, Identifier};
-pub use command::{Command, CommandFault};
+pub use command::{Command, CommandFault, Query};
 pub use read::read_command;

@@ -1,6 +1,6 @@
 // The pieces of a text.
-ghost use Rattle.std.specs.Prelude.{◌≡◌, ◌<◌, ◌≤◌, [], ◌∷◌, false, drop, length, slice_index, slice_range, MatchOption};
-ghost use Rattle.kq_command.specs.Pieces.{is_white as white, begins_name as begins, in_word as inside, pieces, pieces_from};
+ghost use Rattle.std.specs.Prelude.{◌≡◌, ◌<◌, ◌≤◌, ◌+◌, nat_eq, [], ◌∷◌, false, drop, length, slice_index, slice_range, MatchOption};
+ghost use Rattle.kq_command.specs.Pieces.{is_white as white, begins_name as begins, in_word as inside, without_white, pieces, pieces_from};
 ghost use Rattle.kq_command.specs.Reads.{same};
 
 use std::marker::Model;
@@ -31,6 +31,13 @@ impl<'a> Piece<'a> {
         ensures { result.now ≡ self.now.text }
     {
         self.text
+    }
+
+    /// Whether it stands right behind the first byte of the other.
+    pub(crate) fn comes_behind(&self, other: &Piece) -> bool
+        ensures { result ≡ nat_eq self.now.at (other.now.at + 1) }
+    {
+        self.at > other.at && self.at - other.at == 1
     }
 
     pub(crate) fn is(&self, text: &[u8]) -> bool
@@ -89,12 +96,13 @@ impl<'a> Pieces<'a> {
 }
 
 /// The offset of the first byte from here on that isn't white space, or the text's length.
-fn skip_white(text: &[u8], at: usize) -> usize
+pub(crate) fn skip_white(text: &[u8], at: usize) -> usize
     requires { at ≤ length text.now }
     ensures after { at ≤ result }
     ensures within { result ≤ length text.now }
     ensures same { pieces_from at (drop at text.now) ≡ pieces_from result (drop result text.now) }
     ensures stops { result < length text.now → white (slice_index text.now result) ≡ false }
+    ensures skipped { drop result text.now ≡ without_white (drop at text.now) }
 {
     let mut start = at;
     while start < text.len() && is_white(text[start]) {

@@ -3,10 +3,21 @@ use crate::{Column, Command, CommandFault, read_command};
 use kq_value::{Memory, Ty};
 use std::process::Abort;
 
-/// `NAME@PLACE` and then each column as ` NAME@PLACE:TYPE`, TYPE by its place in the order of types.
+/// `NAME@PLACE` and then each column as ` NAME@PLACE:TYPE`, TYPE by its place in the order of types; an ingestion as
+/// `NAME@PLACE < ROWS`, a query as `NAME@PLACE rows` or `NAME@PLACE count`.
 fn shown(rt: &HostRuntime, command: &Command) -> Result<String, Memory> {
     match command {
         Command::Unbuilt => String::from_str(rt.alloc(), "unbuilt"),
+        Command::Ingest { table, body } => format!(in rt.alloc();
+            "{}@{} < {:?}",
+            table.text.as_str(),
+            table.at,
+            body.as_slice()
+        ),
+        Command::Query(query) => {
+            let what = if query.counted { "count" } else { "rows" };
+            format!(in rt.alloc(); "{}@{} {what}", query.table.text.as_str(), query.table.at)
+        }
         Command::CreateTable { name, columns } => {
             let mut text = format!(in rt.alloc(); "{}@{}", name.text.as_str(), name.at)?;
             for column in columns.as_slice() {
@@ -71,7 +82,27 @@ fn texts_read_as_their_commands(rt: HostRuntime) -> Result<(), Memory> {
         (".Create table E (k:long)", "unbuilt"),
         ("..create table E (k:long)", "unbuilt"),
         (".create table E [k:long]", "unbuilt"),
-        ("E | count", "unbuilt"),
+        ("E", "E@0 rows"),
+        (" E\n", "E@1 rows"),
+        ("E | count", "E@0 count"),
+        ("E|count", "E@0 count"),
+        ("count | count", "count@0 count"),
+        ("E | Count", "unbuilt"),
+        ("E | | count", "unbuilt"),
+        ("E | count | count", "unbuilt"),
+        ("E count", "unbuilt"),
+        ("print", "unbuilt"),
+        ("by", "unbuilt"),
+        (".ingest inline into table E <|\n1,2", "E@26 < [49, 44, 50]"),
+        (".ingest inline into table E <|", "E@26 < []"),
+        (
+            ".ingest inline into table E<| \t\r\n 1 \n",
+            "E@26 < [49, 32, 10]",
+        ),
+        (".ingest inline into table E < | 1", "unbuilt"),
+        (".ingest inline into table <| 1", "unbuilt"),
+        (".ingest into table E <| 1", "unbuilt"),
+        (".ingest inline into table by <| 1", "unbuilt"),
     ] {
         let Ok(command) = read_command(rt.alloc(), text.as_bytes()) else {
             panic!(rt; "{text}");

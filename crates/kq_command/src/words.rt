@@ -2,7 +2,7 @@
 ghost use Rattle.std.specs.Prelude.{◌≡◌, ◌&&◌};
 ghost use Rattle.std.specs.List.{list_all, list_any};
 ghost use Rattle.kq_command.specs.Pieces.{in_word as inside};
-ghost use Rattle.kq_command.specs.Reads.{begins, same, is_one_of as among, reserved, literal_words, is_name as named, is_table_name as names_table, ty_of as type_of};
+ghost use Rattle.kq_command.specs.Reads.{begins, same, is_one_of as among, reserved, literal_words, is_name as named, is_table_name as names_table, is_source_name as names_source, source_words, ty_of as type_of};
 
 use crate::pieces::{begins_name, in_word};
 use kq_value::Ty;
@@ -19,6 +19,20 @@ pub(crate) fn is_table_name(text: &[u8]) -> bool
     ensures { result ≡ names_table text.now }
 {
     is_name(text) && !begins_literal(text)
+}
+
+/// Whether it is a name that a query may begin with, which no word of another source is.
+pub(crate) fn is_source_name(text: &[u8]) -> bool
+    ensures { result ≡ names_source text.now }
+{
+    is_name(text) && !begins_source(text)
+}
+
+fn begins_source(text: &[u8]) -> bool
+    ensures { result ≡ among source_words text.now }
+{
+    let words = ["print", "range", "datatable", "union", "materialized_view"];
+    is_one_of(&words, text)
 }
 
 fn is_word(text: &[u8]) -> bool
