@@ -1,5 +1,7 @@
 // What is staged.
-use kq_model::{Event, Table};
+use crate::header::Header;
+use kq_extent::Extent;
+use kq_model::Table;
 use std::alloc::{AllocError, AllocFailed, Global};
 use std::sync::Arc;
 
@@ -35,9 +37,38 @@ impl<T: Drop> From<AllocFailed<T>> for CatalogFault {
     }
 }
 
-/// An event that is ready to be appended, with the table that it makes.
+/// An extent, with the number of the table that it goes to.
+#[derive(Drop)]
+pub struct Placed {
+    pub table: u32,
+    pub extent: Arc<Extent, Global>,
+}
+
+/// What is put in beside the event.
+#[derive(Drop)]
+pub enum Makes {
+    Table(Arc<Table, Global>),
+    Extents(Vec<Placed>),
+}
+
+impl Makes {
+    ghost use Rattle.std.specs.Prelude.{◌≡◌};
+    ghost use Rattle.kq_catalog.specs.Staged.{extents_made};
+
+    /// The extents, none where a table is made.
+    pub fn extents(&self) -> &[Placed]
+        ensures { result.now ≡ extents_made self.now }
+    {
+        match self {
+            Makes::Table(_table) => &[],
+            Makes::Extents(placed) => placed.as_slice(),
+        }
+    }
+}
+
+/// An event that is ready to be appended, with what it makes.
 #[derive(Drop)]
 pub struct Change {
-    pub event: Arc<Event, Global>,
-    pub table: Arc<Table, Global>,
+    pub header: Arc<Header, Global>,
+    pub makes: Makes,
 }
