@@ -1,23 +1,38 @@
 -- When a reply fits, and what one call of the engine does.
-use Rattle.std.specs.Prelude.{◌≡◌, ◌≤◌, ◌⊎◌, ℕ, ℤ, Bool, true, false, List, [], ◌∷◌, ◌++◌, length, take, Some, None, Result, Ok, Err}
+use Rattle.std.specs.Prelude.{◌≡◌, ◌≤◌, ◌⊎◌, ℕ, ℤ, All, Bool, true, false, List, [], ◌∷◌, ◌++◌, length, take, Some, None, Result, Ok, Err}
 use Rattle.kq_model.specs.declared.event.By.{By}
 use Rattle.kq_model.specs.declared.event.Commit.{Commit}
 use Rattle.kq_model.specs.declared.event.Operation.TheVariants as operation
 use Rattle.kq_model.specs.declared.limits.Limits.{Limits}
-use Rattle.kq_model.specs.History.{History, CommitAt, log, commits_at}
+use Rattle.kq_model.specs.declared.batch.Batch.{Batch}
+use Rattle.kq_model.specs.History.{History, CommitAt, log, tables, Numbered, table_numbered, commits_at}
+use Rattle.kq_value.specs.Typed.{HasTypes}
+use Rattle.kq_command.specs.declared.columns.Identifier.{Identifier}
 use Rattle.kq_command.specs.declared.command.Command.{Command}
+use Rattle.kq_command.specs.declared.command.Command.TheVariants.{CreateTable, Ingest, Query, Unbuilt}
+use Rattle.kq_ingest.specs.Ingestion.{AreLongs, rows_of, first_fault}
 use Rattle.kq_reply.specs.declared.refusal.Refusal.{Refusal}
 use Rattle.kq_reply.specs.declared.refusal.Refusal.TheVariants as refusals
 use Rattle.kq_reply.specs.declared.reply.Reply.{Reply}
 use Rattle.kq_reply.specs.declared.reply.Reply.TheVariants as replies
 use Rattle.kq_engine.specs.declared.work.Outcome.{Outcome}
 use Rattle.kq_engine.specs.declared.work.Prepared.{Prepared}
+use Rattle.kq_engine.specs.declared.work.Ready.{Ready}
+use Rattle.kq_engine.specs.declared.work.Ready.TheVariants as readies
 use Rattle.kq_engine.specs.declared.work.Work.{Work}
-use Rattle.kq_engine.specs.Accept.{Accept}
+use Rattle.kq_engine.specs.Accept.{Accept, batch_of}
+use Rattle.kq_engine.specs.Queries.{AnswersQuery}
+
+-- the reply that is due without a commit
+abbrev pub IsDue : Limits → History → Command → Reply → Type 0
+IsDue limits h (CreateTable name columns) reply = Accept limits (log h) (CreateTable name columns) reply None
+IsDue limits h (Ingest table body) reply = Accept limits (log h) (Ingest table body) reply None
+IsDue limits h (Query query) reply = AnswersQuery h query reply
+IsDue limits h Unbuilt reply = Accept limits (log h) Unbuilt reply None
 
 -- a reply without a commit: the one that is due, or want of memory
 abbrev pub Answers : Limits → History → Command → Reply → Type 0
-Answers limits h command reply = (reply ≡ replies.Refused refusals.Memory) ⊎ Accept limits (log h) command reply None
+Answers limits h command reply = (reply ≡ replies.Refused refusals.Memory) ⊎ IsDue limits h command reply
 
 -- the reply fits this whole history: with `own`, its last event is the command's commit
 abbrev pub FitsNow : Limits → History → By → Command → ℤ → Bool → Reply → Type 0
@@ -29,9 +44,38 @@ pub record Fits (limits : Limits) (h : History) (mark : By) (command : Command) 
   pub within : place ≤ length h
   pub at : FitsNow limits (take place h) mark command now own reply
 
+-- the batch was read for a table of this history
+pub record IsBatch (limits : Limits) (h : History) (table : Identifier) (body : List ℕ) (batch : Batch) : Type 0 where
+  pub found : Numbered
+  pub named : table_numbered table.text (tables (log h)) ≡ Some found
+  pub longs : AreLongs found.table.schema
+  pub good : first_fault found.table.schema false limits.batch body ≡ None
+  pub typed : All (HasTypes found.table.schema) (rows_of found.table.schema false body)
+  pub is : batch ≡ batch_of found body
+
+abbrev pub IsRead : Limits → History → Command → Batch → Type 0
+IsRead limits h (Ingest table body) batch = IsBatch limits h table body batch
+IsRead limits h (CreateTable name columns) batch = ⊥
+IsRead limits h (Query query) batch = ⊥
+IsRead limits h Unbuilt batch = ⊥
+
+-- nothing but the catalogue tells the reply
+abbrev pub IsPending : Command → Type 0
+IsPending (CreateTable name columns) = Unit {0}
+IsPending Unbuilt = Unit {0}
+IsPending (Ingest table body) = ⊥
+IsPending (Query query) = ⊥
+
+-- what was found on a snapshot of this history holds over it
+abbrev pub IsReady : Limits → History → Command → Ready → Type 0
+IsReady limits h command (readies.Answered reply) = Answers limits h command reply
+IsReady limits h command (readies.Read batch) = IsRead limits h command batch
+IsReady limits h command readies.Pending = IsPending command
+
 -- prepared on a snapshot of this history
 pub record IsPrepared (limits : Limits) (h : History) (prepared : Prepared) : Type 0 where
   pub at : prepared.place ≡ length h
+  pub is_ready : IsReady limits h prepared.work.command prepared.ready
 
 -- what `begin` gives
 pub record Begins (limits : Limits) (h : History) (work : Work) (prepared : Prepared) : Type 0 where

@@ -1,15 +1,19 @@
 //! The core: what a command answers and commits, on a snapshot and on the catalogue, for every interleaving of commands.
 //!
-//! `begin` prepares work on a snapshot, `finish` makes at most one event on the catalogue as it stands. Reading texts,
-//! printing replies and going along a script are left to other crates.
+//! `begin` prepares work on a snapshot, `finish` makes at most one event on the catalogue as it stands; `Shared` does
+//! both for many threads, over one lock. Reading texts, printing replies and going along a script are left to other
+//! crates.
 #![tactic(auto)]
 
 mod on_catalog;
 mod on_snapshot;
+mod query;
 mod run;
+mod shared;
 mod work;
 
-pub use on_catalog::{apply, finish};
+pub use on_catalog::finish;
 pub use on_snapshot::begin;
 pub use run::{Step, Told, Trace, run_steps};
-pub use work::{Outcome, Prepared, Work};
+pub use shared::{Pass, Shared};
+pub use work::{Outcome, Prepared, Ready, Work};

@@ -1,16 +1,16 @@
 // What a command does to the catalogue.
-ghost use Rattle.std.specs.Prelude.{◌≡◌, take, length};
+ghost use Rattle.std.specs.Prelude.{◌≡◌, take};
 ghost use Rattle.kq_command.specs.declared.command.Command.TheVariants as commands;
 ghost use Rattle.kq_model.specs.History.{log, tables, table_named};
 ghost use Rattle.kq_catalog.specs.Seen.{hist};
 ghost use Rattle.kq_engine.specs.Accept.{kept_at};
-ghost use Rattle.kq_engine.specs.Fits.{IsPrepared, Acts, Advances, outcome_of};
+ghost use Rattle.kq_engine.specs.Fits.{IsPrepared, IsPending, IsRead, Acts, Advances, outcome_of};
 
-use crate::on_snapshot::{begin, repeated_place};
-use crate::work::{Outcome, Prepared, Work};
+use crate::on_snapshot::repeated_place;
+use crate::work::{Outcome, Prepared, Ready, Work};
 use kq_catalog::{Catalog, CatalogFault};
 use kq_command::{Columns, Command, Identifier};
-use kq_model::By;
+use kq_model::{Batch, Batches, By, Failures};
 use kq_reply::{Refusal, Reply};
 use kq_value::{Schema, Text};
 
@@ -21,15 +21,52 @@ pub fn finish(catalog: &mut Catalog, prepared: Prepared) -> Result<Outcome, Refu
     ensures limits { catalog.new.limits ≡ catalog.old.limits }
     ensures step { Advances catalog.old.limits (hist catalog.old) (hist catalog.new) prepared.work prepared.place (outcome_of (hist catalog.new) result) }
 {
-    commit(catalog, &prepared.work)
+    let Prepared { work, place, ready } = prepared;
+    match ready {
+        Ready::Answered(reply) => Ok(Outcome {
+            place,
+            own: false,
+            reply,
+        }),
+        Ready::Read(batch) => ingest(catalog, &work, batch),
+        Ready::Pending => commit(catalog, &work),
+    }
+}
+
+// Puts in the batch of an ingestion.
+fn ingest(catalog: &mut Catalog, work: &Work, batch: Batch) -> Result<Outcome, Refusal>
+    requires { IsRead catalog.old.limits (hist catalog.old) work.now.command batch }
+    ensures limits { catalog.new.limits ≡ catalog.old.limits }
+    ensures acts { Acts catalog.old.limits (hist catalog.old) (hist catalog.new) work.entry.now.by work.entry.now.command (outcome_of (hist catalog.new) result) }
+{
+    let rows = batch.rows.len() as u64;
+    let alloc = catalog.allocator();
+    let mut batches = Batches::new(alloc);
+    batches.push(batch)?;
+    match catalog.stage_ingest(work.by, batches, Failures::new(alloc)) {
+        Ok(staged) => {
+            catalog.reserve(&staged)?;
+            let place = catalog.commit_ready(staged);
+            let cursor = catalog.cursor();
+            Ok(Outcome {
+                place,
+                own: true,
+                reply: Reply::Ingested { cursor, rows },
+            })
+        }
+        Err(CatalogFault::Full { limit }) => Err(Refusal::Full { limit }),
+        Err(CatalogFault::Exists | CatalogFault::Memory) => Err(Refusal::Memory),
+    }
 }
 
 fn commit(catalog: &mut Catalog, work: &Work) -> Result<Outcome, Refusal>
+    requires { IsPending work.now.command }
     ensures limits { catalog.new.limits ≡ catalog.old.limits }
     ensures acts { Acts catalog.old.limits (hist catalog.old) (hist catalog.new) work.entry.now.by work.entry.now.command (outcome_of (hist catalog.new) result) }
 {
     match &work.command {
         Command::CreateTable { name, columns } => create(catalog, work.by, name, columns),
+        Command::Ingest { .. } | Command::Query(_) => unreachable!(),
         Command::Unbuilt => Err(Refusal::Unbuilt),
     }
 }
@@ -95,22 +132,5 @@ pub(crate) fn told(catalog: &Catalog, answer: Result<Outcome, Refusal>) -> Outco
             own: false,
             reply: Reply::Refused(refusal),
         },
-    }
-}
-
-/// Begins and finishes the work at once.
-pub fn apply(catalog: &mut Catalog, work: Work) -> Outcome
-    ensures limits { catalog.new.limits ≡ catalog.old.limits }
-    ensures step { Advances catalog.old.limits (hist catalog.old) (hist catalog.new) work (length (hist catalog.old)) result }
-{
-    let Ok(snapshot) = catalog.snapshot() else {
-        return told(catalog, Err(Refusal::Memory));
-    };
-    match begin(&snapshot, work) {
-        Ok(prepared) => {
-            let answer = finish(catalog, prepared);
-            told(catalog, answer)
-        }
-        Err(refusal) => told(catalog, Err(refusal)),
     }
 }

@@ -2,7 +2,7 @@
 ghost use Rattle.std.specs.Prelude.{◌≡◌, IfOk};
 
 use kq_command::Command;
-use kq_model::By;
+use kq_model::{Batch, By};
 use kq_reply::Reply;
 use kq_value::Memory;
 
@@ -35,9 +35,21 @@ pub struct Outcome {
     pub reply: Reply,
 }
 
-/// Work, and the place of the snapshot on which it was prepared.
+/// What was found on a snapshot.
+#[derive(Debug, Drop)]
+pub enum Ready {
+    /// The reply, which the snapshot tells whole.
+    Answered(Reply),
+    /// The rows of an ingestion, read for their table.
+    Read(Batch),
+    /// Nothing: the catalogue alone tells what is due.
+    Pending,
+}
+
+/// Work, the place of the snapshot on which it was prepared, and what was found there.
 #[derive(Debug, Drop)]
 pub struct Prepared {
     pub work: Work,
     pub place: u64,
+    pub ready: Ready,
 }

@@ -1,0 +1,39 @@
+-- How many commits a history has, and how many one outcome made.
+use Rattle.std.proofs.Common.{◌≡◌, ℕ, ◌+◌, Bool, true, false, [], ◌∷◌, ◌++◌, length, refl, ap, sym, ◌∙◌, arith, length-append}
+use Rattle.std.proofs.lemmas.List.{length-map}
+use mathlib.Core.List.{IsPrefix}
+use Rattle.kq_turn.specs.Histories.{gained}
+use Rattle.kq_turn.proofs.Beginnings.{append-gained}
+use Rattle.kq_model.specs.declared.event.By.{By}
+use Rattle.kq_model.specs.declared.event.Commit.{Commit}
+use Rattle.kq_model.specs.History.{History, CommitAt, log, cursor, commits_of, commit_at, commits_from, commits_at}
+use Rattle.kq_model.proofs.Histories.{log-append}
+use Rattle.kq_engine.specs.Fits.{own_commit}
+use Rattle.kq_engine.specs.Shared.{made_by}
+
+length-commits_from : (n : ℕ) (h : History) → length (commits_from n h) ≡ cursor h
+length-commits_from n [] = refl
+length-commits_from n (e ∷ h) =
+    length-append (commit_at e (n + 1)) (commits_from (n + 1) h)
+    ∙ ap (λ (k : ℕ). length (commit_at e (n + 1)) + k) (length-commits_from (n + 1) h)
+    ∙ ap (λ (k : ℕ). k + cursor h) (length-map (commits_of e.operation) (λ (c : Commit). let m : CommitAt = record { place = n + 1; by = e.by } in m))
+    ∙ sym (length-append (commits_of e.operation) (log h))
+
+-- as many as the cursor says
+pub length-commits_at : (h : History) → length (commits_at h) ≡ cursor h
+length-commits_at h = length-commits_from 0 h
+
+pub length-own_commit : (own : Bool) (place : ℕ) (by : By) → length (own_commit own place by) ≡ made_by own
+length-own_commit true place by = refl
+length-own_commit false place by = refl
+
+cursor-append : (h more : History) → cursor (h ++ more) ≡ cursor h + cursor more
+cursor-append h more = ap length (log-append h more) ∙ length-append (log h) (log more)
+
+-- what a history gained has just the commits of the outcome that it gained them by
+pub cursor-gained : (old new : History) (own : Bool) (place : ℕ) (by : By) → IsPrefix old new → commits_at new ≡ commits_at old ++ own_commit own place by → cursor (gained old new) ≡ made_by own
+cursor-gained old new own place by begins commits =
+    let whole : cursor old + cursor (gained old new) ≡ cursor new = sym (cursor-append old (gained old new)) ∙ ap cursor (append-gained old new begins) in
+    let more : cursor new ≡ length (commits_at old) + made_by own = sym (length-commits_at new) ∙ ap length commits ∙ length-append (commits_at old) (own_commit own place by) ∙ ap (λ (k : ℕ). length (commits_at old) + k) (length-own_commit own place by) in
+    let before : length (commits_at old) ≡ cursor old = length-commits_at old in
+    omega (arith, whole, more, before)

@@ -1,0 +1,78 @@
+-- What contracts see of the shared engine and of its passes, and what a call does to a pass.
+use Rattle.std.specs.Prelude.{◌≡◌, ◌+◌, ◌≤◌, ℕ, Bool, false, List, [], ◌∷◌, ◌++◌, length, if◌then◌else◌}
+use mathlib.Core.List.{IsPrefix}
+use Rattle.kq_turn.specs.Passes.{TurnId}
+use Rattle.kq_model.specs.declared.limits.Limits.{Limits}
+use Rattle.kq_model.specs.History.{History}
+use Rattle.kq_engine.specs.declared.work.Outcome.{Outcome}
+use Rattle.kq_engine.specs.declared.work.Work.{Work}
+use Rattle.kq_command.specs.declared.command.Command.TheVariants as commands
+use Rattle.kq_command.specs.declared.command.Query.{Query}
+use Rattle.kq_engine.specs.Fits.{Answers, Fits}
+
+-- which lock it is, and the limits of the catalogue behind it
+pub record SharedView : Type 0 where
+  pub turn : TurnId
+  pub limits : Limits
+
+-- the lock that it is a pass of, what it has seen, its worth, the number of client commits made through it, and the
+-- length of each history that it took
+pub record PassView : Type 0 where
+  pub of : TurnId
+  pub seen : History
+  pub worth : ℕ
+  pub made : ℕ
+  pub taken : List ℕ
+
+-- the number of commits of an outcome
+abbrev pub made_by : Bool → ℕ
+made_by own = if own then 1 else 0
+
+-- one take or two, and the place is at least what the first found
+pub record TakesOneOrTwo (old new : List ℕ) (place : ℕ) : Type 0 where
+  pub first : ℕ
+  pub more : List ℕ
+  pub gains : new ≡ old ++ first ∷ more
+  pub few : length more ≤ 1
+  pub since : first ≤ place
+
+-- a command went through the pass: its outcome fits what the pass has then seen, at a place not below what it had seen
+pub record Applies (limits : Limits) (old new : PassView) (work : Work) (outcome : Outcome) : Type 0 where
+  pub of : new.of ≡ old.of
+  pub worth : new.worth ≡ old.worth
+  pub seen : IsPrefix old.seen new.seen
+  pub takes : TakesOneOrTwo old.taken new.taken outcome.place
+  pub made : new.made ≡ old.made + made_by outcome.own
+  pub fits : Fits limits new.seen work.by work.command work.now outcome.place outcome.own outcome.reply
+  pub since : length old.seen ≤ outcome.place
+
+-- prepared work was finished under one take
+pub record Finishes (limits : Limits) (old new : PassView) (work : Work) (outcome : Outcome) : Type 0 where
+  pub of : new.of ≡ old.of
+  pub worth : new.worth ≡ old.worth
+  pub seen : IsPrefix old.seen new.seen
+  pub took : ℕ
+  pub taken : new.taken ≡ old.taken ++ took ∷ []
+  pub made : new.made ≡ old.made + made_by outcome.own
+  pub fits : Fits limits new.seen work.by work.command work.now outcome.place outcome.own outcome.reply
+  pub since : length old.seen ≤ outcome.place
+
+-- prepared work was concluded: it was answered already, or finished under one take
+pub record Concludes (limits : Limits) (old new : PassView) (work : Work) (outcome : Outcome) : Type 0 where
+  pub of : new.of ≡ old.of
+  pub worth : new.worth ≡ old.worth
+  pub seen : IsPrefix old.seen new.seen
+  pub more : List ℕ
+  pub few : length more ≤ 1
+  pub taken : new.taken ≡ old.taken ++ more
+  pub made : new.made ≡ old.made + made_by outcome.own
+  pub fits : Fits limits new.seen work.by work.command work.now outcome.place outcome.own outcome.reply
+  pub since : length old.seen ≤ outcome.place
+
+-- a query went through the pass: one take, no commit, and the outcome is an answer over what the pass has then seen
+pub record Queries (limits : Limits) (old new : PassView) (query : Query) (outcome : Outcome) : Type 0 where
+  pub seen : IsPrefix old.seen new.seen
+  pub pass : new ≡ record old { seen = new.seen; taken = old.taken ++ length new.seen ∷ [] }
+  pub place : outcome.place ≡ length new.seen
+  pub own : outcome.own ≡ false
+  pub answers : Answers limits new.seen (commands.Query query) outcome.reply

@@ -1,0 +1,113 @@
+// Queries.
+ghost use Rattle.std.specs.Prelude.{◌≡◌, ◌<◌, ◌++◌, ◌^◌, [], ◌∷◌, All, Some, IfOk, IfErr, OnOk, pos, false, length, map};
+ghost use Rattle.kq_value.specs.declared.value.Value.TheVariants as values;
+ghost use Rattle.kq_extent.specs.Seen.{row_of};
+ghost use Rattle.kq_model.specs.Gives.{count_columns};
+ghost use Rattle.kq_command.specs.declared.command.Command.TheVariants as commands;
+ghost use Rattle.kq_catalog.specs.Held.{records_in};
+ghost use Rattle.kq_reply.specs.declared.reply.Reply.TheVariants as replies;
+ghost use Rattle.std.specs.List.{slice_get};
+ghost use Rattle.kq_value.specs.Typed.{HasTypes};
+ghost use Rattle.kq_model.specs.History.{log, tables};
+ghost use Rattle.kq_engine.specs.Fits.{Answers};
+ghost use Rattle.kq_engine.specs.Queries.{Gives};
+
+use kq_catalog::Snapshot;
+use kq_command::Query;
+use kq_extent::{Extent, ExtentList};
+use kq_model::{Answer, Table};
+use kq_reply::{Refusal, Reply, render};
+use kq_value::{Field, Memory, Row, Rows, Schema, Text, Ty, Value};
+use std::alloc::Global;
+
+/// The answer to a query, from the snapshot alone.
+pub(crate) fn answer(snapshot: &Snapshot, query: &Query) -> Result<Reply, Refusal>
+    ensures answer { IfOk result (Answers snapshot.now.limits snapshot.now.history (commands.Query query.now)) }
+    ensures refused { IfErr result (λ r. Answers snapshot.now.limits snapshot.now.history (commands.Query query.now) (replies.Refused r)) }
+{
+    let Some((number, table)) = snapshot.table(&query.table.text) else {
+        return Err(Refusal::Unknown {
+            at: query.table.at as u64,
+        });
+    };
+    let answer = evaluate(snapshot, number, table, query.counted)?;
+    Ok(Reply::Rows {
+        text: render(snapshot.allocator(), &answer)?,
+    })
+}
+
+// The rows of a table, or their number.
+fn evaluate(
+    snapshot: &Snapshot,
+    number: u32,
+    table: &Table,
+    counted: bool,
+) -> Result<Answer, Memory>
+    requires { slice_get (tables (log snapshot.now.history)) number ≡ Some table.now }
+    ensures given { IfOk result (Gives snapshot.now.history (record { number = number; table = table.now }) counted) }
+    ensures typed { IfOk result (λ a. All (HasTypes a.schema) a.rows) }
+{
+    let alloc = snapshot.allocator();
+    let extents = snapshot.extents(number);
+    if counted {
+        return count(alloc, rows_held(extents));
+    }
+    Ok(Answer {
+        schema: table.schema.clone_in()?,
+        ordered: false,
+        rows: all_rows(alloc, extents)?,
+    })
+}
+
+// One row: the number.
+fn count(alloc: Global, rows: u64) -> Result<Answer, Memory>
+    requires { rows < 2 ^ 63 }
+    ensures { IfOk result (λ a. a ≡ record { schema = count_columns; ordered = false; rows = (values.Long (pos rows) ∷ []) ∷ [] }) }
+{
+    let mut schema = Schema::new(alloc);
+    schema.push(Field {
+        name: Text::from_str(alloc, "Count")?,
+        ty: Ty::Long,
+    })?;
+    let mut row = Row::new(alloc);
+    row.push(Value::Long(rows as i64))?;
+    let mut rows = Rows::new(alloc);
+    rows.push(row)?;
+    Ok(Answer {
+        schema,
+        ordered: false,
+        rows,
+    })
+}
+
+// The number of records in the extents.
+fn rows_held(extents: &ExtentList) -> u64
+    requires { length (records_in extents.now.extents) < 2 ^ 63 }
+    ensures { result ≡ length (records_in extents.now.extents) }
+{
+    let mut rows = 0;
+    for extent in extents.as_slice() {
+        rows += extent.len() as u64;
+    }
+    rows
+}
+
+// The rows of the extents, one after another.
+fn all_rows(alloc: Global, extents: &ExtentList) -> Result<Rows, Memory>
+    ensures { IfOk result (λ rows. rows ≡ map row_of (records_in extents.now.extents)) }
+{
+    let mut rows = Rows::new(alloc);
+    for extent in extents.as_slice() {
+        add_rows(&mut rows, extent)?;
+    }
+    Ok(rows)
+}
+
+fn add_rows(rows: &mut Rows, extent: &Extent) -> Result<(), Memory>
+    ensures { OnOk result (rows.new ≡ rows.old ++ map row_of extent.now.records) }
+{
+    for i in 0..extent.len() {
+        rows.push(extent.row(i)?)?;
+    }
+    Ok(())
+}
