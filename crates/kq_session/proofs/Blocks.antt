@@ -1,19 +1,24 @@
 -- What fits a block goes on to fit.
-use Rattle.std.proofs.Common.{◌≡◌, ℕ, ℤ, Bool, ◌++◌, List, length, [], false, refl, inr, subst, sym, arith, length-append, append-nil, Result, Ok, Err}
+use Rattle.std.proofs.Common.{◌≡◌, ℕ, ℤ, Bool, ◌++◌, ◌∷◌, List, length, [], true, false, refl, inl, inr, subst, sym, arith, length-append, append-nil, add-zero, Result, Ok, Err}
+use Rattle.kq_turn.proofs.Beginnings.{IsPrefix-refl}
 use Rattle.kq_model.specs.declared.event.By.{By}
 use Rattle.kq_model.specs.declared.limits.Limits.{Limits}
-use Rattle.kq_model.specs.History.{History, commits_at}
+use Rattle.kq_model.specs.History.{History}
 use Rattle.kq_command.specs.declared.command.Command.{Command}
 use Rattle.kq_command.specs.declared.command.CommandFault.{CommandFault}
 use Rattle.kq_command.specs.declared.command.CommandFault.TheVariants.{NotText, Memory}
+use Rattle.kq_command.specs.Reads.{Reads}
+use Rattle.kq_reply.specs.Number.{number_of}
 use Rattle.kq_reply.specs.declared.refusal.Refusal.{Refusal}
 use Rattle.kq_reply.specs.declared.refusal.Refusal.TheVariants as refusals
 use Rattle.kq_reply.specs.declared.reply.Reply.{Reply}
 use Rattle.kq_reply.specs.declared.reply.Reply.TheVariants as replies
 use Rattle.kq_engine.specs.declared.work.Outcome.{Outcome}
+use Rattle.kq_engine.specs.declared.work.Work.{Work}
+use Rattle.kq_engine.specs.Shared.{PassView, Applies}
 use Rattle.kq_script.specs.Script.{Block, command, too_long}
 use Rattle.kq_engine.proofs.Advancing.{Fits-append}
-use Rattle.kq_session.specs.Blocks.{Refuses, FitsRead, FitsBlock, Steps}
+use Rattle.kq_session.specs.Blocks.{Refuses, FitsRead, FitsBlock, Steps, is_early}
 
 Refuses-append : (h more : History) (place : ℕ) (own : Bool) (reply : Reply) (r : Refusal) → Refuses h place own reply r → Refuses (h ++ more) place own reply r
 Refuses-append h more place own reply r refuses = record {
@@ -36,16 +41,48 @@ FitsBlock-append limits h more mark (command text) now place own reply fits = re
 }
 FitsBlock-append limits h more mark (too_long bytes) now place own reply fits = Refuses-append h more place own reply _ fits
 
--- want of memory fits every text
-pub Steps-memory : (limits : Limits) (h : History) (by : By) (text : List ℕ) (now : ℤ) (outcome : Outcome) → outcome ≡ record { place = length h; own = false; reply = replies.Refused refusals.Memory } → Steps limits h h by (command text) now outcome
-Steps-memory limits h by text now outcome is = subst (λ (o : Outcome). Steps limits h h by (command text) now o) (sym is) (record {
-  goes_on = ([], sym (append-nil h));
-  commits = sym (append-nil (commits_at h));
-  fits = record {
-    read = Err Memory;
-    reads = tt;
-    fits = record { within = omega arith; not_own = refl; reason = inr refl };
-  };
+-- nothing was asked of the engine
+pub Steps-refused : (limits : Limits) (p : PassView) (by : By) (block : Block) (now : ℤ) (r : Refusal) (outcome : Outcome) → outcome ≡ record { place = length p.seen; own = false; reply = replies.Refused r } → is_early (number_of r) ≡ true → FitsBlock limits p.seen by block now (length p.seen) false (replies.Refused r) → Steps limits p p by block now outcome
+Steps-refused limits p by block now r outcome is early fits = subst (λ (o : Outcome). Steps limits p p by block now o) (sym is) (record {
+  of = refl;
+  worth = refl;
+  seen = IsPrefix-refl p.seen;
+  made = sym (add-zero p.made);
+  takes = [];
+  taken = sym (append-nil p.taken);
+  enough = early;
+  fits = fits;
   since = omega arith;
   within = omega arith;
 })
+
+-- a text that was refused
+pub Steps-text : (limits : Limits) (p : PassView) (by : By) (text : List ℕ) (now : ℤ) (at : ℕ) (outcome : Outcome) → outcome ≡ record { place = length p.seen; own = false; reply = replies.Refused (refusals.NotText at) } → Reads text (Err (NotText at)) → Steps limits p p by (command text) now outcome
+Steps-text limits p by text now at outcome is reads = Steps-refused limits p by (command text) now (refusals.NotText at) outcome is refl (record {
+  read = Err (NotText at);
+  reads = reads;
+  fits = record { within = omega arith; not_own = refl; reason = inl refl };
+})
+
+-- want of memory fits every text
+pub Steps-memory : (limits : Limits) (p : PassView) (by : By) (text : List ℕ) (now : ℤ) (outcome : Outcome) → outcome ≡ record { place = length p.seen; own = false; reply = replies.Refused refusals.Memory } → Steps limits p p by (command text) now outcome
+Steps-memory limits p by text now outcome is = Steps-refused limits p by (command text) now refusals.Memory outcome is refl (record {
+  read = Err Memory;
+  reads = tt;
+  fits = record { within = omega arith; not_own = refl; reason = inr refl };
+})
+
+-- the engine answered the command that the text reads as
+pub Steps-applied : (limits : Limits) (old new : PassView) (work : Work) (text : List ℕ) (outcome : Outcome) → Reads text (Ok work.command) → Applies limits old new work outcome → Steps limits old new work.by (command text) work.now outcome
+Steps-applied limits old new work text outcome reads applies = record {
+  of = applies.of;
+  worth = applies.worth;
+  seen = applies.seen;
+  made = applies.made;
+  takes = applies.takes.first ∷ applies.takes.more;
+  taken = applies.takes.gains;
+  enough = applies.takes.since;
+  fits = record { read = Ok work.command; reads = reads; fits = applies.fits };
+  since = applies.since;
+  within = applies.fits.within;
+}

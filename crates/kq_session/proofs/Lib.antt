@@ -1,3 +1,4 @@
 pub mod Blocks
-mod Serving
+pub mod Owned
+pub mod Serving
 mod Turning

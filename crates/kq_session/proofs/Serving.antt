@@ -1,21 +1,27 @@
 -- A session goes on by one turn.
-use Rattle.std.proofs.Common.{◌≡◌, ◌≤◌, ◌+◌, ℕ, List, [], ◌∷◌, ◌++◌, length, map, take, Some, None, Result, Ok, Err, true, ap, sym, ◌∙◌, subst, refl, arith, append-nil, append_assoc, length-append}
+use Rattle.std.proofs.Common.{◌≡◌, ◌≤◌, ◌+◌, ℕ, List, [], ◌∷◌, ◌++◌, length, map, take, Some, None, Result, Ok, Err, true, ap, sym, ◌∙◌, subst, refl, arith, append-nil, append_assoc, length-append, add-zero, zero-add}
+use mathlib.Core.List.{IsPrefix}
+use Rattle.kq_turn.proofs.Beginnings.{IsPrefix-refl, IsPrefix-trans}
+use Rattle.std.proofs.lemmas.List.Sums.{sum_by-append}
 use Rattle.std.proofs.lemmas.List.{map_push, flat_map_more, length_push}
 use Rattle.kq_world.specs.Told.{Adds, Loses}
 use Rattle.kq_world.specs.Outside.{Contents}
 use Rattle.kq_world.proofs.Told.{Loses-none, Adds-none, Loses-trans, Adds-trans, Adds-stays}
 use Rattle.kq_model.specs.declared.limits.Limits.{Limits}
-use Rattle.kq_model.specs.History.{History, commits_at}
+use Rattle.kq_model.specs.declared.event.By.{By}
+use Rattle.kq_model.specs.History.{History}
+use Rattle.kq_reply.specs.declared.reply.Reply.{Reply}
+use Rattle.kq_reply.specs.Number.{kind_of}
 use Rattle.kq_reply.specs.Text.{text_of}
 use Rattle.kq_script.specs.Script.{Block, script_blocks}
 use Rattle.kq_script.specs.Reading.{IsReading}
 use Rattle.kq_script.specs.declared.reader.ScriptReader.{ScriptReader}
-use Rattle.kq_engine.specs.Fits.{own_commit}
+use Rattle.kq_engine.specs.Shared.{PassView, made_by}
 use Rattle.kq_session.specs.declared.end.End.{End}
 use Rattle.kq_session.specs.declared.end.End.TheVariants.{Finished, Short, SourceFault, SinkFault, InputLimit}
 use Rattle.kq_session.specs.declared.receipt.Receipt.{Receipt}
-use Rattle.kq_session.specs.Blocks.{FitsBlock}
-use Rattle.kq_session.specs.Session.{Turn, IsTurn, AreTurns, AreWritten, Ends, GoesOn, blocks_of, moments_of, texts_of, own_commits, command_bytes, input_bytes}
+use Rattle.kq_session.specs.Blocks.{FitsBlock, Steps, AreTakes}
+use Rattle.kq_session.specs.Session.{Turn, IsTurn, AreTurns, AreWritten, Ends, Explained, GoesOn, blocks_of, moments_of, texts_of, owns, AreTaken, command_bytes, input_bytes}
 use Rattle.kq_session.specs.Turns.{Went, Idle, TurnBy}
 use Rattle.kq_session.proofs.Blocks.{FitsBlock-append}
 
@@ -44,20 +50,53 @@ last_place-within : (limits : Limits) (actor : ℕ) (h : History) (n q : ℕ) (t
 last_place-within limits actor h n q [] within all = within
 last_place-within limits actor h n q (t ∷ ts) within all = last_place-within limits actor h (n + 1) t.receipt.place ts all.2.within all.3
 
+AreTaken-push : (receipts : List Receipt) (r : Receipt) (taken takes : List ℕ) → AreTaken receipts taken → AreTakes r.kind r.place takes → AreTaken (receipts ++ r ∷ []) (taken ++ takes)
+AreTaken-push [] r taken takes all last = (takes, [], rw all (sym (append-nil takes)), last, refl)
+AreTaken-push (x ∷ receipts) r taken takes all last =
+    let more = all.1 in
+    (all.0, more ++ takes, ap (λ (l : List ℕ). l ++ takes) all.2 ∙ append_assoc all.0 more takes, all.3, AreTaken-push receipts r more takes all.4 last)
+
+owns-push : (receipts : List Receipt) (r : Receipt) → owns (receipts ++ r ∷ []) ≡ owns receipts + made_by r.own
+owns-push receipts r = sum_by-append (λ (x : Receipt). made_by x.own) receipts (r ∷ []) ∙ ap (λ (k : ℕ). owns receipts + k) (zero-add (made_by r.own))
+
+-- no receipt yet
+pub GoesOn-none : (p : PassView) → GoesOn p p []
+GoesOn-none p = record {
+  of = refl;
+  worth = refl;
+  seen = IsPrefix-refl p.seen;
+  made = sym (add-zero p.made);
+  more = [];
+  taken = sym (append-nil p.taken);
+  each_taken = refl;
+}
+
+-- one receipt more
+GoesOn-push : (limits : Limits) (first old new : PassView) (by : By) (block : Block) (receipts : List Receipt) (r : Receipt) (reply : Reply) → GoesOn first old receipts → r.kind ≡ kind_of reply → Steps limits old new by block r.moment (record { place = r.place; own = r.own; reply = reply }) → GoesOn first new (receipts ++ r ∷ [])
+GoesOn-push limits first old new by block receipts r reply goes_on kind step = record {
+  of = step.of ∙ goes_on.of;
+  worth = step.worth ∙ goes_on.worth;
+  seen = IsPrefix-trans first.seen old.seen new.seen goes_on.seen step.seen;
+  made = omega (arith, step.made, goes_on.made, owns-push receipts r);
+  more = goes_on.more ++ step.takes;
+  taken = step.taken ∙ ap (λ (l : List ℕ). l ++ step.takes) goes_on.taken ∙ append_assoc first.taken goes_on.more step.takes;
+  each_taken = AreTaken-push receipts r goes_on.more step.takes goes_on.each_taken (subst (λ (k : ℕ). AreTakes k r.place step.takes) (sym kind) step.enough);
+}
+
 -- the session before its n-th block
-pub record SoFar (limits : Limits) (actor : ℕ) (first h : History) (start now : Contents) (reader : ScriptReader) (receipts : List Receipt) (n : ℕ) : Type 0 where
+pub record SoFar (limits : Limits) (actor : ℕ) (first h : PassView) (start now : Contents) (reader : ScriptReader) (receipts : List Receipt) (n : ℕ) : Type 0 where
   pub turns : List Turn
   pub taken : List ℕ
   pub of_turns : receipts ≡ map (λ (t : Turn). t.receipt) turns
-  pub each : AreTurns limits h actor 0 0 turns
+  pub each : AreTurns limits h.seen actor 0 0 turns
   pub bytes : Loses start.left now.left taken
   pub reading : IsReading command_bytes input_bytes reader start.left now.left taken (blocks_of turns)
   pub moments : Adds start.readings now.readings (moments_of turns)
   pub written : Adds start.written now.written (texts_of turns)
-  pub goes_on : GoesOn first h actor receipts
+  pub goes_on : GoesOn first h receipts
   pub count : length turns + 1 ≡ n
 
-pub SoFar-none : (limits : Limits) (actor : ℕ) (h : History) (o : Contents) (reader : ScriptReader) → IsReading command_bytes input_bytes reader o.left o.left [] [] → SoFar limits actor h h o o reader [] 1
+pub SoFar-none : (limits : Limits) (actor : ℕ) (h : PassView) (o : Contents) (reader : ScriptReader) → IsReading command_bytes input_bytes reader o.left o.left [] [] → SoFar limits actor h h o o reader [] 1
 SoFar-none limits actor h o reader reading = record {
   turns = [];
   taken = [];
@@ -67,59 +106,52 @@ SoFar-none limits actor h o reader reading = record {
   reading = reading;
   moments = Adds-none o.readings;
   written = Adds-none o.written;
-  goes_on = record { begins = ([], sym (append-nil h)); commits = sym (append-nil (commits_at h)) };
+  goes_on = GoesOn-none h;
   count = refl;
 }
 
 texts_of-push : (turns : List Turn) (t : Turn) → texts_of (turns ++ t ∷ []) ≡ texts_of turns ++ text_of t.reply
 texts_of-push turns t = sym (flat_map_more (λ (u : Turn). text_of u.reply) [] turns t)
 
-GoesOn-push : (first old new : History) (actor : ℕ) (receipts : List Receipt) (r : Receipt) → GoesOn first old actor receipts → (more : History) → new ≡ old ++ more → commits_at new ≡ commits_at old ++ own_commit r.own r.place (record { actor = actor; number = r.number }) → GoesOn first new actor (receipts ++ r ∷ [])
-GoesOn-push first old new actor receipts r goes_on more is commits = record {
-  begins = (goes_on.begins.0 ++ more, is ∙ ap (λ (h : History). h ++ more) goes_on.begins.1 ∙ append_assoc first goes_on.begins.0 more);
-  commits = commits ∙ ap (λ l. l ++ own_commit r.own r.place (record { actor = actor; number = r.number })) goes_on.commits ∙ append_assoc (commits_at first) (own_commits actor receipts) (own_commit r.own r.place (record { actor = actor; number = r.number }))
-      ∙ ap (λ l. commits_at first ++ l) (flat_map_more (λ (x : Receipt). own_commit x.own x.place (record { actor = actor; number = x.number })) [] receipts r);
-}
-
 -- the turns with one more
-record More (limits : Limits) (actor : ℕ) (first new : History) (start now : Contents) (reader : ScriptReader) (receipts : List Receipt) (turns : List Turn) (n : ℕ) : Type 0 where
+record More (limits : Limits) (actor : ℕ) (first new : PassView) (start now : Contents) (reader : ScriptReader) (receipts : List Receipt) (turns : List Turn) (n : ℕ) : Type 0 where
   pub taken : List ℕ
   pub of_turns : receipts ≡ map (λ (t : Turn). t.receipt) turns
-  pub each : AreTurns limits new actor 0 0 turns
+  pub each : AreTurns limits new.seen actor 0 0 turns
   pub bytes : Loses start.left now.left taken
   pub reading : IsReading command_bytes input_bytes reader start.left now.left taken (blocks_of turns)
   pub moments : Adds start.readings now.readings (moments_of turns)
-  pub goes_on : GoesOn first new actor receipts
+  pub goes_on : GoesOn first new receipts
   pub count : length turns + 1 ≡ n
 
-more_by : {E : Type 0} (limits : Limits) (actor n : ℕ) (first old new : History) (start before now : Contents) (was reader : ScriptReader) (receipts more : List Receipt) (so_far : SoFar limits actor first old start before was receipts n) (result : Result (Unit {0}) E)
+more_by : {E : Type 0} (limits : Limits) (actor n : ℕ) (first old new : PassView) (start before now : Contents) (was reader : ScriptReader) (receipts more : List Receipt) (so_far : SoFar limits actor first old start before was receipts n) (result : Result (Unit {0}) E)
     → (went : Went limits (record { actor = actor; number = n }) old new start.left before now reader so_far.taken (blocks_of so_far.turns) receipts more result) → More limits actor first new start now reader more (so_far.turns ++ went.replied.turn ∷ []) (n + 1)
 more_by limits actor n first old new start before now was reader receipts more so_far result went =
     let t = went.replied.turn in
     let answered = went.replied.answered in
     let step = answered.step in
-    let grown = step.goes_on in
+    let grown = step.seen in
     let r = t.receipt in
     let turns = so_far.turns in
-    let low : last_place 0 turns ≤ length old = last_place-within limits actor old 0 0 turns (omega arith) so_far.each in
+    let low : last_place 0 turns ≤ length old.seen = last_place-within limits actor old.seen 0 0 turns (omega arith) so_far.each in
     let number : t.receipt.number ≡ 0 + length turns + 1 = omega (arith, answered.number, so_far.count) in
     record {
       taken = so_far.taken ++ went.reads.bytes;
       of_turns = answered.receipt ∙ ap (λ (l : List Receipt). l ++ r ∷ []) so_far.of_turns ∙ sym (map_push (λ (u : Turn). u.receipt) turns t);
-      each = AreTurns-push limits actor new 0 0 turns t (AreTurns-later limits actor old new grown.0 0 0 grown.1 turns so_far.each) number (omega (arith, low, step.since))
+      each = AreTurns-push limits actor new.seen 0 0 turns t (AreTurns-later limits actor old.seen new.seen grown.0 0 0 (sym grown.1) turns so_far.each) number (omega (arith, low, step.since))
           (record {
-            fits = subst (λ (m : ℕ). FitsBlock limits new (record { actor = actor; number = m }) t.block r.moment r.place r.own t.reply) (sym answered.number) step.fits;
+            fits = subst (λ (m : ℕ). FitsBlock limits new.seen (record { actor = actor; number = m }) t.block r.moment r.place r.own t.reply) (sym answered.number) step.fits;
             within = step.within;
             kind = answered.kind;
           });
       bytes = Loses-trans start.left before.left now.left so_far.taken went.reads.bytes so_far.bytes went.reads.loses;
       reading = subst (IsReading command_bytes input_bytes reader start.left now.left (so_far.taken ++ went.reads.bytes)) (ap (λ (b : Block). blocks_of turns ++ b ∷ []) (sym went.replied.same_block) ∙ sym (map_push (λ (u : Turn). u.block) turns t)) went.reads.reading;
       moments = subst (Adds start.readings now.readings) (sym (map_push (λ (u : Turn). u.receipt.moment) turns t)) (Adds-trans start.readings before.readings now.readings (moments_of turns) _ so_far.moments answered.moment);
-      goes_on = subst (GoesOn first new actor) (sym answered.receipt) (GoesOn-push first old new actor receipts r so_far.goes_on grown.0 grown.1 (step.commits ∙ ap (λ (m : ℕ). commits_at old ++ own_commit r.own r.place (record { actor = actor; number = m })) (sym answered.number)));
+      goes_on = subst (GoesOn first new) (sym answered.receipt) (GoesOn-push limits first old new (record { actor = actor; number = n }) t.block receipts r t.reply so_far.goes_on answered.kind step);
       count = omega (arith, so_far.count, length_push turns t);
     }
 
-pub SoFar-push : (limits : Limits) (actor n : ℕ) (first old new : History) (start before now : Contents) (was reader : ScriptReader) (receipts more : List Receipt) (so_far : SoFar limits actor first old start before was receipts n)
+pub SoFar-push : (limits : Limits) (actor n : ℕ) (first old new : PassView) (start before now : Contents) (was reader : ScriptReader) (receipts more : List Receipt) (so_far : SoFar limits actor first old start before was receipts n)
     → TurnBy limits (record { actor = actor; number = n }) old new start.left before now reader so_far.taken (blocks_of so_far.turns) receipts more None → SoFar limits actor first new start now reader more (n + 1)
 SoFar-push limits actor n first old new start before now was reader receipts more so_far went =
     let t = went.replied.turn in
@@ -138,13 +170,13 @@ SoFar-push limits actor n first old new start before now was reader receipts mor
     }
 
 -- nothing was answered any more
-Ends-idle : (limits : Limits) (actor n : ℕ) (first old new : History) (start before now : Contents) (was : ScriptReader) (receipts more : List Receipt) (end : End) (so_far : SoFar limits actor first old start before was receipts n) → Idle old new start.left before now so_far.taken (blocks_of so_far.turns) receipts more end
-    → ((turns : List Turn) → Adds start.written now.written (texts_of turns) → AreWritten end start.written now.written turns) → Ends limits new actor start now more end
+Ends-idle : (limits : Limits) (actor n : ℕ) (first old new : PassView) (start before now : Contents) (was : ScriptReader) (receipts more : List Receipt) (end : End) (so_far : SoFar limits actor first old start before was receipts n) → Idle old new start.left before now so_far.taken (blocks_of so_far.turns) receipts more end
+    → ((turns : List Turn) → Adds start.written now.written (texts_of turns) → AreWritten end start.written now.written turns) → Ends limits new.seen actor start now more end
 Ends-idle limits actor n first old new start before now was receipts more end so_far idle all_written = record {
   turns = so_far.turns;
   taken = so_far.taken ++ idle.bytes;
   of_turns = idle.same_receipts ∙ so_far.of_turns;
-  each = subst (λ (h : History). AreTurns limits h actor 0 0 so_far.turns) (sym idle.history) so_far.each;
+  each = subst (λ (p : PassView). AreTurns limits p.seen actor 0 0 so_far.turns) (sym idle.same_pass) so_far.each;
   bytes = Loses-trans start.left before.left now.left so_far.taken idle.bytes so_far.bytes idle.loses;
   blocks = idle.blocks;
   at_end = idle.at_end;
@@ -152,22 +184,22 @@ Ends-idle limits actor n first old new start before now was receipts more end so
   written = all_written so_far.turns (Adds-stays start.written before.written now.written (texts_of so_far.turns) so_far.written idle.written);
 }
 
-GoesOn-idle : (first old new : History) (actor : ℕ) (receipts more : List Receipt) → GoesOn first old actor receipts → new ≡ old → more ≡ receipts → GoesOn first new actor more
-GoesOn-idle first old new actor receipts more goes_on same same_receipts = subst (λ (h : History). GoesOn first h actor more) (sym same) (subst (GoesOn first old actor) (sym same_receipts) goes_on)
+GoesOn-idle : (first old new : PassView) (receipts more : List Receipt) → GoesOn first old receipts → new ≡ old → more ≡ receipts → GoesOn first new more
+GoesOn-idle first old new receipts more goes_on same same_receipts = subst (λ (p : PassView). GoesOn first p more) (sym same) (subst (GoesOn first old) (sym same_receipts) goes_on)
 
 -- what a session comes to
-pub record Comes (limits : Limits) (actor : ℕ) (first new : History) (start now : Contents) (receipts : List Receipt) (end : End) : Type 0 where
-  pub ends : Ends limits new actor start now receipts end
-  pub goes_on : GoesOn first new actor receipts
+pub record Comes (limits : Limits) (actor : ℕ) (first new : PassView) (start now : Contents) (receipts : List Receipt) (end : End) : Type 0 where
+  pub ends : Ends limits new.seen actor start now receipts end
+  pub goes_on : GoesOn first new receipts
 
-idle_comes : (limits : Limits) (actor n : ℕ) (first old new : History) (start before now : Contents) (was : ScriptReader) (receipts more : List Receipt) (end : End) (so_far : SoFar limits actor first old start before was receipts n) → Idle old new start.left before now so_far.taken (blocks_of so_far.turns) receipts more end
+idle_comes : (limits : Limits) (actor n : ℕ) (first old new : PassView) (start before now : Contents) (was : ScriptReader) (receipts more : List Receipt) (end : End) (so_far : SoFar limits actor first old start before was receipts n) → Idle old new start.left before now so_far.taken (blocks_of so_far.turns) receipts more end
     → ((turns : List Turn) → Adds start.written now.written (texts_of turns) → AreWritten end start.written now.written turns) → Comes limits actor first new start now more end
 idle_comes limits actor n first old new start before now was receipts more end so_far idle all_written = record {
   ends = Ends-idle limits actor n first old new start before now was receipts more end so_far idle all_written;
-  goes_on = GoesOn-idle first old new actor receipts more so_far.goes_on idle.history idle.same_receipts;
+  goes_on = GoesOn-idle first old new receipts more so_far.goes_on idle.same_pass idle.same_receipts;
 }
 
-pub Comes-end : (limits : Limits) (actor n : ℕ) (first old new : History) (start before now : Contents) (was reader : ScriptReader) (receipts more : List Receipt) (end : End) (so_far : SoFar limits actor first old start before was receipts n)
+pub Comes-end : (limits : Limits) (actor n : ℕ) (first old new : PassView) (start before now : Contents) (was reader : ScriptReader) (receipts more : List Receipt) (end : End) (so_far : SoFar limits actor first old start before was receipts n)
     → TurnBy limits (record { actor = actor; number = n }) old new start.left before now reader so_far.taken (blocks_of so_far.turns) receipts more (Some end) → Comes limits actor first new start now more end
 Comes-end limits actor n first old new start before now was reader receipts more SinkFault so_far failed =
     let went = failed.1 in
@@ -195,7 +227,7 @@ Comes-end limits actor n first old new start before now was reader receipts more
 Comes-end limits actor n first old new start before now was reader receipts more InputLimit so_far turn = idle_comes limits actor n first old new start before now was receipts more InputLimit so_far turn (λ turns w. w)
 
 -- there was no room for the next receipt
-pub Comes-short : (limits : Limits) (actor n : ℕ) (first h : History) (start now : Contents) (reader : ScriptReader) (receipts : List Receipt) → SoFar limits actor first h start now reader receipts n → Comes limits actor first h start now receipts Short
+pub Comes-short : (limits : Limits) (actor n : ℕ) (first h : PassView) (start now : Contents) (reader : ScriptReader) (receipts : List Receipt) → SoFar limits actor first h start now reader receipts n → Comes limits actor first h start now receipts Short
 Comes-short limits actor n first h start now reader receipts so_far = record {
   ends = record {
     turns = so_far.turns;
@@ -224,3 +256,23 @@ Ends-none limits actor h o = record {
   moments = Adds-none o.readings;
   written = Adds-none o.written;
 }
+
+-- what explains a session goes on to explain it
+pub Explained-later : (limits : Limits) (h new : History) (actor : ℕ) (before now : Contents) (receipts : List Receipt) (status : ℕ) → IsPrefix h new → Explained limits h actor before now receipts status → Explained limits new actor before now receipts status
+Explained-later limits h new actor before now receipts status later explained =
+    let ends = explained.ends in
+    record {
+      end = explained.end;
+      ends = record {
+        turns = ends.turns;
+        taken = ends.taken;
+        of_turns = ends.of_turns;
+        each = AreTurns-later limits actor h new later.0 0 0 (sym later.1) ends.turns ends.each;
+        bytes = ends.bytes;
+        blocks = ends.blocks;
+        at_end = ends.at_end;
+        moments = ends.moments;
+        written = ends.written;
+      };
+      by_end = explained.by_end;
+    }

@@ -5,7 +5,6 @@ use Rattle.kq_world.specs.Outside.{Contents, Rose}
 use Rattle.kq_world.proofs.Told.{Stays-same, Loses-none}
 use Rattle.kq_model.specs.declared.event.By.{By}
 use Rattle.kq_model.specs.declared.limits.Limits.{Limits}
-use Rattle.kq_model.specs.History.{History}
 use Rattle.kq_script.specs.Script.{Block, script_blocks}
 use Rattle.kq_script.specs.Reading.{IsReading, GoesOn as MayGoOn, IsPrefix, Reads as ReadsOn}
 use Rattle.kq_script.specs.State.{IsAt}
@@ -14,6 +13,7 @@ use Rattle.kq_script.specs.Item.{IsItemOf}
 use Rattle.kq_script.specs.declared.reader.ScriptReader.{ScriptReader}
 use Rattle.kq_script.specs.declared.item.Item.{Item}
 use Rattle.kq_script.specs.declared.item.Item.TheVariants.{Command, TooLong, Lost, Finished}
+use Rattle.kq_engine.specs.Shared.{PassView}
 use Rattle.kq_session.specs.declared.end.End.{End}
 use Rattle.kq_session.specs.declared.end.End.TheVariants as ends
 use Rattle.kq_session.specs.declared.receipt.Receipt.{Receipt}
@@ -24,10 +24,10 @@ abbrev told_as : Option (List ℕ) → Option (List ℕ) → Option (List ℤ) �
 told_as left written readings = record { left = left; written = written; readings = readings }
 
 -- what was read was no block, and nothing was answered
-pub Idle-read : (h : History) (first left left' written : Option (List ℕ)) (readings : Option (List ℤ)) (bytes taken : List ℕ) (given : List Block) (receipts more : List Receipt) (end : End) → Loses left left' bytes → AreBlocks end (taken ++ bytes) given → IsLeft end first left' → more ≡ receipts
+pub Idle-read : (h : PassView) (first left left' written : Option (List ℕ)) (readings : Option (List ℤ)) (bytes taken : List ℕ) (given : List Block) (receipts more : List Receipt) (end : End) → Loses left left' bytes → AreBlocks end (taken ++ bytes) given → IsLeft end first left' → more ≡ receipts
     → Idle h h first (told_as left written readings) (told_as left' written readings) taken given receipts more end
 Idle-read h first left left' written readings bytes taken given receipts more end loses blocks at_end same = record {
-  history = refl;
+  same_pass = refl;
   same_receipts = same;
   bytes = bytes;
   loses = loses;
@@ -38,7 +38,7 @@ Idle-read h first left left' written readings bytes taken given receipts more en
 }
 
 -- nothing was read, for want of room
-pub Idle-short : (h : History) (first left written : Option (List ℕ)) (readings : Option (List ℤ)) (reader : ScriptReader) (taken : List ℕ) (given : List Block) (receipts more : List Receipt) → IsReading command_bytes input_bytes reader first left taken given → more ≡ receipts
+pub Idle-short : (h : PassView) (first left written : Option (List ℕ)) (readings : Option (List ℤ)) (reader : ScriptReader) (taken : List ℕ) (given : List Block) (receipts more : List Receipt) → IsReading command_bytes input_bytes reader first left taken given → more ≡ receipts
     → Idle h h first (told_as left written readings) (told_as left written readings) taken given receipts more ends.Short
 Idle-short h first left written readings reader taken given receipts more reading same =
     let blocks = subst (λ (l : List ℕ). IsPrefix given (script_blocks command_bytes l true)) (sym (append-nil taken)) reading.prefix in
@@ -52,7 +52,7 @@ Reads-item first left left' reader taken given Lost not reads = (reads.outcome.0
 Reads-item first left left' reader taken given Finished not reads = absurd (not refl)
 
 -- a block that was read and answered
-pub Went-reply : {E : Type 0} (limits : Limits) (by : By) (old new : History) (first left left' written written' : Option (List ℕ)) (readings readings' : Option (List ℤ)) (reader : ScriptReader) (taken : List ℕ) (given : List Block) (receipts middle more : List Receipt) (item : Item) (result : Result (Unit {0}) E)
+pub Went-reply : {E : Type 0} (limits : Limits) (by : By) (old new : PassView) (first left left' written written' : Option (List ℕ)) (readings readings' : Option (List ℤ)) (reader : ScriptReader) (taken : List ℕ) (given : List Block) (receipts middle more : List Receipt) (item : Item) (result : Result (Unit {0}) E)
     → item ≢ Finished → ReadsOn command_bytes input_bytes (Ok item) reader first left left' taken given → middle ≡ receipts
     → ((limit : ℕ) (block : Block) → IsItemOf limit item block → Replied limits by old new (told_as left' written readings) (told_as left' written' readings') block middle more result)
     → Went limits by old new first (told_as left written readings) (told_as left' written' readings') reader taken given receipts more result

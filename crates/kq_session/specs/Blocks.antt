@@ -1,8 +1,10 @@
 -- When a reply fits a block of a script.
-use Rattle.std.specs.Prelude.{◌≡◌, ◌≤◌, ◌⊎◌, ℕ, ℤ, Bool, false, List, ◌++◌, length, Result, Ok, Err}
+use Rattle.std.specs.Prelude.{◌≡◌, ◌≤◌, ◌⊎◌, ◌+◌, ℕ, ℤ, Bool, true, false, List, [], ◌∷◌, ◌++◌, length, Result, Ok, Err, nat_eq}
+use Rattle.std.specs.List.{list_any}
+use mathlib.Core.List.{IsPrefix}
 use Rattle.kq_model.specs.declared.event.By.{By}
 use Rattle.kq_model.specs.declared.limits.Limits.{Limits}
-use Rattle.kq_model.specs.History.{History, commits_at}
+use Rattle.kq_model.specs.History.{History}
 use Rattle.kq_command.specs.declared.command.Command.{Command}
 use Rattle.kq_command.specs.declared.command.CommandFault.{CommandFault}
 use Rattle.kq_command.specs.declared.command.CommandFault.TheVariants.{NotText, Memory}
@@ -11,9 +13,11 @@ use Rattle.kq_reply.specs.declared.refusal.Refusal.{Refusal}
 use Rattle.kq_reply.specs.declared.refusal.Refusal.TheVariants as refusals
 use Rattle.kq_reply.specs.declared.reply.Reply.{Reply}
 use Rattle.kq_reply.specs.declared.reply.Reply.TheVariants as replies
+use Rattle.kq_reply.specs.Number.{kind_of}
 use Rattle.kq_script.specs.Script.{Block, command, too_long}
 use Rattle.kq_engine.specs.declared.work.Outcome.{Outcome}
-use Rattle.kq_engine.specs.Fits.{Fits, own_commit}
+use Rattle.kq_engine.specs.Fits.{Fits}
+use Rattle.kq_engine.specs.Shared.{PassView, made_by}
 
 -- refused for the text alone, or for want of memory
 pub record Refuses (h : History) (place : ℕ) (own : Bool) (reply : Reply) (r : Refusal) : Type 0 where
@@ -38,10 +42,24 @@ abbrev pub FitsBlock : Limits → History → By → Block → ℤ → ℕ → B
 FitsBlock limits h mark (command text) now place own reply = FitsText limits h mark text now place own reply
 FitsBlock limits h mark (too_long bytes) now place own reply = Refuses h place own reply (refusals.TooLong bytes)
 
--- one block was answered: the history goes on, its commits by the outcome's own alone, and the outcome fits it
-pub record Steps (limits : Limits) (old new : History) (by : By) (block : Block) (now : ℤ) (outcome : Outcome) : Type 0 where
-  pub goes_on : (more : History) × (new ≡ old ++ more)
-  pub commits : commits_at new ≡ commits_at old ++ own_commit outcome.own outcome.place by
-  pub fits : FitsBlock limits new by block now outcome.place outcome.own outcome.reply
-  pub since : length old ≤ outcome.place
-  pub within : outcome.place ≤ length new
+-- the refusals of a text alone, and for want of memory: Memory, Syntax, Deep, TooLong and NotText
+abbrev pub is_early : ℕ → Bool
+is_early kind = list_any (nat_eq kind) (1 ∷ 2 ∷ 3 ∷ 6 ∷ 22 ∷ [])
+
+-- the takes for a reply of this kind at this place: such a refusal needs none, and else the place is at least the first
+abbrev pub AreTakes : ℕ → ℕ → List ℕ → Type 0
+AreTakes kind place [] = is_early kind ≡ true
+AreTakes kind place (first ∷ more) = first ≤ place
+
+-- one block was answered through a pass: the outcome fits what it has then seen, at a place not below what it had seen
+pub record Steps (limits : Limits) (old new : PassView) (by : By) (block : Block) (now : ℤ) (outcome : Outcome) : Type 0 where
+  pub of : new.of ≡ old.of
+  pub worth : new.worth ≡ old.worth
+  pub seen : IsPrefix old.seen new.seen
+  pub made : new.made ≡ old.made + made_by outcome.own
+  pub takes : List ℕ
+  pub taken : new.taken ≡ old.taken ++ takes
+  pub enough : AreTakes (kind_of outcome.reply) outcome.place takes
+  pub fits : FitsBlock limits new.seen by block now outcome.place outcome.own outcome.reply
+  pub since : length old.seen ≤ outcome.place
+  pub within : outcome.place ≤ length new.seen

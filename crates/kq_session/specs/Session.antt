@@ -1,21 +1,23 @@
 -- When a session is explained by a history.
-use Rattle.std.specs.Prelude.{◌≡◌, ◌<◌, ◌≤◌, ◌+◌, ℕ, ℤ, true, false, List, [], ◌∷◌, ◌++◌, length, take, map, Option}
+use Rattle.std.specs.Prelude.{◌≡◌, ◌<◌, ◌≤◌, ◌+◌, ℕ, ℤ, true, false, List, [], ◌∷◌, ◌++◌, length, take, map, count_by, Option}
 use Rattle.std.specs.List.{flat_map}
+use mathlib.Core.List.{IsPrefix}
 use Rattle.kq_world.specs.Told.{Adds, Loses}
 use Rattle.kq_world.specs.Outside.{Contents}
 use Rattle.kq_model.specs.declared.limits.Limits.{Limits}
-use Rattle.kq_model.specs.History.{History, CommitAt, commits_at}
+use Rattle.kq_model.specs.History.{History, CommitAt}
 use Rattle.kq_reply.specs.declared.reply.Reply.{Reply}
 use Rattle.kq_reply.specs.Number.{kind_of}
 use Rattle.kq_reply.specs.Text.{text_of}
 use Rattle.kq_script.specs.Script.{Block, script_blocks}
-use Rattle.kq_script.specs.Reading.{IsPrefix}
+use Rattle.kq_script.specs.Reading.{IsPrefix as Begins}
 use Rattle.kq_script.specs.State.{IsDrained}
 use Rattle.kq_engine.specs.Fits.{own_commit}
+use Rattle.kq_engine.specs.Shared.{PassView}
 use Rattle.kq_session.specs.declared.end.End.{End}
 use Rattle.kq_session.specs.declared.end.End.TheVariants.{Finished, Short, SourceFault, SinkFault, InputLimit}
 use Rattle.kq_session.specs.declared.receipt.Receipt.{Receipt}
-use Rattle.kq_session.specs.Blocks.{FitsBlock}
+use Rattle.kq_session.specs.Blocks.{FitsBlock, AreTakes}
 use Rattle.kq_session.specs.Ends.{status_of}
 
 abbrev pub command_bytes : ℕ
@@ -53,9 +55,9 @@ texts_of = flat_map (λ (t : Turn). text_of t.reply)
 -- the blocks that were answered are those of the bytes taken, by how the session ended
 abbrev pub AreBlocks : End → List ℕ → List Block → Type 0
 AreBlocks Finished taken blocks = (blocks ≡ script_blocks command_bytes taken true) × (length taken < input_bytes)
-AreBlocks Short taken blocks = IsPrefix blocks (script_blocks command_bytes taken true)
+AreBlocks Short taken blocks = Begins blocks (script_blocks command_bytes taken true)
 AreBlocks SourceFault taken blocks = (blocks ≡ script_blocks command_bytes taken false) × (length taken < input_bytes)
-AreBlocks SinkFault taken blocks = IsPrefix blocks (script_blocks command_bytes taken true)
+AreBlocks SinkFault taken blocks = Begins blocks (script_blocks command_bytes taken true)
 AreBlocks InputLimit taken blocks = (blocks ≡ script_blocks command_bytes taken false) × (length taken ≡ input_bytes)
 
 -- a source that was read to its end has nothing left
@@ -96,7 +98,22 @@ pub record Explained (limits : Limits) (h : History) (actor : ℕ) (before now :
 abbrev pub own_commits : ℕ → List Receipt → List CommitAt
 own_commits actor = flat_map (λ (r : Receipt). own_commit r.own r.place (record { actor = actor; number = r.number }))
 
--- the history goes on, and its new commits are just those of the actor's receipts with `own`
-pub record GoesOn (old new : History) (actor : ℕ) (receipts : List Receipt) : Type 0 where
-  pub begins : (more : History) × (new ≡ old ++ more)
-  pub commits : commits_at new ≡ commits_at old ++ own_commits actor receipts
+-- how many of the receipts made a commit
+abbrev pub owns : List Receipt → ℕ
+owns = count_by (λ (r : Receipt). r.own)
+
+-- the takes for these receipts, in order
+abbrev pub AreTaken : List Receipt → List ℕ → Type 0
+AreTaken [] taken = taken ≡ []
+AreTaken (r ∷ receipts) taken = (takes : List ℕ) × (more : List ℕ) × (taken ≡ takes ++ more) × AreTakes r.kind r.place takes × AreTaken receipts more
+
+-- a pass after these receipts: it has seen at least as much, the commits made through it since are those of the receipts
+-- with `own`, and it took the catalogue for each of them
+pub record GoesOn (old new : PassView) (receipts : List Receipt) : Type 0 where
+  pub of : new.of ≡ old.of
+  pub worth : new.worth ≡ old.worth
+  pub seen : IsPrefix old.seen new.seen
+  pub made : new.made ≡ old.made + owns receipts
+  pub more : List ℕ
+  pub taken : new.taken ≡ old.taken ++ more
+  pub each_taken : AreTaken receipts more

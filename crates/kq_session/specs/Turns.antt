@@ -5,12 +5,12 @@ use Rattle.kq_world.specs.Outside.{Contents, PutsAll, Rose}
 use Rattle.kq_world.specs.declared.outside.Failed.{Failed}
 use Rattle.kq_model.specs.declared.event.By.{By}
 use Rattle.kq_model.specs.declared.limits.Limits.{Limits}
-use Rattle.kq_model.specs.History.{History}
 use Rattle.kq_reply.specs.Number.{kind_of}
 use Rattle.kq_reply.specs.Text.{text_of}
 use Rattle.kq_script.specs.Script.{Block}
 use Rattle.kq_script.specs.Reading.{IsReading}
 use Rattle.kq_script.specs.declared.reader.ScriptReader.{ScriptReader}
+use Rattle.kq_engine.specs.Shared.{PassView}
 use Rattle.kq_session.specs.declared.end.End.{End}
 use Rattle.kq_session.specs.declared.end.End.TheVariants.{Finished, Short, SourceFault, SinkFault, InputLimit}
 use Rattle.kq_session.specs.declared.receipt.Receipt.{Receipt}
@@ -18,7 +18,7 @@ use Rattle.kq_session.specs.Blocks.{Steps}
 use Rattle.kq_session.specs.Session.{Turn, AreBlocks, IsLeft, command_bytes, input_bytes}
 
 -- a block was answered, and its receipt kept
-pub record Answered (limits : Limits) (by : By) (old new : History) (before now : Contents) (receipts more : List Receipt) (t : Turn) : Type 0 where
+pub record Answered (limits : Limits) (by : By) (old new : PassView) (before now : Contents) (receipts more : List Receipt) (t : Turn) : Type 0 where
   pub step : Steps limits old new by t.block t.receipt.moment (record { place = t.receipt.place; own = t.receipt.own; reply = t.reply })
   pub number : t.receipt.number ≡ by.number
   pub kind : t.receipt.kind ≡ kind_of t.reply
@@ -26,7 +26,7 @@ pub record Answered (limits : Limits) (by : By) (old new : History) (before now 
   pub moment : Adds before.readings now.readings (t.receipt.moment ∷ [])
 
 -- this block was answered, and its reply written as far as the sink took it
-pub record Replied {E : Type 0} (limits : Limits) (by : By) (old new : History) (before now : Contents) (block : Block) (receipts more : List Receipt) (result : Result (Unit {0}) E) : Type 0 where
+pub record Replied {E : Type 0} (limits : Limits) (by : By) (old new : PassView) (before now : Contents) (block : Block) (receipts more : List Receipt) (result : Result (Unit {0}) E) : Type 0 where
   pub turn : Turn
   pub same_block : turn.block ≡ block
   pub answered : Answered limits by old new before now receipts more turn
@@ -39,8 +39,8 @@ pub record Reads (first before now : Option (List ℕ)) (reader : ScriptReader) 
   pub reading : IsReading command_bytes input_bytes reader first now (taken ++ bytes) (given ++ block ∷ [])
 
 -- no block was answered
-pub record Idle (old new : History) (first : Option (List ℕ)) (before now : Contents) (taken : List ℕ) (given : List Block) (receipts more : List Receipt) (end : End) : Type 0 where
-  pub history : new ≡ old
+pub record Idle (old new : PassView) (first : Option (List ℕ)) (before now : Contents) (taken : List ℕ) (given : List Block) (receipts more : List Receipt) (end : End) : Type 0 where
+  pub same_pass : new ≡ old
   pub same_receipts : more ≡ receipts
   pub bytes : List ℕ
   pub loses : Loses before.left now.left bytes
@@ -50,13 +50,13 @@ pub record Idle (old new : History) (first : Option (List ℕ)) (before now : Co
   pub written : Stays before.written now.written
 
 -- a block was read and answered
-pub record Went {E : Type 0} (limits : Limits) (by : By) (old new : History) (first : Option (List ℕ)) (before now : Contents) (reader : ScriptReader) (taken : List ℕ) (given : List Block) (receipts more : List Receipt) (result : Result (Unit {0}) E) : Type 0 where
+pub record Went {E : Type 0} (limits : Limits) (by : By) (old new : PassView) (first : Option (List ℕ)) (before now : Contents) (reader : ScriptReader) (taken : List ℕ) (given : List Block) (receipts more : List Receipt) (result : Result (Unit {0}) E) : Type 0 where
   pub block : Block
   pub reads : Reads first before.left now.left reader taken given block
   pub replied : Replied limits by old new before now block receipts more result
 
 -- by its end, where it has one
-abbrev pub TurnBy : Limits → By → History → History → Option (List ℕ) → Contents → Contents → ScriptReader → List ℕ → List Block → List Receipt → List Receipt → Option End → Type 0
+abbrev pub TurnBy : Limits → By → PassView → PassView → Option (List ℕ) → Contents → Contents → ScriptReader → List ℕ → List Block → List Receipt → List Receipt → Option End → Type 0
 TurnBy limits by old new first before now reader taken given receipts more None = Went {E = Failed} limits by old new first before now reader taken given receipts more (Ok tt)
 TurnBy limits by old new first before now reader taken given receipts more (Some SinkFault) = (e : Failed) × Went limits by old new first before now reader taken given receipts more (Err e)
 TurnBy limits by old new first before now reader taken given receipts more (Some Finished) = Idle old new first before now taken given receipts more Finished

@@ -1,4 +1,5 @@
-//! One session: a script is read block by block, each command is answered and its reply written, until the script ends.
+//! One session: a script is read block by block, each command is answered by the shared engine and its reply written,
+//! until the script ends.
 //!
 //! It knows of a command only that the engine answers it, and of a reply its number and its printed form.
 #![tactic(auto)]
@@ -6,8 +7,9 @@
 mod answer;
 mod end;
 mod receipt;
-mod serve;
+mod service;
+mod session;
 
 pub use end::End;
 pub use receipt::{Receipt, Receipts};
-pub use serve::{Alone, serve_alone};
+pub use session::{Served, serve};

@@ -1,17 +1,15 @@
-use Rattle.std.proofs.Common.{◌≡◌, ◌≤◌}
+use Rattle.std.proofs.Common.{◌≤◌}
 use Rattle.kq_session.proofs.Serving.{SoFar}
-use Rattle.kq_session.proofs.serve.serve_script.Given as goal
+use Rattle.kq_session.proofs.session.serve_script.Given as goal
 
-pub record Loop (same_limits so_far source sink : Type 0) : Type 0 where
-  pub limits_stay : same_limits
+pub record Loop (so_far source sink : Type 0) : Type 0 where
   pub served : so_far
   pub source_later : source
   pub sink_later : sink
 
 abbrev pub invariant-loop-number : goal.invariant-loop-number
 invariant-loop-number g l =
-    Loop (l.catalog.limits ≡ l.fn.catalog.limits)
-    (SoFar l.fn.catalog.limits l.actor l.fn.catalog.history l.catalog.history
+    Loop (SoFar l.service.shared.now.limits l.actor l.fn.pass l.pass
     (record { left = g.S.Source.left l.fn.parts.source; written = g.K.Sink.written l.fn.parts.sink; readings = g.C.Clock.readings l.fn.parts.clock })
     (record { left = g.S.Source.left l.parts.source; written = g.K.Sink.written l.parts.sink; readings = g.C.Clock.readings l.parts.clock })
     l.reader l.receipts.items l.number)

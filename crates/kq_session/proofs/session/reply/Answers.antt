@@ -1,7 +1,7 @@
 use Rattle.std.proofs.Common.{refl, w64, rules, FitsSigned}
 use Rattle.std.proofs.lemmas.Int.{to_z-of_z}
 use Rattle.kq_session.specs.declared.receipt.Receipt.{Receipt}
-use Rattle.kq_session.proofs.serve.reply.Goals as goal
+use Rattle.kq_session.proofs.session.reply.Goals as goal
 
 pub returns-clause-replied : goal.returns-clause-replied
 returns-clause-replied g c = λ limit block item.
@@ -13,7 +13,7 @@ returns-clause-replied g c = λ limit block item.
       turn = record { block = block; reply = o.reply; receipt = r };
       same_block = refl;
       answered = record {
-        step = rw (to_z-of_z w64 m fits) at (c.answer-outcome.ensures.step limit block item);
+        step = rw (to_z-of_z w64 m fits) at (c.answer-outcome.ensures limit block item);
         number = refl;
         kind = c.kind.ensures;
         receipt = rw (c.push_reserved.ensures.items, to_z-of_z w64 m fits) refl;
