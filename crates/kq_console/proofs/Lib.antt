@@ -1,1 +1,5 @@
+mod Asking
+mod Opening
 mod Running
+mod Serving
+mod Wholes

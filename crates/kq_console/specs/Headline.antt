@@ -65,5 +65,5 @@ pub record Ran (feeds : List (List ℕ)) (given : List Contents) (status : ℕ) 
 
 -- a run, which has a catalogue exactly where it began its sessions
 abbrev pub RunBy : List (List ℕ) → List Contents → ℕ → Option CatalogView → List SessionView → Type 0
-RunBy feeds given status None sessions = (sessions ≡ []) × ((status ≡ 2) ⊎ (status ≡ 7) ⊎ (status ≡ 1))
+RunBy feeds given status None sessions = (sessions ≡ []) × ((status ≡ 2) ⊎ (status ≡ 7) ⊎ (status ≡ 5) ⊎ (status ≡ 1))
 RunBy feeds given status (Some c) sessions = Ran feeds given status c sessions

@@ -1,2 +1,4 @@
 pub mod Headline
+pub mod Opening
+pub mod Together
 pub mod Words

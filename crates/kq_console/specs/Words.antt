@@ -1,10 +1,10 @@
 -- What the words of a run ask for, and what its status says of them.
-use Rattle.std.specs.Prelude.{◌≡◌, ◌≢◌, ◌⊎◌, ◌==◌, ◌&&◌, ℕ, Bool, true, false, not, length, Option, Some, None, is_some}
+use Rattle.std.specs.Prelude.{◌≡◌, ◌≢◌, ◌⊎◌, ◌==◌, ◌&&◌, ℕ, Bool, true, false, not, List, [], Option, Some, None, is_some}
 use Rattle.kq_words.specs.Words.{Asked}
 
--- no workers, no generated script and no feeds, so session 0 alone
+-- no workers and no generated script, so session 0 and the feeds alone
 abbrev pub asks_no_more : Asked → Bool
-asks_no_more asked = asked.workers == 0 && not (is_some asked.generate) && length asked.feeds == 0
+asks_no_more asked = asked.workers == 0 && not (is_some asked.generate)
 
 abbrev pub AsksNoMore : Option Asked → Type 0
 AsksNoMore None = ⊥
@@ -14,6 +14,11 @@ AsksNoMore (Some asked) = asks_no_more asked ≡ true
 abbrev pub AsksMore : Option Asked → Type 0
 AsksMore None = ⊥
 AsksMore (Some asked) = asks_no_more asked ≡ false
+
+-- the feeds of the words
+abbrev pub feeds_of : Option Asked → List (List ℕ)
+feeds_of None = []
+feeds_of (Some asked) = asked.feeds
 
 -- the status is the code just where P holds, but that it may be 1 there, for want of memory
 abbrev pub IsJustWhere : ℕ → ℕ → Type 0 → Type 0

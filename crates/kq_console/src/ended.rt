@@ -6,14 +6,17 @@ use kq_world::World;
 
 /// A session that has ended, with its objects. Session 0 has an empty name.
 #[derive(Drop)]
-pub struct Ended<W: World> {
+pub struct EndedSession<S: Drop, K: Drop, C: Drop> {
     pub name: Text,
-    pub source: W::Source,
-    pub sink: W::Sink,
-    pub clock: W::Clock,
+    pub source: S,
+    pub sink: K,
+    pub clock: C,
     pub receipts: Receipts,
     pub status: u8,
 }
+
+/// A session that has ended, with the objects that the World gave it.
+pub type Ended<W> = EndedSession<<W as World>::Source, <W as World>::Sink, <W as World>::Clock>;
 
 /// What a run comes to: its status, and, where the sessions were begun, the catalogue and the sessions in order.
 #[derive(Drop)]

@@ -1,13 +1,17 @@
-//! The program: it serves a script from standard input and ends with a status.
+//! The program: it serves a script from standard input, beside it each feed in a thread of its own, and ends with a
+//! status.
 //!
-//! Everything is left to the crates below it; here the catalogue is made, session 0 is served, and what comes of it is
-//! handed back.
+//! Everything is left to the crates below it; here the feeds are opened, the catalogue is made, the sessions are served,
+//! and what comes of them is handed back.
 #![tactic(auto)]
 
 mod ended;
+mod feeds;
+mod opened;
 mod program;
 #[cfg(test)]
 mod tests;
+mod together;
 
 pub use ended::{Ended, Run};
 use kq_world::{OpenGate, RealWorld};
@@ -28,7 +32,7 @@ fn main(rt: HostRuntime) -> ExitCode {
     let status = match words(&rt) {
         Ok(words) => {
             let mut world = RealWorld::new(rt);
-            run(rt.alloc(), words.as_slice(), &mut world, &OpenGate).status
+            run(&rt, rt.alloc(), words.as_slice(), &mut world, &OpenGate).status
         }
         Err(error) if error.kind() == ErrorKind::OutOfMemory => program::MEMORY,
         // Words that are no text haven't the form.

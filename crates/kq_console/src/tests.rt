@@ -1,4 +1,6 @@
 // What crosses the crates.
+mod feeds;
+mod records;
 mod scripts;
 mod steps;
 mod words;

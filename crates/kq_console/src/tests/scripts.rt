@@ -7,13 +7,16 @@ use kq_value::{Bytes, Memory};
 use kq_world::{ListClock, MemorySink, MemorySource, MemoryWorld, OpenGate, Parts};
 use std::alloc::Global;
 use std::process::Abort;
+use std::sync::Wait;
 use std::test::Fail;
+use std::thread::Threads;
 
 // 2024-01-01, in ticks.
 const MOMENT: i64 = 638_396_640_000_000_000;
 
 // A run of one script, whose source gives at most `step` bytes a read.
-fn served(
+pub(super) fn served<R: Threads + Wait + Sync>(
+    rt: &R,
     alloc: Global,
     script: Vec<u8>,
     step: usize,
@@ -22,16 +25,17 @@ fn served(
 ) -> Result<Run<MemoryWorld>, Memory>
     requires { 0 < step }
 {
-    let mut world = MemoryWorld::new(Parts {
+    let first = Parts {
         source: MemorySource::new(Bytes::from_vec(script), step, reads_fail.to_vec(alloc)?),
         sink: MemorySink::new(alloc, 1024, writes_fail.to_vec(alloc)?)?,
         clock: ListClock::new([MOMENT].to_vec(alloc)?),
-    });
-    Ok(run(alloc, &[], &mut world, &OpenGate))
+    };
+    let mut world = MemoryWorld::new(alloc, first, Vec::new(alloc), Vec::new(alloc));
+    Ok(run(rt, alloc, &[], &mut world, &OpenGate))
 }
 
 // The run ended so, and wrote this.
-fn expect_run(rt: &impl Abort, run: &Run<MemoryWorld>, status: u8, output: &[u8]) {
+pub(super) fn expect_run(rt: &impl Abort, run: &Run<MemoryWorld>, status: u8, output: &[u8]) {
     assert_eq!(rt; run.status, status);
     assert_eq!(rt; run.sessions.len(), 1);
     let session = &run.sessions[0];
@@ -39,14 +43,19 @@ fn expect_run(rt: &impl Abort, run: &Run<MemoryWorld>, status: u8, output: &[u8]
     assert_eq!(rt; session.sink.bytes(), output);
 }
 
-fn expect_script(
-    rt: &(impl Abort + AllocGlobal),
+pub(super) fn expect_script<R: Abort + AllocGlobal + Threads + Wait + Sync>(
+    rt: &R,
     script: &[u8],
     output: &[u8],
 ) -> Result<(), Fail> {
     for step in [1, 2, 3, 7, 4096] {
         let script = script.to_vec(rt.alloc())?;
-        expect_run(rt, &served(rt.alloc(), script, step, &[], &[])?, 0, output);
+        expect_run(
+            rt,
+            &served(rt, rt.alloc(), script, step, &[], &[])?,
+            0,
+            output,
+        );
     }
     Ok(())
 }
@@ -62,7 +71,7 @@ fn an_empty_script_has_no_reply(rt: HostRuntime) -> Result<(), Fail> {
 
 #[test]
 fn tables_are_created_and_kept(rt: HostRuntime) -> Result<(), Fail> {
-    let replies = b"done 1\n\nkept 1\n\nrefused Exists at 14\n\nrefused Unbuilt\n\n";
+    let replies = b"done 1\n\nkept 1\n\nrefused Exists at 14\n\nrows 0\nk:long\n\n";
     expect_script(&rt, TABLES, replies)
 }
 
@@ -144,14 +153,14 @@ fn a_table_has_at_most_256_columns(rt: HostRuntime) -> Result<(), Fail> {
     let most = wide_table(rt.alloc(), 256)?;
     expect_run(
         &rt,
-        &served(rt.alloc(), most, 4096, &[], &[])?,
+        &served(&rt, rt.alloc(), most, 4096, &[], &[])?,
         0,
         b"done 1\n\n",
     );
     let more = wide_table(rt.alloc(), 257)?;
     expect_run(
         &rt,
-        &served(rt.alloc(), more, 4096, &[], &[])?,
+        &served(&rt, rt.alloc(), more, 4096, &[], &[])?,
         0,
         b"refused Full limit 256\n\n",
     );
@@ -171,7 +180,7 @@ fn there_are_at_most_1000_tables(rt: HostRuntime) -> Result<(), Fail> {
     let script = script.as_bytes().to_vec(rt.alloc())?;
     expect_run(
         &rt,
-        &served(rt.alloc(), script, 4096, &[], &[])?,
+        &served(&rt, rt.alloc(), script, 4096, &[], &[])?,
         0,
         output.as_bytes(),
     );
@@ -190,14 +199,14 @@ fn a_command_has_at_most_16777216_bytes(rt: HostRuntime) -> Result<(), Fail> {
     let most = long_block(rt.alloc(), 16_777_216)?;
     expect_run(
         &rt,
-        &served(rt.alloc(), most, 4096, &[], &[])?,
+        &served(&rt, rt.alloc(), most, 4096, &[], &[])?,
         0,
         b"done 1\n\n",
     );
     let more = long_block(rt.alloc(), 16_777_217)?;
     expect_run(
         &rt,
-        &served(rt.alloc(), more, 4096, &[], &[])?,
+        &served(&rt, rt.alloc(), more, 4096, &[], &[])?,
         0,
         b"refused TooLong bytes 16777217\n\n",
     );
@@ -210,7 +219,7 @@ fn a_source_that_fails_ends_the_session(rt: HostRuntime) -> Result<(), Fail> {
     let script = TABLES.to_vec(rt.alloc())?;
     expect_run(
         &rt,
-        &served(rt.alloc(), script, 30, &[2], &[])?,
+        &served(&rt, rt.alloc(), script, 30, &[2], &[])?,
         3,
         b"done 1\n\n",
     );
@@ -219,10 +228,10 @@ fn a_source_that_fails_ends_the_session(rt: HostRuntime) -> Result<(), Fail> {
 
 #[test]
 fn a_sink_that_fails_ends_the_session(rt: HostRuntime) -> Result<(), Fail> {
-    let replies = b"done 1\n\nkept 1\n\nrefused Exists at 14\n\nrefused Unbuilt\n\n";
+    let replies = b"done 1\n\nkept 1\n\nrefused Exists at 14\n\nrows 0\nk:long\n\n";
     for call in 1..10 {
         let script = TABLES.to_vec(rt.alloc())?;
-        let run = served(rt.alloc(), script, 4096, &[], &[call])?;
+        let run = served(&rt, rt.alloc(), script, 4096, &[], &[call])?;
         assert_eq!(rt; run.status, 4);
         assert_eq!(rt; run.sessions.len(), 1);
         let session = &run.sessions[0];
@@ -235,7 +244,7 @@ fn a_sink_that_fails_ends_the_session(rt: HostRuntime) -> Result<(), Fail> {
 #[test]
 fn a_table_is_made_though_its_reply_is_lost(rt: HostRuntime) -> Result<(), Fail> {
     let script = TABLES.to_vec(rt.alloc())?;
-    let run = served(rt.alloc(), script, 4096, &[], &[1])?;
+    let run = served(&rt, rt.alloc(), script, 4096, &[], &[1])?;
     expect_run(&rt, &run, 4, b"");
     assert_eq!(rt; run.sessions.len(), 1);
     assert_eq!(rt; run.sessions[0].receipts.len(), 1);

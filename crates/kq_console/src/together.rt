@@ -1,0 +1,128 @@
+// Sessions beside each other.
+ghost use Rattle.std.specs.Prelude.{◌≡◌, ◌<◌, ◌≤◌, ◌+◌, ◌∷◌, [], length, map, vec_capacity, vec_len};
+ghost use Rattle.kq_console.specs.Together.{ServedOne, ServedAll};
+
+use crate::ended::EndedSession;
+use crate::opened::OpenedSession;
+use kq_engine::{Pass, Shared};
+use kq_session::{Served, serve};
+use kq_world::{Clock, Gate, Parts, Sink, Source};
+use std::alloc::Global;
+use std::sync::Wait;
+use std::thread;
+use std::thread::Threads;
+
+/// Sessions that have ended, in order, and the one pass that is left of theirs.
+#[derive(Drop)]
+pub(crate) struct Together<S: Drop, K: Drop, C: Drop> {
+    pub pass: Pass,
+    pub sessions: Vec<EndedSession<S, K, C>>,
+}
+
+/// A session that has ended, with its pass.
+#[derive(Drop)]
+pub(crate) struct One<S: Drop, K: Drop, C: Drop> {
+    pub pass: Pass,
+    pub session: EndedSession<S, K, C>,
+}
+
+/// Serves session 0 in this thread and each feed in a thread of its own. Where none can be made for a feed, it is served
+/// here after session 0. There is room for all of them in `sessions`.
+pub(crate) fn serve_all<
+    R: Threads + Wait + Sync,
+    S: Source + Send,
+    K: Sink + Send,
+    C: Clock + Send,
+    G: Gate + Sync,
+>(
+    rt: &R,
+    alloc: Global,
+    shared: &Shared,
+    pass: Pass,
+    first: OpenedSession<S, K, C>,
+    feeds: Vec<OpenedSession<S, K, C>>,
+    sessions: Vec<EndedSession<S, K, C>>,
+    gate: &G,
+) -> Together<S, K, C>
+    requires of { pass.of ≡ shared.now.turn }
+    requires worth { length feeds.items < pass.worth }
+    requires few { length feeds.items ≤ 7 }
+    requires empty { sessions.items ≡ [] }
+    requires room { length feeds.items < vec_capacity sessions }
+    ensures room { vec_capacity result.sessions ≡ vec_capacity sessions }
+    ensures served { ServedAll shared.now.limits pass result.pass (map (λ o. record { name = o.name; contents = record { left = S.left o.parts.source; written = K.written o.parts.sink; readings = C.readings o.parts.clock }; source_faults = S.faults o.parts.source; sink_faults = K.faults o.parts.sink }) (first ∷ feeds.items)) (map (λ e. record { name = e.name; contents = record { left = S.left e.source; written = K.written e.sink; readings = C.readings e.clock }; source_faults = S.faults e.source; sink_faults = K.faults e.sink; receipts = e.receipts; status = e.status }) result.sessions.items) }
+{
+    let mut feeds = feeds;
+    let mut sessions = sessions;
+    let Some(last) = feeds.pop() else {
+        let One { pass, session } = serve_one(rt, alloc, shared, pass, 0, first, gate);
+        sessions.push_reserved(session);
+        return Together { pass, sessions };
+    };
+    let actor = feeds.len() as u32 + 1;
+    let (rest, mine) = shared.split(pass);
+    let (one, others) = thread::join(
+        rt,
+        move || -> One<S, K, C>
+            requires of { mine.of ≡ shared.now.turn }
+            ensures served { ServedOne shared.entry.now.limits mine result.pass actor (record { name = last.name; contents = record { left = S.left last.parts.source; written = K.written last.parts.sink; readings = C.readings last.parts.clock }; source_faults = S.faults last.parts.source; sink_faults = K.faults last.parts.sink }) (record { name = result.session.name; contents = record { left = S.left result.session.source; written = K.written result.session.sink; readings = C.readings result.session.clock }; source_faults = S.faults result.session.source; sink_faults = K.faults result.session.sink; receipts = result.session.receipts; status = result.session.status }) }
+        { serve_one(rt, alloc, shared, mine, actor, last, gate) },
+        move || -> Together<S, K, C>
+            requires of { rest.of ≡ shared.now.turn }
+            requires worth { length feeds.items < rest.worth }
+            requires few { length feeds.items ≤ 7 }
+            requires empty { sessions.items ≡ [] }
+            requires room { length feeds.items < vec_capacity sessions }
+            ensures room { vec_capacity result.sessions ≡ vec_capacity sessions }
+            ensures served { ServedAll shared.entry.now.limits rest result.pass (map (λ o. record { name = o.name; contents = record { left = S.left o.parts.source; written = K.written o.parts.sink; readings = C.readings o.parts.clock }; source_faults = S.faults o.parts.source; sink_faults = K.faults o.parts.sink }) (first ∷ feeds.items)) (map (λ e. record { name = e.name; contents = record { left = S.left e.source; written = K.written e.sink; readings = C.readings e.clock }; source_faults = S.faults e.source; sink_faults = K.faults e.sink; receipts = e.receipts; status = e.status }) result.sessions.items) }
+        { serve_all(rt, alloc, shared, rest, first, feeds, sessions, gate) },
+    );
+    let One {
+        pass: mine,
+        session,
+    } = one;
+    let Together {
+        pass: rest,
+        mut sessions,
+    } = others;
+    sessions.push_reserved(session);
+    Together {
+        pass: shared.join(rest, mine),
+        sessions,
+    }
+}
+
+// Serves one session.
+fn serve_one<R: Wait, S: Source, K: Sink, C: Clock, G: Gate>(
+    rt: &R,
+    alloc: Global,
+    shared: &Shared,
+    pass: Pass,
+    actor: u32,
+    opened: OpenedSession<S, K, C>,
+    gate: &G,
+) -> One<S, K, C>
+    requires { pass.of ≡ shared.now.turn }
+    ensures { ServedOne shared.now.limits pass result.pass actor (record { name = opened.name; contents = record { left = S.left opened.parts.source; written = K.written opened.parts.sink; readings = C.readings opened.parts.clock }; source_faults = S.faults opened.parts.source; sink_faults = K.faults opened.parts.sink }) (record { name = result.session.name; contents = record { left = S.left result.session.source; written = K.written result.session.sink; readings = C.readings result.session.clock }; source_faults = S.faults result.session.source; sink_faults = K.faults result.session.sink; receipts = result.session.receipts; status = result.session.status }) }
+{
+    let OpenedSession { name, parts } = opened;
+    let Served {
+        pass,
+        parts: Parts {
+            source,
+            sink,
+            clock,
+        },
+        receipts,
+        status,
+    } = serve(rt, alloc, shared, pass, actor, parts, gate);
+    let session = EndedSession {
+        name,
+        source,
+        sink,
+        clock,
+        receipts,
+        status,
+    };
+    One { pass, session }
+}
