@@ -15,14 +15,14 @@ use kq_value::Memory;
 use std::alloc::Global;
 
 /// A step of a run: a command is begun, or what was begun under a mark is finished.
-#[derive(Debug, Drop)]
+#[derive(Drop)]
 pub enum Step {
     Begin(Work),
     Finish(By),
 }
 
 /// An outcome, with its mark and the place of the snapshot on which the command was begun.
-#[derive(Debug, Drop)]
+#[derive(Drop)]
 pub struct Told {
     pub by: By,
     pub began: u64,

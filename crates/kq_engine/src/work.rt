@@ -7,7 +7,7 @@ use kq_reply::Reply;
 use kq_value::Memory;
 
 /// A command, with its mark and its moment in ticks of 100 ns from 0001-01-01.
-#[derive(Debug, Drop)]
+#[derive(Drop)]
 pub struct Work {
     pub by: By,
     pub command: Command,
@@ -28,7 +28,7 @@ impl Work {
 
 /// The reply to a command. `own` says that the command made the event at `place`; without it the reply is what the
 /// history up to `place` gives. A place is a number of events.
-#[derive(Debug, Drop)]
+#[derive(Drop)]
 pub struct Outcome {
     pub place: u64,
     pub own: bool,
@@ -36,7 +36,7 @@ pub struct Outcome {
 }
 
 /// What was found on a snapshot.
-#[derive(Debug, Drop)]
+#[derive(Drop)]
 pub enum Ready {
     /// The reply, which the snapshot tells whole.
     Answered(Reply),
@@ -47,7 +47,7 @@ pub enum Ready {
 }
 
 /// Work, the place of the snapshot on which it was prepared, and what was found there.
-#[derive(Debug, Drop)]
+#[derive(Drop)]
 pub struct Prepared {
     pub work: Work,
     pub place: u64,

@@ -8,7 +8,7 @@ use std::alloc::Global;
 use std::marker::Model;
 
 /// The records of an extent that is being made, in the order in which they were added.
-#[derive(Debug, Drop)]
+#[derive(Drop)]
 pub struct ExtentBuilder {
     schema: Schema,
     records: Vec<Record>,

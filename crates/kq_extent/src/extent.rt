@@ -8,7 +8,7 @@ use kq_value::{Memory, Record, RecordId, Row, Tags, Value};
 use std::marker::Model;
 
 /// Records that were put in together. None of it changes.
-#[derive(Debug, Drop)]
+#[derive(Drop)]
 pub struct Extent {
     id: u64,
     records: Vec<Record>,

@@ -9,7 +9,7 @@ use std::marker::Model;
 use std::sync::Arc;
 
 /// Extents in order. A list shares each extent with whoever else has a handle to it.
-#[derive(Debug, Drop)]
+#[derive(Drop)]
 pub struct ExtentList {
     handles: Vec<Arc<Extent, Global>>,
 }

@@ -2,7 +2,7 @@
 use kq_value::{Rows, Schema};
 
 /// What a query gives: its columns and its rows, and whether their order is part of it.
-#[derive(Debug, Drop)]
+#[derive(Drop)]
 pub struct Answer {
     pub schema: Schema,
     pub ordered: bool,

@@ -8,7 +8,7 @@ use std::marker::Model;
 
 /// Rows that one commit gives a table, with the tags of their extent. A table's number is its place, from 0, in the
 /// order of creation.
-#[derive(Debug, Drop)]
+#[derive(Drop)]
 pub struct Batch {
     pub table: u32,
     pub rows: Rows,
@@ -16,7 +16,7 @@ pub struct Batch {
 }
 
 /// The batches of one commit in the order of the cascade, the source's first. Contracts see their list.
-#[derive(Debug, Drop)]
+#[derive(Drop)]
 pub struct Batches {
     batches: Vec<Batch>,
 }

@@ -22,7 +22,7 @@ impl By {
 }
 
 /// What a client's command changes for good.
-#[derive(Debug, Drop)]
+#[derive(Drop)]
 pub enum Commit {
     CreateTable {
         name: Text,
@@ -35,13 +35,13 @@ pub enum Commit {
 }
 
 /// What an event does.
-#[derive(Debug, Drop)]
+#[derive(Drop)]
 pub enum Operation {
     Commit(Commit),
 }
 
 /// An entry of the history: an operation with the mark of the command that made it.
-#[derive(Debug, Drop)]
+#[derive(Drop)]
 pub struct Event {
     pub by: By,
     pub operation: Operation,

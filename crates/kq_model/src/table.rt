@@ -4,7 +4,7 @@ ghost use Rattle.std.specs.Prelude.{◌≡◌, IfOk};
 use kq_value::{Memory, Schema, Text};
 
 /// A table with its present columns, and the cursor of the commit that made it.
-#[derive(Debug, Drop)]
+#[derive(Drop)]
 pub struct Table {
     pub name: Text,
     pub schema: Schema,

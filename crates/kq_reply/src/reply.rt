@@ -5,7 +5,7 @@ use crate::refusal::Refusal;
 use kq_value::{Bytes, Memory};
 
 /// What a command is answered with. A cursor is a number of client commits.
-#[derive(Debug, Drop)]
+#[derive(Drop)]
 pub enum Reply {
     /// The command made the commit of this cursor.
     Done { cursor: u64 },

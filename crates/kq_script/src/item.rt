@@ -2,7 +2,7 @@
 use kq_value::Bytes;
 
 /// The next thing in a script.
-#[derive(Debug, Drop)]
+#[derive(Drop)]
 pub enum Item {
     /// A command's bytes.
     Command(Bytes),

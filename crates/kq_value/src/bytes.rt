@@ -2,11 +2,12 @@
 ghost use Rattle.std.specs.Prelude.{◌≡◌, ◌↔◌, IsTrue, ℕ, List, [], ◌∷◌, ◌++◌, IfOk, OnOk, OnErr, length};
 
 use crate::Memory;
+use crate::items::{copy_of, push_to};
 use std::alloc::Global;
 use std::marker::Model;
 
 /// Bytes, which need not be a text. Contracts see their list.
-#[derive(Debug, Drop)]
+#[derive(Drop)]
 pub struct Bytes {
     bytes: Vec<u8>,
 }
@@ -65,8 +66,7 @@ impl Bytes {
         ensures ok { OnOk result (self.new ≡ self.old ++ byte ∷ []) }
         ensures err { OnErr result (self.new ≡ self.old) }
     {
-        self.bytes.push(byte)?;
-        Ok(())
+        push_to(&mut self.bytes, byte)
     }
 
     pub fn extend(&mut self, more: &[u8]) -> Result<(), Memory>
@@ -79,7 +79,7 @@ impl Bytes {
     pub fn clone_in(&self) -> Result<Bytes, Memory>
         ensures { IfOk result (λ b. b ≡ self.now) }
     {
-        let bytes = self.bytes.clone()?;
+        let bytes = copy_of(&self.bytes)?;
         Ok(Bytes { bytes })
     }
 }

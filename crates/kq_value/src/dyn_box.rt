@@ -12,7 +12,7 @@ use std::cmp::Ordering;
 use std::marker::Model;
 
 /// A dynamic in a box, so that a value is small; the null takes no memory. Contracts see the dynamic.
-#[derive(Debug, Drop)]
+#[derive(Drop)]
 pub struct DynBox {
     kept: Option<Box<Dyn>>,
 }

@@ -8,6 +8,7 @@ ghost use Rattle.kq_value.specs.Hash.{tree_hash, trees_hash, entries_hash};
 
 use crate::Memory;
 use crate::hash::{step, step_bytes};
+use crate::items::room_for;
 use crate::text::Text;
 use std::alloc::Global;
 use std::cmp::Ordering;
@@ -15,7 +16,7 @@ use std::marker::Model;
 
 /// A dynamic: JSON whose numbers are whole and of 64 signed bits. Contracts see its tree by `tree_of`.
 #[cycle(dynamic)]
-#[derive(Debug, Drop)]
+#[derive(Drop)]
 pub enum Dyn {
     Null,
     Bool(bool),
@@ -27,14 +28,14 @@ pub enum Dyn {
 
 /// An array, which nests at most 127 levels with itself. Contracts see the trees of its items.
 #[cycle(dynamic)]
-#[derive(Debug, Drop)]
+#[derive(Drop)]
 pub struct DynList {
     items: Vec<Dyn>,
 }
 
 /// An entry of a bag.
 #[cycle(dynamic)]
-#[derive(Debug, Drop)]
+#[derive(Drop)]
 pub struct Member {
     pub key: Text,
     pub value: Dyn,
@@ -42,7 +43,7 @@ pub struct Member {
 
 /// A bag: values by key, in byte order of the keys, which nests at most 127 levels with itself. Contracts see its entries.
 #[cycle(dynamic)]
-#[derive(Debug, Drop)]
+#[derive(Drop)]
 pub struct DynBag {
     members: Vec<Member>,
 }
@@ -254,7 +255,7 @@ impl DynList {
     pub fn clone_in(&self) -> Result<DynList, Memory>
         ensures { IfOk result (λ d. d ≡ self.now) }
     {
-        let mut items = Vec::with_capacity(*self.items.allocator(), self.items.len())?;
+        let mut items = room_for(&self.items)?;
         for item in &self.items {
             items.push_reserved(item.clone_in()?);
         }
@@ -384,7 +385,7 @@ impl DynBag {
     pub fn clone_in(&self) -> Result<DynBag, Memory>
         ensures { IfOk result (λ d. d ≡ self.now) }
     {
-        let mut members = Vec::with_capacity(*self.members.allocator(), self.members.len())?;
+        let mut members = room_for(&self.members)?;
         for member in &self.members {
             members.push_reserved(member.clone_in()?);
         }

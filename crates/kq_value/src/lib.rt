@@ -7,6 +7,7 @@ mod bytes;
 mod dyn_box;
 mod dynamic;
 mod hash;
+mod items;
 mod record;
 mod record_id;
 mod row;

@@ -6,6 +6,7 @@ ghost use Rattle.kq_value.specs.Hash.{row_hash};
 
 use crate::Memory;
 use crate::hash::{SEED, finish, step};
+use crate::items::{copy_of, push_to};
 use crate::schema::Schema;
 use crate::value::Value;
 use std::alloc::Global;
@@ -13,7 +14,7 @@ use std::cmp::Ordering;
 use std::marker::Model;
 
 /// The cells of a record. Contracts see their list.
-#[derive(Debug, Drop)]
+#[derive(Drop)]
 pub struct Row {
     cells: Vec<Value>,
 }
@@ -32,7 +33,7 @@ impl Model for Row {
 }
 
 /// Records. Contracts see the list of their rows.
-#[derive(Debug, Drop)]
+#[derive(Drop)]
 pub struct Rows {
     rows: Vec<Row>,
 }
@@ -114,8 +115,7 @@ impl Row {
         ensures ok { OnOk result (self.new ≡ self.old ++ cell ∷ []) }
         ensures err { OnErr result (self.new ≡ self.old) }
     {
-        self.cells.push(cell)?;
-        Ok(())
+        push_to(&mut self.cells, cell)
     }
 
     /// The order of rows: cell by cell, and a prefix first.
@@ -163,7 +163,7 @@ impl Row {
     pub fn clone_in(&self) -> Result<Row, Memory>
         ensures { IfOk result (λ r. r ≡ self.now) }
     {
-        let cells = Vec::from_clones(*self.cells.allocator(), self.cells.as_slice())?;
+        let cells = copy_of(&self.cells)?;
         Ok(Row { cells })
     }
 }
@@ -227,14 +227,13 @@ impl Rows {
         ensures ok { OnOk result (self.new ≡ self.old ++ row ∷ []) }
         ensures err { OnErr result (self.new ≡ self.old) }
     {
-        self.rows.push(row)?;
-        Ok(())
+        push_to(&mut self.rows, row)
     }
 
     pub fn clone_in(&self) -> Result<Rows, Memory>
         ensures { IfOk result (λ r. r ≡ self.now) }
     {
-        let rows = Vec::from_clones(*self.rows.allocator(), self.rows.as_slice())?;
+        let rows = copy_of(&self.rows)?;
         Ok(Rows { rows })
     }
 }

@@ -3,13 +3,14 @@ ghost use Rattle.std.specs.Prelude.{◌≡◌, ◌↔◌, ◌<◌, ◌^◌, List
 ghost use Rattle.kq_value.specs.Schema.{same_fields as are_same};
 
 use crate::Memory;
+use crate::items::{copy_of, push_to};
 use crate::text::Text;
 use crate::ty::Ty;
 use std::alloc::Global;
 use std::marker::Model;
 
 /// A column: its name and its type.
-#[derive(Debug, Drop)]
+#[derive(Drop)]
 pub struct Field {
     pub name: Text,
     pub ty: Ty,
@@ -44,7 +45,7 @@ impl Clone for Field {
 }
 
 /// Columns in order. Contracts see their list.
-#[derive(Debug, Drop)]
+#[derive(Drop)]
 pub struct Schema {
     fields: Vec<Field>,
 }
@@ -102,8 +103,7 @@ impl Schema {
         ensures ok { OnOk result (self.new ≡ self.old ++ field ∷ []) }
         ensures err { OnErr result (self.new ≡ self.old) }
     {
-        self.fields.push(field)?;
-        Ok(())
+        push_to(&mut self.fields, field)
     }
 
     ghost use Rattle.kq_value.specs.Schema.{same_fields as are_same_fields};
@@ -119,7 +119,7 @@ impl Schema {
     pub fn clone_in(&self) -> Result<Schema, Memory>
         ensures { IfOk result (λ s. s ≡ self.now) }
     {
-        let fields = Vec::from_clones(*self.fields.allocator(), self.fields.as_slice())?;
+        let fields = copy_of(&self.fields)?;
         Ok(Schema { fields })
     }
 }

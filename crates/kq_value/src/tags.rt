@@ -2,12 +2,13 @@
 ghost use Rattle.std.specs.Prelude.{◌≡◌, ◌↔◌, ◌<◌, ◌^◌, List, [], ◌∷◌, ◌++◌, length, IfOk, IsTrue, OnOk, OnErr};
 
 use crate::Memory;
+use crate::items::{copy_of, push_to};
 use crate::text::Text;
 use std::alloc::Global;
 use std::marker::Model;
 
 /// The tags of an extent, in order of first appearance, as `ingest-by:batch-7`. Contracts see their list.
-#[derive(Debug, Drop)]
+#[derive(Drop)]
 pub struct Tags {
     tags: Vec<Text>,
 }
@@ -67,14 +68,13 @@ impl Tags {
         ensures ok { OnOk result (self.new ≡ self.old ++ tag ∷ []) }
         ensures err { OnErr result (self.new ≡ self.old) }
     {
-        self.tags.push(tag)?;
-        Ok(())
+        push_to(&mut self.tags, tag)
     }
 
     pub fn clone_in(&self) -> Result<Tags, Memory>
         ensures { IfOk result (λ t. t ≡ self.now) }
     {
-        let tags = Vec::from_clones(*self.tags.allocator(), self.tags.as_slice())?;
+        let tags = copy_of(&self.tags)?;
         Ok(Tags { tags })
     }
 }

@@ -2,7 +2,7 @@
 ghost use Rattle.std.specs.Prelude.{◌≡◌, ◌↔◌, IsTrue};
 
 /// A type of values. A datetime is `Moment` and a timespan is `Span`, both in ticks of 100 ns.
-#[derive(Clone, Copy, Debug)]
+#[derive(Clone, Copy)]
 pub enum Ty {
     Long,
     Int,

@@ -16,7 +16,7 @@ use std::alloc::Global;
 use std::cmp::Ordering;
 
 /// A cell. A datetime and a timespan are in ticks of 100 ns, a datetime from 0001-01-01. A null has the type of its column, but a missing string is empty and a missing dynamic is the null of dynamics, so that no `Null` of a table has these two types.
-#[derive(Debug, Drop)]
+#[derive(Drop)]
 pub enum Value {
     Null(Ty),
     Long(i64),

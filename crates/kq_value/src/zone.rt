@@ -2,13 +2,14 @@
 ghost use Rattle.std.specs.Prelude.{◌≡◌, ◌↔◌, IsTrue, ◌<◌, ◌^◌, [], ◌∷◌, ◌++◌, IfOk, OnOk, OnErr, length};
 
 use crate::Memory;
+use crate::items::{copy_of, push_to};
 use crate::value::Value;
 use std::alloc::Global;
 use std::cmp::Ordering;
 use std::marker::Model;
 
 /// How a cell stands to the value of a test.
-#[derive(Clone, Copy, Debug)]
+#[derive(Clone, Copy)]
 pub enum ZoneOp {
     Equal,
     Below,
@@ -35,7 +36,7 @@ impl ZoneOp {
 }
 
 /// A test of a column, which a row meets where its cell isn't null and stands so to the value.
-#[derive(Debug, Drop)]
+#[derive(Drop)]
 pub struct ZoneTest {
     pub column: usize,
     pub op: ZoneOp,
@@ -72,7 +73,7 @@ impl Clone for ZoneTest {
 }
 
 /// Tests, of which a row meets all. Contracts see their list.
-#[derive(Debug, Drop)]
+#[derive(Drop)]
 pub struct ZoneTests {
     tests: Vec<ZoneTest>,
 }
@@ -134,14 +135,13 @@ impl ZoneTests {
         ensures ok { OnOk result (self.new ≡ self.old ++ test ∷ []) }
         ensures err { OnErr result (self.new ≡ self.old) }
     {
-        self.tests.push(test)?;
-        Ok(())
+        push_to(&mut self.tests, test)
     }
 
     pub fn clone_in(&self) -> Result<ZoneTests, Memory>
         ensures { IfOk result (λ t. t ≡ self.now) }
     {
-        let tests = Vec::from_clones(*self.tests.allocator(), self.tests.as_slice())?;
+        let tests = copy_of(&self.tests)?;
         Ok(ZoneTests { tests })
     }
 }

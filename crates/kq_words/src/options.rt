@@ -22,7 +22,7 @@ const MOST_GENERATED: u32 = 1_000_000;
 const MOST_FEEDS: usize = 7;
 
 /// What the words ask for.
-#[derive(Debug, Drop)]
+#[derive(Drop)]
 pub struct Options {
     /// The number of workers, 0 where the words don't say it.
     pub workers: u32,

@@ -1,4 +1,5 @@
 use Rattle.std.proofs.Common.{◌≡◌, min, length, vec_len, arith, sym, ◌∙◌}
+use Rattle.std.proofs.lemmas.Grind.{common_steps}
 use Rattle.kq_value.proofs.Steps.{trees_cmp-end, entries_cmp-end}
 use Rattle.kq_value.proofs.dynamic.+compare.Goals as goal
 
@@ -17,3 +18,15 @@ DynList::cmp-returns t c =
     let others : vec_len c.other.inside.items ≡ length c.other.inside.items.items = omega arith in
     let e = trees_cmp-end _ _ c.loop-i.i at_end in
     rw (← c.self.view_is, ← c.other.view_is, c.cmp.ensures, c.len-3.ensures, c.len-4.ensures, own, others) (sym (c.loop-i.invariant ∙ e))
+
+pub DynBag::cmp-loop-i-preserved : goal.DynBag::cmp-loop-i-preserved
+DynBag::cmp-loop-i-preserved t c = grind (arith, common_steps)
+
+pub DynList::cmp-loop-i-preserved : goal.DynList::cmp-loop-i-preserved
+DynList::cmp-loop-i-preserved t c = grind (arith, common_steps)
+
+pub DynBag::cmp-returns-then-ne : goal.DynBag::cmp-returns-then-ne
+DynBag::cmp-returns-then-ne t c = grind (arith, common_steps)
+
+pub DynList::cmp-returns-then-ne : goal.DynList::cmp-returns-then-ne
+DynList::cmp-returns-then-ne t c = grind (arith, common_steps)
