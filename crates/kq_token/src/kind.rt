@@ -71,6 +71,8 @@ pub enum WordOperator {
     NotContainsCs,
     NotStartsWith,
     NotStartsWithCs,
+    NotEndsWith,
+    NotEndsWithCs,
     NotIn,
     /// `!in~`, which disregards case.
     NotInTilde,

@@ -7,7 +7,7 @@ ghost use Rattle.kq_token.specs.Scanning.{begins, literal_word_of, single_sign, 
 use crate::kind::{DashedWord, LiteralWord, Operator, Punctuation, Side, TokenKind, WordOperator};
 
 /// The kinds of one spelling. Where one spelling begins another, the longer one stands first.
-pub const SPELLED: [TokenKind; 45] = [
+pub const SPELLED: [TokenKind; 47] = [
     TokenKind::DashedWord(DashedWord::ProjectAway),
     TokenKind::DashedWord(DashedWord::ProjectRename),
     TokenKind::DashedWord(DashedWord::MvExpand),
@@ -21,6 +21,8 @@ pub const SPELLED: [TokenKind; 45] = [
     TokenKind::WordOperator(WordOperator::NotContains),
     TokenKind::WordOperator(WordOperator::NotStartsWithCs),
     TokenKind::WordOperator(WordOperator::NotStartsWith),
+    TokenKind::WordOperator(WordOperator::NotEndsWithCs),
+    TokenKind::WordOperator(WordOperator::NotEndsWith),
     TokenKind::WordOperator(WordOperator::NotInTilde),
     TokenKind::WordOperator(WordOperator::NotIn),
     TokenKind::WordOperator(WordOperator::NotBetween),
@@ -104,6 +106,8 @@ fn word_operator_spelling(operator: WordOperator) -> &'static str
         WordOperator::NotContainsCs => "!contains_cs",
         WordOperator::NotStartsWith => "!startswith",
         WordOperator::NotStartsWithCs => "!startswith_cs",
+        WordOperator::NotEndsWith => "!endswith",
+        WordOperator::NotEndsWithCs => "!endswith_cs",
         WordOperator::NotIn => "!in",
         WordOperator::NotInTilde => "!in~",
         WordOperator::NotBetween => "!between",

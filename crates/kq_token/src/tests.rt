@@ -61,6 +61,12 @@ fn the_longest_word_or_sign_is_taken(rt: HostRuntime) -> Result<(), Fail> {
             "WordOperator(NotStartsWith)@0-11 WordOperator(NotStartsWithCs)@12-26",
         ),
         (
+            "!endswith !endswith_cs",
+            "WordOperator(NotEndsWith)@0-9 WordOperator(NotEndsWithCs)@10-22",
+        ),
+        ("!endswithx", "WordOperator(NotEndsWith)@0-9 Word@9-10"),
+        ("!ends", "Syntax@0"),
+        (
             "!in !in~ !between in~",
             "WordOperator(NotIn)@0-3 WordOperator(NotInTilde)@4-8 WordOperator(NotBetween)@9-17 WordOperator(InTilde)@18-21",
         ),

@@ -46,7 +46,7 @@ impl<T: Drop> From<AllocFailed<T>> for LexFault {
 }
 
 /// The tokens of a text in order, with the text. Contracts see both.
-#[derive(Debug, Drop)]
+#[derive(Drop)]
 pub struct Tokens {
     text: Text,
     list: Vec<Token>,
