@@ -1,0 +1,49 @@
+-- How tightly operators bind.
+use Rattle.std.specs.Prelude.{ℕ, nat_le, ◌||◌, if◌then◌else◌}
+use Rattle.kq_grammar.specs.Trees.{Strength, disjunction, conjunction, sum, product, Tree, name, literal, group, call, path, signed, compare, within, between, chain}
+use Rattle.kq_syntax.specs.declared.word.ReservedWord.TheVariants as r
+use Rattle.kq_syntax.specs.Classes as k
+use Rattle.kq_syntax.specs.Classes.{Class}
+
+-- from `or` at 0
+abbrev pub strength : Strength → ℕ
+strength disjunction = 0
+strength conjunction = 1
+strength sum = 3
+strength product = 4
+
+abbrev pub operators : Strength → Class
+operators disjunction = k.reserved r.Or
+operators conjunction = k.reserved r.And
+operators sum = k.additive
+operators product = k.multiplicative
+
+abbrev pub binding : Tree → ℕ
+binding (name n) = 7
+binding (literal t) = 7
+binding (group t e) = 7
+binding (call t es) = 7
+binding (path e s ss) = 6
+binding (signed t e) = 5
+binding (compare a t b) = 2
+binding (within a t e es) = 2
+binding (between a t b c) = 2
+binding (chain l e t f ls) = strength l
+
+-- an operator of strength 2
+abbrev pub relation : Class
+relation x = k.comparison x || k.membership x || k.interval x
+
+-- what a step begins with
+abbrev pub step_sign : Class
+step_sign x = k.dot x || k.open_bracket x
+
+-- With these an expression of that strength or more goes on.
+abbrev pub goes_on : ℕ → Class
+goes_on n x =
+    if operators disjunction x then nat_le n 0 else
+    (if operators conjunction x then nat_le n 1 else
+    (if relation x then nat_le n 2 else
+    (if operators sum x then nat_le n 3 else
+    (if operators product x then nat_le n 4 else
+    (if step_sign x then nat_le n 6 else k.open_parenthesis x)))))
