@@ -1,0 +1,3 @@
+pub mod BehindOperands
+pub mod Nests
+pub mod Reading

@@ -1,0 +1,94 @@
+// Comparisons, `in` and `between`, of which one may stand behind a sum.
+ghost use Rattle.std.specs.Prelude.{◌≡◌, map};
+ghost use Rattle.kq_expression.specs.Nests.{Nests};
+ghost use Rattle.kq_expression.specs.Reading as spec;
+ghost use Rattle.kq_expression.specs.BehindOperands.{related};
+ghost use Rattle.kq_grammar.specs.Strengths.{relation};
+ghost use Rattle.kq_grammar.specs.Views.{tree_of, trees_of};
+ghost use Rattle.kq_syntax.specs.Classes.{of};
+ghost use Rattle.kq_syntax.specs.Forms.{starts};
+ghost use Rattle.kq_syntax.specs.Gives.{Gives};
+
+use crate::nesting::{Nested, Reader};
+use kq_grammar::{Expression, between, compare, interval, link, within};
+use kq_syntax::{Behind, Class, Cursor, Part, Stop, more};
+use kq_token::Punctuation;
+use std::alloc::Global;
+
+/// Whether an operator comes next that relates two sums.
+fn sees_relation(cursor: &Cursor<'_>) -> bool
+    ensures { result ≡ starts (of relation) cursor.now }
+{
+    cursor.sees(Class::Comparison) || cursor.sees(Class::Membership) || cursor.sees(Class::Interval)
+}
+
+impl<F: Fn(Global, &mut Cursor<'_>, usize) -> Result<Expression, Stop>> Reader<F> {
+    #[tactic(auto, unfolding(crate::specs::Reading::comparing))]
+    fn comparing(&self, left: Expression, cursor: &mut Cursor<'_>) -> Result<Expression, Stop>
+        requires { Nests self.now.budget (F.pre self.now.expression) (F.post self.now.expression) }
+        ensures { Gives tree_of (related (tree_of left) (spec.comparing (spec.expression self.now.budget) self.now.turns) cursor.old) result cursor.new }
+    {
+        let operator = cursor.expect(Class::Comparison)?;
+        let right = self.sum(cursor)?;
+        Ok(compare(self.alloc, left, link(operator, right))?)
+    }
+
+    #[tactic(auto, unfolding(crate::specs::Reading::listing))]
+    fn listing(&self, left: Expression, cursor: &mut Cursor<'_>) -> Result<Expression, Stop>
+        requires { Nests self.now.budget (F.pre self.now.expression) (F.post self.now.expression) }
+        ensures { Gives tree_of (related (tree_of left) (spec.listing (spec.expression self.now.budget) self.now.turns) cursor.old) result cursor.new }
+    {
+        let operator = cursor.expect(Class::Membership)?;
+        cursor.expect(Class::Sign(Punctuation::OpenParenthesis))?;
+        let value = Nested(self);
+        let first = value.read(cursor)?;
+        let comma = Class::Sign(Punctuation::Comma);
+        let next = Behind {
+            class: comma,
+            part: &value,
+        };
+        let others = more(self.turns, comma, &next, cursor, Vec::new(self.alloc))?;
+        cursor.expect(Class::Sign(Punctuation::CloseParenthesis))?;
+        Ok(within(self.alloc, left, link(operator, first), others)?)
+    }
+
+    #[tactic(auto, unfolding(crate::specs::Reading::ranging))]
+    fn ranging(&self, left: Expression, cursor: &mut Cursor<'_>) -> Result<Expression, Stop>
+        requires { Nests self.now.budget (F.pre self.now.expression) (F.post self.now.expression) }
+        ensures { Gives tree_of (related (tree_of left) (spec.ranging (spec.expression self.now.budget) self.now.turns) cursor.old) result cursor.new }
+    {
+        let operator = cursor.expect(Class::Interval)?;
+        cursor.expect(Class::Sign(Punctuation::OpenParenthesis))?;
+        let low = self.sum(cursor)?;
+        cursor.expect(Class::Sign(Punctuation::DotDot))?;
+        let high = self.sum(cursor)?;
+        cursor.expect(Class::Sign(Punctuation::CloseParenthesis))?;
+        Ok(between(self.alloc, left, interval(operator, low, high))?)
+    }
+
+    #[tactic(auto, unfolding(crate::specs::Reading::relating))]
+    fn relating(&self, left: Expression, cursor: &mut Cursor<'_>) -> Result<Expression, Stop>
+        requires { Nests self.now.budget (F.pre self.now.expression) (F.post self.now.expression) }
+        ensures { Gives tree_of (related (tree_of left) (spec.relating (spec.expression self.now.budget) self.now.turns) cursor.old) result cursor.new }
+    {
+        if cursor.sees(Class::Comparison) {
+            return self.comparing(left, cursor);
+        }
+        if cursor.sees(Class::Membership) {
+            return self.listing(left, cursor);
+        }
+        self.ranging(left, cursor)
+    }
+
+    #[tactic(auto, unfolding(crate::specs::Reading::comparison))]
+    pub(crate) fn comparison(&self, cursor: &mut Cursor<'_>) -> Result<Expression, Stop>
+        requires { Nests self.now.budget (F.pre self.now.expression) (F.post self.now.expression) }
+        ensures { Gives tree_of (spec.comparison (spec.expression self.now.budget) self.now.turns cursor.old) result cursor.new }
+    {
+        let left = self.sum(cursor)?;
+        if !sees_relation(cursor) {
+            return Ok(left);
+        }
+        self.relating(left, cursor)
+    }
+}
