@@ -1,0 +1,60 @@
+-- Where an exact reader stops is where symbols stop to begin a text of its form.
+use Rattle.std.proofs.Common.{◌≡◌, ◌≤◌, ◌<◌, ℕ, Bool, List, [], ◌∷◌, ◌++◌, length, Result, Ok, Err, refl, sym, ◌∙◌, ap, subst, append_assoc, append-nil, arith}
+use Rattle.kq_grammar.specs.Expressions.{Text}
+use Rattle.kq_parse.specs.declared.asking.ParseFault.{ParseFault}
+use Rattle.kq_parse.specs.declared.asking.ParseFault.TheVariants as fault
+use Rattle.kq_parse.specs.Depth.{IsShallow}
+use Rattle.kq_parse.specs.Places.{Ends, BreaksAt, IsOnly, IsRefusal, RefusesAt}
+use Rattle.kq_syntax.specs.declared.kind.Symbol.{Symbol}
+use Rattle.kq_syntax.specs.Forms.{Meets, Parser, Reads, Stuck, Outcome}
+use Rattle.kq_syntax.proofs.Laws.{Exact}
+
+module _ {A : Type 0} (form : A → Text) (more : Symbol → Bool) where
+  join_one : (front : List Symbol) (t : Symbol) (after : List Symbol) → (front ++ t ∷ []) ++ after ≡ front ++ (t ∷ after)
+  join_one front t after = append_assoc front (t ∷ []) after
+
+  whole_read : (ts : List Symbol) (x : A) → Reads form more ts x [] → IsOnly form ts x
+  whole_read ts x a =
+      let all : ts ≡ a.front = a.split ∙ append-nil a.front in
+      record {
+        spelled = subst (form x) (sym all) a.spelled;
+        only = λ other s. (a.only other ts [] [] s tt tt (append-nil ts ∙ all ∙ sym (append-nil a.front))).0;
+      }
+
+  left_over : (ts : List Symbol) (x : A) (t : Symbol) (rest : List Symbol) → Reads form more ts x (t ∷ rest) → BreaksAt form ts (t ∷ rest)
+  left_over ts x t rest a = record {
+    front = a.front;
+    split = a.split;
+    begins = (x, [], subst (form x) (sym (append-nil a.front)) a.spelled);
+    ends = λ s.
+        let found = (a.only s.0 ((a.front ++ t ∷ []) ++ s.1) [] (t ∷ s.1) s.2 tt refl (append-nil ((a.front ++ t ∷ []) ++ s.1) ∙ join_one a.front t s.1)).1 in
+        let wrong : [] ≡ t ∷ s.1 = found in
+        cc;
+  }
+
+  stuck_ends : (ts rest : List Symbol) → (a : Stuck form more ts rest) → Ends form a.front rest
+  stuck_ends ts [] a = λ x s. a.never x a.front [] [] s tt tt refl
+  stuck_ends ts (t ∷ rest) a = λ s. a.never s.0 ((a.front ++ t ∷ []) ++ s.1) [] (t ∷ s.1) s.2 tt refl (append-nil ((a.front ++ t ∷ []) ++ s.1) ∙ join_one a.front t s.1)
+
+  stuck_breaks : (ts rest : List Symbol) → Stuck form more ts rest → BreaksAt form ts rest
+  stuck_breaks ts rest a = record { front = a.front; split = a.split; begins = (a.value, a.missing, a.completed); ends = stuck_ends ts rest a }
+
+  module _ (reader : ℕ → Parser Symbol A) (exact : (n : ℕ) → Exact form more (reader n) n) where
+    read_meets : (ts : List Symbol) (o : Outcome Symbol A) → reader (length ts) ts ≡ o → Meets form more ts o
+    read_meets ts o e = subst (λ o. Meets form more ts o) e ((exact (length ts)).meets ts (omega arith))
+
+    pub reads_whole : (ts : List Symbol) (x : A) (rest : List Symbol) → reader (length ts) ts ≡ Ok (x, rest) → length rest ≡ 0 → IsOnly form ts x
+    reads_whole ts x [] e none = whole_read ts x (read_meets ts (Ok (x, [])) e)
+    reads_whole ts x (t ∷ rest) e none = absurd (omega arith)
+
+    refuses : (ts rest : List Symbol) (end : ℕ) (r : ParseFault) → IsShallow ts → BreaksAt form ts rest → IsRefusal rest end r → RefusesAt form ts end r
+    refuses ts rest end (fault.Syntax place) shallow breaks is = (shallow, (rest, is, breaks))
+    refuses ts rest end (fault.Deep place) shallow breaks is = absurd is
+    refuses ts rest end fault.Memory shallow breaks is = tt
+
+    pub refuses_left : (ts : List Symbol) (x : A) (rest : List Symbol) (end : ℕ) (r : ParseFault) → IsShallow ts → reader (length ts) ts ≡ Ok (x, rest) → (length rest ≡ 0 → ⊥) → IsRefusal rest end r → RefusesAt form ts end r
+    refuses_left ts x [] end r shallow e some is = absurd (some refl)
+    refuses_left ts x (t ∷ rest) end r shallow e some is = refuses ts (t ∷ rest) end r shallow (left_over ts x t rest (read_meets ts (Ok (x, t ∷ rest)) e)) is
+
+    pub refuses_stuck : (ts rest : List Symbol) (end : ℕ) (r : ParseFault) → IsShallow ts → reader (length ts) ts ≡ Err rest → IsRefusal rest end r → RefusesAt form ts end r
+    refuses_stuck ts rest end r shallow e is = refuses ts rest end r shallow (stuck_breaks ts rest (read_meets ts (Err rest) e)) is

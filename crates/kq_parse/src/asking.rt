@@ -1,0 +1,59 @@
+// Whole queries.
+ghost use Rattle.std.specs.Prelude.{◌≡◌, length, MatchResult};
+ghost use Rattle.kq_grammar.specs.TabularViews.{query_of};
+ghost use Rattle.kq_grammar.specs.Tabulars.{query_text};
+ghost use Rattle.kq_parse.specs.Places.{Answers, IsRefusal, RefusesAt};
+
+use crate::depth::too_deep;
+use crate::lets::read_query;
+use kq_grammar::Query;
+use kq_syntax::{Cursor, Stop, Symbol};
+use std::alloc::Global;
+
+/// Why symbols are no query, or no command. Places are offsets of bytes.
+#[derive(Clone, Copy, Debug, PartialEq, Eq)]
+pub enum ParseFault {
+    /// None has this symbol here.
+    Syntax { at: usize },
+    /// More than 120 brackets are open.
+    Deep { at: usize },
+    Memory,
+}
+
+/// The refusal where the cursor stands, in a text that ends at `end`.
+pub fn refusal(cursor: &mut Cursor<'_>, end: usize) -> ParseFault
+    ensures { IsRefusal cursor.old end result }
+{
+    match cursor.take() {
+        Ok(symbol) => ParseFault::Syntax { at: symbol.from },
+        Err(stop) => match stop {
+            Stop::Syntax => ParseFault::Syntax { at: end },
+            Stop::Memory => ParseFault::Memory,
+        },
+    }
+}
+
+/// The query that has exactly these symbols of a text that ends at `end`.
+pub fn parse_query(alloc: Global, symbols: &[Symbol], end: usize) -> Result<Query, ParseFault>
+    // It is the only one.
+    ensures { MatchResult result (λ q. Answers query_text symbols.now (query_of q)) (RefusesAt query_text symbols.now end) }
+{
+    if let Some(at) = too_deep(symbols) {
+        return Err(ParseFault::Deep { at });
+    }
+    let mut cursor = Cursor::new(symbols);
+    let found = read_query(alloc, &mut cursor, symbols.len());
+    match found {
+        Ok(query) => {
+            if cursor.left() == 0 {
+                Ok(query)
+            } else {
+                Err(refusal(&mut cursor, end))
+            }
+        }
+        Err(stop) => match stop {
+            Stop::Memory => Err(ParseFault::Memory),
+            Stop::Syntax => Err(refusal(&mut cursor, end)),
+        },
+    }
+}

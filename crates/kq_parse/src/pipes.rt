@@ -1,0 +1,305 @@
+// Sources and operators that may have sources inside, and pipes. The readers take that of the sources inside as a value, so
+// that each is proved by itself.
+ghost use Rattle.std.specs.Prelude.{◌≡◌, ◌<◌, map};
+ghost use Rattle.kq_grammar.specs.TabularViews.{arm_of, arms_of, body_of, from_of, operator_of, operators_of, source_of, tabular_of, union_of};
+ghost use Rattle.kq_grammar.specs.Trees as tree;
+ghost use Rattle.kq_parse.specs.Nests.{Nests};
+ghost use Rattle.kq_parse.specs.Reading as spec;
+ghost use Rattle.kq_syntax.specs.declared.kind.Symbol.{Symbol as Shown};
+ghost use Rattle.kq_syntax.specs.Forms.{skip, many, with_front};
+ghost use Rattle.kq_syntax.specs.Gives.{Gives};
+
+use crate::bodies::{
+    read_datatable, read_distinct, read_expansion, read_kind, read_range, read_summarize,
+    read_table_name, read_top, read_view,
+};
+use crate::build;
+use crate::words::{expect_operator_word, expect_source_word, sees_source_word};
+use kq_clause::{read_items, read_join_keys, read_keys, read_names, read_renamings};
+use kq_expression::{read_expression, read_name};
+use kq_grammar::{
+    Arm, Name, Operator, OperatorBody, OperatorKey, Source, SourceBody, Tabular, Union,
+};
+use kq_syntax::{
+    Behind, Class, ClauseWord, Cursor, Part, ReservedWord, SourceWord, Stop, Symbol, more,
+};
+use kq_token::{Operator as Sign, Punctuation};
+use std::alloc::Global;
+
+#[derive(Clone, Copy)]
+pub struct Reader<F> {
+    alloc: Global,
+    /// At least the number of symbols that are left.
+    turns: usize,
+    budget: usize,
+    tabular: F,
+}
+
+impl<F: Fn(Global, &mut Cursor<'_>, usize) -> Result<Tabular, Stop>> Reader<F> {
+    #[tactic(auto, unfolding(crate::specs::Reading::nesting))]
+    fn nesting(&self, cursor: &mut Cursor<'_>) -> Result<(Symbol, Tabular), Stop>
+        requires { Nests self.now.budget (F.pre self.now.tabular) (F.post self.now.tabular) }
+        ensures { Gives (λ p. (p.0, tabular_of p.1)) (spec.nesting (spec.tabular self.now.budget) self.now.turns cursor.old) result cursor.new }
+    {
+        let paren = cursor.expect(Class::Sign(Punctuation::OpenParenthesis))?;
+        let inner = (self.tabular)(self.alloc, cursor, self.budget)?;
+        cursor.expect(Class::Sign(Punctuation::CloseParenthesis))?;
+        Ok((paren, inner))
+    }
+
+    #[tactic(auto, unfolding(crate::specs::Reading::arm))]
+    fn arm(&self, cursor: &mut Cursor<'_>) -> Result<Arm, Stop>
+        requires { Nests self.now.budget (F.pre self.now.tabular) (F.post self.now.tabular) }
+        ensures { Gives arm_of (spec.arm (spec.tabular self.now.budget) self.now.turns cursor.old) result cursor.new }
+    {
+        if cursor.sees(Class::Sign(Punctuation::OpenParenthesis)) {
+            let (paren, inner) = self.nesting(cursor)?;
+            return Ok(build::grouped(self.alloc, paren, inner)?);
+        }
+        let name = read_name(cursor)?;
+        Ok(build::named(name))
+    }
+
+    #[tactic(auto, unfolding(crate::specs::Reading::more_arms))]
+    fn more_arms(&self, cursor: &mut Cursor<'_>) -> Result<Vec<Arm>, Stop>
+        requires { Nests self.now.budget (F.pre self.now.tabular) (F.post self.now.tabular) }
+        ensures { Gives (λ v. map arm_of v.items) (spec.more_arms (spec.tabular self.now.budget) self.now.turns cursor.old) result cursor.new }
+    {
+        let arm = AnArm(self);
+        let next = Behind {
+            class: Class::Sign(Punctuation::Comma),
+            part: &arm,
+        };
+        more(
+            self.turns,
+            Class::Sign(Punctuation::Comma),
+            &next,
+            cursor,
+            Vec::new(self.alloc),
+        )
+    }
+
+    #[tactic(auto, unfolding(crate::specs::Reading::plain_union))]
+    fn plain_union(&self, cursor: &mut Cursor<'_>) -> Result<Union, Stop>
+        requires { Nests self.now.budget (F.pre self.now.tabular) (F.post self.now.tabular) }
+        ensures { Gives union_of (spec.plain_union (spec.tabular self.now.budget) self.now.turns cursor.old) result cursor.new }
+    {
+        let first = self.arm(cursor)?;
+        let others = self.more_arms(cursor)?;
+        Ok(build::union(None, first, others))
+    }
+
+    /// What stands behind the word `kind`, which may be the name of an arm.
+    #[tactic(auto, unfolding(crate::specs::Reading::behind_kind))]
+    fn behind_kind(&self, word: Symbol, cursor: &mut Cursor<'_>) -> Result<Union, Stop>
+        requires { Nests self.now.budget (F.pre self.now.tabular) (F.post self.now.tabular) }
+        ensures { Gives union_of (spec.behind_kind (spec.tabular self.now.budget) self.now.turns word cursor.old) result cursor.new }
+    {
+        if !cursor.sees(Class::Operator(Sign::Assign)) {
+            let others = self.more_arms(cursor)?;
+            return Ok(build::union(None, build::named(Name::Word(word)), others));
+        }
+        cursor.expect(Class::Operator(Sign::Assign))?;
+        let kind = cursor.expect(Class::UnionKind)?;
+        let first = self.arm(cursor)?;
+        let others = self.more_arms(cursor)?;
+        Ok(build::union(Some(kind), first, others))
+    }
+
+    #[tactic(auto, unfolding(crate::specs::Reading::union, crate::specs::Reading::kind_union))]
+    fn union(&self, cursor: &mut Cursor<'_>) -> Result<Union, Stop>
+        requires { Nests self.now.budget (F.pre self.now.tabular) (F.post self.now.tabular) }
+        ensures { Gives union_of (spec.union (spec.tabular self.now.budget) self.now.turns cursor.old) result cursor.new }
+    {
+        if !cursor.sees(Class::Clause(ClauseWord::Kind)) {
+            return self.plain_union(cursor);
+        }
+        let word = cursor.expect(Class::Clause(ClauseWord::Kind))?;
+        self.behind_kind(word, cursor)
+    }
+
+    /// What stands behind the word of a source.
+    fn from(&self, word: SourceWord, cursor: &mut Cursor<'_>) -> Result<SourceBody, Stop>
+        requires { Nests self.now.budget (F.pre self.now.tabular) (F.post self.now.tabular) }
+        ensures { Gives from_of (spec.from (spec.tabular self.now.budget) self.now.turns word cursor.old) result cursor.new }
+    {
+        match word {
+            SourceWord::MaterializedView => Ok(build::view(read_view(cursor)?)),
+            SourceWord::Print => {
+                let (first, others) = read_items(self.alloc, cursor, self.turns)?;
+                Ok(build::print(first, others))
+            }
+            SourceWord::Range => read_range(self.alloc, cursor, self.turns),
+            SourceWord::Datatable => read_datatable(self.alloc, cursor, self.turns),
+            SourceWord::Union => Ok(build::union_source(self.union(cursor)?)),
+        }
+    }
+
+    #[tactic(auto, unfolding(crate::specs::Reading::source))]
+    fn source(&self, cursor: &mut Cursor<'_>) -> Result<Source, Stop>
+        requires { Nests self.now.budget (F.pre self.now.tabular) (F.post self.now.tabular) }
+        ensures { Gives source_of (spec.source (spec.tabular self.now.budget) self.now.turns cursor.old) result cursor.new }
+    {
+        if cursor.sees(Class::Sign(Punctuation::OpenParenthesis)) {
+            let (paren, inner) = self.nesting(cursor)?;
+            return Ok(build::nested(self.alloc, paren, inner)?);
+        }
+        if sees_source_word(cursor) {
+            let (symbol, word) = expect_source_word(cursor)?;
+            let body = self.from(word, cursor)?;
+            return Ok(build::worded(symbol, body));
+        }
+        Ok(build::table(read_table_name(cursor)?))
+    }
+
+    #[tactic(auto, unfolding(crate::specs::Reading::join))]
+    fn join(&self, cursor: &mut Cursor<'_>) -> Result<OperatorBody, Stop>
+        requires { Nests self.now.budget (F.pre self.now.tabular) (F.post self.now.tabular) }
+        ensures { Gives body_of (spec.join (spec.tabular self.now.budget) self.now.turns cursor.old) result cursor.new }
+    {
+        let kind = maybe_kind(cursor)?;
+        let (_paren, right) = self.nesting(cursor)?;
+        cursor.expect(Class::Clause(ClauseWord::On))?;
+        let (first, others) = read_join_keys(self.alloc, cursor, self.turns)?;
+        Ok(build::join(self.alloc, kind, right, first, others)?)
+    }
+
+    /// What stands behind the word of an operator that has rows inside or a list of parts.
+    fn body(&self, key: OperatorKey, cursor: &mut Cursor<'_>) -> Result<OperatorBody, Stop>
+        requires { Nests self.now.budget (F.pre self.now.tabular) (F.post self.now.tabular) }
+        ensures { Gives body_of (spec.body (spec.tabular self.now.budget) self.now.turns key cursor.old) result cursor.new }
+    {
+        match key {
+            OperatorKey::Where => Ok(OperatorBody::Where(read_expression(
+                self.alloc, cursor, self.turns,
+            )?)),
+            OperatorKey::Extend => {
+                let (first, others) = read_items(self.alloc, cursor, self.turns)?;
+                Ok(OperatorBody::Extend(first, others))
+            }
+            OperatorKey::Project => {
+                let (first, others) = read_items(self.alloc, cursor, self.turns)?;
+                Ok(OperatorBody::Project(first, others))
+            }
+            OperatorKey::ProjectAway => {
+                let (first, others) = read_names(self.alloc, cursor, self.turns)?;
+                Ok(OperatorBody::ProjectAway(first, others))
+            }
+            OperatorKey::ProjectRename => {
+                let (first, others) = read_renamings(self.alloc, cursor, self.turns)?;
+                Ok(OperatorBody::ProjectRename(first, others))
+            }
+            OperatorKey::Take => Ok(OperatorBody::Take(cursor.expect(Class::WholeNumber)?)),
+            OperatorKey::Count => Ok(build::count()),
+            OperatorKey::Sort => {
+                cursor.expect(Class::Reserved(ReservedWord::By))?;
+                let (first, others) = read_keys(self.alloc, cursor, self.turns)?;
+                Ok(OperatorBody::Sort(first, others))
+            }
+            OperatorKey::Top => read_top(self.alloc, cursor, self.turns),
+            OperatorKey::Distinct => read_distinct(self.alloc, cursor, self.turns),
+            OperatorKey::Summarize => read_summarize(self.alloc, cursor, self.turns),
+            OperatorKey::Join => self.join(cursor),
+            OperatorKey::Union => Ok(build::unite(self.union(cursor)?)),
+            OperatorKey::MvExpand => read_expansion(self.alloc, cursor, self.turns),
+        }
+    }
+
+    #[tactic(auto, unfolding(crate::specs::Reading::operator))]
+    fn operator(&self, cursor: &mut Cursor<'_>) -> Result<Operator, Stop>
+        requires { Nests self.now.budget (F.pre self.now.tabular) (F.post self.now.tabular) }
+        ensures { Gives operator_of (spec.operator (spec.tabular self.now.budget) self.now.turns cursor.old) result cursor.new }
+    {
+        let (word, key) = expect_operator_word(cursor)?;
+        let body = self.body(key, cursor)?;
+        Ok(build::operator(word, body))
+    }
+
+    #[tactic(auto, unfolding(crate::specs::Reading::pipeline))]
+    fn pipeline(&self, cursor: &mut Cursor<'_>) -> Result<Tabular, Stop>
+        requires { Nests self.now.budget (F.pre self.now.tabular) (F.post self.now.tabular) }
+        ensures { Gives tabular_of (spec.pipeline (spec.tabular self.now.budget) self.now.turns cursor.old) result cursor.new }
+    {
+        let source = self.source(cursor)?;
+        let operator = AnOperator(self);
+        let next = Behind {
+            class: Class::Sign(Punctuation::Pipe),
+            part: &operator,
+        };
+        let operators = more(
+            self.turns,
+            Class::Sign(Punctuation::Pipe),
+            &next,
+            cursor,
+            Vec::new(self.alloc),
+        )?;
+        Ok(build::tabular(source, operators))
+    }
+}
+
+/// The kind of a join, where it is said.
+#[tactic(auto, unfolding(crate::specs::Reading::maybe_kind))]
+fn maybe_kind(cursor: &mut Cursor<'_>) -> Result<Option<Name>, Stop>
+    ensures { Gives (λ o. o) (spec.maybe_kind cursor.old) result cursor.new }
+{
+    if !cursor.sees(Class::Clause(ClauseWord::Kind)) {
+        return Ok(None);
+    }
+    let kind = read_kind(cursor)?;
+    Ok(Some(kind))
+}
+
+#[derive(Drop)]
+pub struct AnArm<'a, F>(&'a Reader<F>);
+
+impl<'a, F: Fn(Global, &mut Cursor<'_>, usize) -> Result<Tabular, Stop>> Part for AnArm<'a, F> {
+    type Value = Arm;
+
+    ghost Shape = { tree.ArmTree };
+
+    ghost view = { arm_of };
+
+    ghost reader = { λ a. spec.arm (spec.tabular a.0.now.budget) a.0.now.turns };
+
+    ghost callable = { λ a. Nests a.0.now.budget (F.pre a.0.now.tabular) (F.post a.0.now.tabular) };
+
+    fn read(&self, cursor: &mut Cursor<'_>) -> Result<Arm, Stop> {
+        self.0.arm(cursor)
+    }
+}
+
+#[derive(Drop)]
+pub struct AnOperator<'a, F>(&'a Reader<F>);
+
+impl<'a, F: Fn(Global, &mut Cursor<'_>, usize) -> Result<Tabular, Stop>> Part
+    for AnOperator<'a, F> {
+    type Value = Operator;
+
+    ghost Shape = { Shown × tree.BodyTree };
+
+    ghost view = { operator_of };
+
+    ghost reader = { λ o. spec.operator (spec.tabular o.0.now.budget) o.0.now.turns };
+
+    ghost callable = { λ o. Nests o.0.now.budget (F.pre o.0.now.tabular) (F.post o.0.now.tabular) };
+
+    fn read(&self, cursor: &mut Cursor<'_>) -> Result<Operator, Stop> {
+        self.0.operator(cursor)
+    }
+}
+
+/// The source that comes next with the operators behind it. The budget is at least the number of symbols that are left.
+pub fn read_tabular(alloc: Global, cursor: &mut Cursor<'_>, budget: usize) -> Result<Tabular, Stop>
+    ensures { Gives tabular_of (spec.tabular budget cursor.old) result cursor.new }
+{
+    if budget == 0 {
+        return Err(Stop::Syntax);
+    }
+    Reader {
+        alloc,
+        turns: budget,
+        budget: budget - 1,
+        tabular: read_tabular,
+    }
+    .pipeline(cursor)
+}
