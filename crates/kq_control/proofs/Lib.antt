@@ -1,0 +1,4 @@
+pub mod PartLaws
+pub mod StatementLaws
+mod SymbolLemmas
+pub mod ViewLaws

@@ -1,0 +1,102 @@
+// What makes views and exports.
+ghost use Rattle.std.specs.Prelude.{◌≡◌};
+ghost use Rattle.std.specs.Option.{option_map};
+ghost use Rattle.kq_control.specs.ControlReading as spec;
+ghost use Rattle.kq_control.specs.ControlViews.{export_of, properties_of, view_of};
+ghost use Rattle.kq_syntax.specs.Gives.{Gives};
+
+use crate::parts::{body, properties, property_list, table_name};
+use crate::tree::{ExportDefinition, PropertyList, ViewDefinition};
+use kq_expression::read_name;
+use kq_grammar::Name;
+use kq_syntax::{Class, ClauseWord, ControlWord, Cursor, Stop, Symbol};
+use kq_token::{DashedWord, Punctuation};
+use std::alloc::Global;
+
+/// What stands behind the word `with`, which may be the view's name.
+#[tactic(auto, unfolding(crate::specs::ControlReading::behind_with))]
+fn behind_with(
+    alloc: Global,
+    cursor: &mut Cursor<'_>,
+    budget: usize,
+    word: Symbol,
+) -> Result<(Option<PropertyList>, Name), Stop>
+    ensures { Gives (λ p. (option_map properties_of p.0, p.1)) (spec.behind_with budget word cursor.old) result cursor.new }
+{
+    if !cursor.sees(Class::Sign(Punctuation::OpenParenthesis)) {
+        return Ok((None, Name::Word(word)));
+    }
+    let list = property_list(alloc, cursor, budget)?;
+    let name = read_name(cursor)?;
+    Ok((Some(list), name))
+}
+
+/// The view's properties and its name.
+#[tactic(auto, unfolding(crate::specs::ControlReading::viewed))]
+fn viewed(
+    alloc: Global,
+    cursor: &mut Cursor<'_>,
+    budget: usize,
+) -> Result<(Option<PropertyList>, Name), Stop>
+    ensures { Gives (λ p. (option_map properties_of p.0, p.1)) (spec.viewed budget cursor.old) result cursor.new }
+{
+    if cursor.sees(Class::Control(ControlWord::With)) {
+        let word = cursor.expect(Class::Control(ControlWord::With))?;
+        return behind_with(alloc, cursor, budget, word);
+    }
+    let name = read_name(cursor)?;
+    Ok((None, name))
+}
+
+/// The word, where it comes next.
+#[tactic(auto, unfolding(crate::specs::ControlReading::word_if))]
+fn word_if(cursor: &mut Cursor<'_>, word: ControlWord) -> Result<Option<Symbol>, Stop>
+    ensures { Gives (λ o. o) (spec.word_if word cursor.old) result cursor.new }
+{
+    if !cursor.sees(Class::Control(word)) {
+        return Ok(None);
+    }
+    let found = cursor.expect(Class::Control(word))?;
+    Ok(Some(found))
+}
+
+/// What stands behind `create` where a view is made.
+#[tactic(auto, unfolding(crate::specs::ControlReading::view))]
+pub(crate) fn view(
+    alloc: Global,
+    cursor: &mut Cursor<'_>,
+    budget: usize,
+) -> Result<ViewDefinition, Stop>
+    ensures { Gives view_of (spec.view budget cursor.old) result cursor.new }
+{
+    let at_leisure = word_if(cursor, ControlWord::Async)?;
+    let unless_there = word_if(cursor, ControlWord::IfNotExists)?;
+    cursor.expect(Class::Dashed(DashedWord::MaterializedView))?;
+    let (properties, name) = viewed(alloc, cursor, budget)?;
+    cursor.expect(Class::Clause(ClauseWord::On))?;
+    let table = table_name(cursor)?;
+    let body = body(alloc, cursor, budget)?;
+    Ok(ViewDefinition {
+        at_leisure,
+        unless_there,
+        properties,
+        name,
+        table,
+        body,
+    })
+}
+
+/// What an export is to be.
+#[tactic(auto, unfolding(crate::specs::ControlReading::export_definition))]
+pub(crate) fn export_definition(
+    alloc: Global,
+    cursor: &mut Cursor<'_>,
+    budget: usize,
+) -> Result<ExportDefinition, Stop>
+    ensures { Gives export_of (spec.export_definition budget cursor.old) result cursor.new }
+{
+    cursor.expect(Class::Control(ControlWord::Over))?;
+    let table = read_name(cursor)?;
+    let body = body(alloc, cursor, budget)?;
+    Ok(ExportDefinition { table, body })
+}
