@@ -1,6 +1,4 @@
-pub mod Choice
-pub mod FirstPiece
-pub mod Names
-pub mod Reading
-pub mod Repeats
-mod Within
+mod Choice
+mod Repeats
+mod Shapes
+mod StringForms

@@ -1,3 +1,7 @@
 pub mod Columns
-pub mod Pieces
+pub mod Faults
+pub mod Meanings
 pub mod Reads
+pub mod Rows
+pub mod Types
+pub mod Unsupported

@@ -7,7 +7,7 @@ use kq_value::{Field, Memory, Schema, Text, Ty};
 use std::marker::Model;
 
 /// A name and the byte offset at which its token starts.
-#[derive(Debug, Drop)]
+#[derive(Drop)]
 pub struct Identifier {
     pub text: Text,
     pub at: usize,
@@ -25,7 +25,7 @@ impl Identifier {
 }
 
 /// A column: its name and its type.
-#[derive(Debug, Drop)]
+#[derive(Drop)]
 pub struct Column {
     pub name: Identifier,
     pub ty: Ty,
@@ -43,7 +43,7 @@ impl Column {
 }
 
 /// One or more columns in order. Contracts see their list.
-#[derive(Debug, Drop)]
+#[derive(Drop)]
 pub struct Columns {
     columns: Vec<Column>,
 }

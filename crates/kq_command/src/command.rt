@@ -2,11 +2,12 @@
 ghost use Rattle.std.specs.Prelude.{◌≡◌, IfOk};
 
 use crate::columns::{Columns, Identifier};
+use kq_parse::ParseFault;
 use kq_value::{Bytes, Memory};
 use std::alloc::{AllocError, AllocFailed};
 
 /// What a text asks for.
-#[derive(Debug, Drop)]
+#[derive(Drop)]
 pub enum Command {
     /// `.create table NAME (COLUMN:TYPE, ..)`
     CreateTable { name: Identifier, columns: Columns },
@@ -19,7 +20,7 @@ pub enum Command {
 }
 
 /// `NAME` or `NAME | count`: a table's rows, or their number where `counted` is set.
-#[derive(Debug, Drop)]
+#[derive(Drop)]
 pub struct Query {
     pub table: Identifier,
     pub counted: bool,
@@ -60,6 +61,14 @@ impl Command {
 pub enum CommandFault {
     /// The byte at this offset is the first that isn't UTF-8.
     NotText { at: usize },
+    /// The text is no command: the token at this offset is the first with which the tokens begin none. Where all of them begin
+    /// one it is the text's length, and where a text isn't all tokens the first byte where none starts.
+    Syntax { at: usize },
+    /// The bracket at this offset is the first with which more than 120 are open.
+    Deep { at: usize },
+    /// The text is a command, and the symbol at this offset is its first that isn't supported: a word that is no type's, a
+    /// property's word, or a property's value.
+    Unsupported { at: usize },
     /// Want of memory.
     Memory,
 }
@@ -81,5 +90,20 @@ impl<T: Drop> From<AllocFailed<T>> for CommandFault {
 
     fn from(_error: AllocFailed<T>) -> CommandFault {
         CommandFault::Memory
+    }
+}
+
+impl From<ParseFault> for CommandFault {
+    ghost use Rattle.std.specs.Prelude.{◌≡◌};
+    ghost use Rattle.kq_command.specs.Faults.{fault_of};
+
+    ghost from_gives = { λ e f. f ≡ fault_of e };
+
+    fn from(fault: ParseFault) -> CommandFault {
+        match fault {
+            ParseFault::Syntax { at } => CommandFault::Syntax { at },
+            ParseFault::Deep { at } => CommandFault::Deep { at },
+            ParseFault::Memory => CommandFault::Memory,
+        }
     }
 }

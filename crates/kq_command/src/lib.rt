@@ -5,11 +5,12 @@
 
 mod columns;
 mod command;
-mod pieces;
+mod meanings;
 mod read;
 #[cfg(test)]
 mod tests;
-mod words;
+mod types;
+mod unsupported;
 
 pub use columns::{Column, Columns, Identifier};
 pub use command::{Command, CommandFault, Query};

@@ -6,7 +6,7 @@ use Rattle.kq_model.specs.declared.limits.Limits.{Limits}
 use Rattle.kq_model.specs.History.{History}
 use Rattle.kq_command.specs.declared.command.Command.{Command}
 use Rattle.kq_command.specs.declared.command.CommandFault.{CommandFault}
-use Rattle.kq_command.specs.declared.command.CommandFault.TheVariants.{NotText, Memory}
+use Rattle.kq_command.specs.declared.command.CommandFault.TheVariants.{NotText, Syntax, Deep, Unsupported, Memory}
 use Rattle.kq_command.specs.Reads.{Reads}
 use Rattle.kq_reply.specs.Number.{number_of}
 use Rattle.kq_reply.specs.declared.refusal.Refusal.{Refusal}
@@ -18,7 +18,7 @@ use Rattle.kq_engine.specs.declared.work.Work.{Work}
 use Rattle.kq_engine.specs.Shared.{PassView, Applies}
 use Rattle.kq_script.specs.Script.{Block, command, too_long}
 use Rattle.kq_engine.proofs.Advancing.{Fits-append}
-use Rattle.kq_session.specs.Blocks.{Refuses, FitsRead, FitsBlock, Steps, is_early}
+use Rattle.kq_session.specs.Blocks.{Refuses, FitsRead, FitsBlock, Steps, is_early, refusal_of}
 
 Refuses-append : (h more : History) (place : ℕ) (own : Bool) (reply : Reply) (r : Refusal) → Refuses h place own reply r → Refuses (h ++ more) place own reply r
 Refuses-append h more place own reply r refuses = record {
@@ -29,8 +29,7 @@ Refuses-append h more place own reply r refuses = record {
 
 FitsRead-append : (limits : Limits) (h more : History) (mark : By) (read : Result Command CommandFault) (now : ℤ) (place : ℕ) (own : Bool) (reply : Reply) → FitsRead limits h mark read now place own reply → FitsRead limits (h ++ more) mark read now place own reply
 FitsRead-append limits h more mark (Ok asked) now place own reply fits = Fits-append limits h more mark asked now place own reply fits
-FitsRead-append limits h more mark (Err (NotText at)) now place own reply fits = Refuses-append h more place own reply _ fits
-FitsRead-append limits h more mark (Err Memory) now place own reply fits = Refuses-append h more place own reply _ fits
+FitsRead-append limits h more mark (Err fault) now place own reply fits = Refuses-append h more place own reply (refusal_of fault) fits
 
 -- what fits a history fits each that begins with it
 pub FitsBlock-append : (limits : Limits) (h more : History) (mark : By) (block : Block) (now : ℤ) (place : ℕ) (own : Bool) (reply : Reply) → FitsBlock limits h mark block now place own reply → FitsBlock limits (h ++ more) mark block now place own reply
@@ -56,10 +55,17 @@ Steps-refused limits p by block now r outcome is early fits = subst (λ (o : Out
   within = omega arith;
 })
 
+early : (f : CommandFault) → is_early (number_of (refusal_of f)) ≡ true
+early (NotText at) = refl
+early (Syntax at) = refl
+early (Deep at) = refl
+early (Unsupported at) = refl
+early Memory = refl
+
 -- a text that was refused
-pub Steps-text : (limits : Limits) (p : PassView) (by : By) (text : List ℕ) (now : ℤ) (at : ℕ) (outcome : Outcome) → outcome ≡ record { place = length p.seen; own = false; reply = replies.Refused (refusals.NotText at) } → Reads text (Err (NotText at)) → Steps limits p p by (command text) now outcome
-Steps-text limits p by text now at outcome is reads = Steps-refused limits p by (command text) now (refusals.NotText at) outcome is refl (record {
-  read = Err (NotText at);
+pub Steps-text : (limits : Limits) (p : PassView) (by : By) (text : List ℕ) (now : ℤ) (f : CommandFault) (outcome : Outcome) → outcome ≡ record { place = length p.seen; own = false; reply = replies.Refused (refusal_of f) } → Reads text (Err f) → Steps limits p p by (command text) now outcome
+Steps-text limits p by text now f outcome is reads = Steps-refused limits p by (command text) now (refusal_of f) outcome is (early f) (record {
+  read = Err f;
   reads = reads;
   fits = record { within = omega arith; not_own = refl; reason = inl refl };
 })

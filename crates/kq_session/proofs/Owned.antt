@@ -6,7 +6,7 @@ use Rattle.kq_model.specs.declared.limits.Limits.{Limits}
 use Rattle.kq_model.specs.History.{History, CommitAt, commits_at}
 use Rattle.kq_command.specs.declared.command.Command.{Command}
 use Rattle.kq_command.specs.declared.command.CommandFault.{CommandFault}
-use Rattle.kq_command.specs.declared.command.CommandFault.TheVariants.{NotText, Memory}
+use Rattle.kq_command.specs.declared.command.CommandFault.TheVariants.{NotText, Syntax, Deep, Unsupported, Memory}
 use Rattle.kq_reply.specs.declared.reply.Reply.{Reply}
 use Rattle.kq_script.specs.Script.{Block, command, too_long}
 use Rattle.kq_engine.specs.Fits.{own_commit}
@@ -34,8 +34,9 @@ Follows-below q q' n n' (m ∷ ms) low few follows = (omega (arith, low, follows
 
 FitsRead-own : (limits : Limits) (h : History) (mark : By) (read : Result Command CommandFault) (now : ℤ) (place : ℕ) (reply : Reply) → FitsRead limits h mark read now place true reply → IsIn (record { place = place; by = mark }) (commits_at h)
 FitsRead-own limits h mark (Ok asked) now place reply fits = Fits-own limits h mark asked now place reply fits
-FitsRead-own limits h mark (Err (NotText at)) now place reply fits = absurd cc
-FitsRead-own limits h mark (Err Memory) now place reply fits = absurd cc
+FitsRead-own limits h mark (Err fault) now place reply fits = absurd (not_own fits.not_own) where
+  not_own : true ≡ false → ⊥
+  not_own e = cc
 
 FitsBlock-own : (limits : Limits) (h : History) (mark : By) (block : Block) (now : ℤ) (place : ℕ) (reply : Reply) → FitsBlock limits h mark block now place true reply → IsIn (record { place = place; by = mark }) (commits_at h)
 FitsBlock-own limits h mark (command text) now place reply fits = FitsRead-own limits h mark fits.read now place reply fits.fits

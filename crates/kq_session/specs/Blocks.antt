@@ -7,7 +7,7 @@ use Rattle.kq_model.specs.declared.limits.Limits.{Limits}
 use Rattle.kq_model.specs.History.{History}
 use Rattle.kq_command.specs.declared.command.Command.{Command}
 use Rattle.kq_command.specs.declared.command.CommandFault.{CommandFault}
-use Rattle.kq_command.specs.declared.command.CommandFault.TheVariants.{NotText, Memory}
+use Rattle.kq_command.specs.declared.command.CommandFault.TheVariants.{NotText, Syntax, Deep, Unsupported, Memory}
 use Rattle.kq_command.specs.Reads.{Reads}
 use Rattle.kq_reply.specs.declared.refusal.Refusal.{Refusal}
 use Rattle.kq_reply.specs.declared.refusal.Refusal.TheVariants as refusals
@@ -25,11 +25,18 @@ pub record Refuses (h : History) (place : ℕ) (own : Bool) (reply : Reply) (r :
   pub not_own : own ≡ false
   pub reason : (reply ≡ replies.Refused r) ⊎ (reply ≡ replies.Refused refusals.Memory)
 
+-- the refusal of a fault
+abbrev pub refusal_of : CommandFault → Refusal
+refusal_of (NotText at) = refusals.NotText at
+refusal_of (Syntax at) = refusals.Syntax at
+refusal_of (Deep at) = refusals.Deep at
+refusal_of (Unsupported at) = refusals.Unsupported at
+refusal_of Memory = refusals.Memory
+
 -- the reply to what a text reads as
 abbrev pub FitsRead : Limits → History → By → Result Command CommandFault → ℤ → ℕ → Bool → Reply → Type 0
 FitsRead limits h mark (Ok asked) now place own reply = Fits limits h mark asked now place own reply
-FitsRead limits h mark (Err (NotText at)) now place own reply = Refuses h place own reply (refusals.NotText at)
-FitsRead limits h mark (Err Memory) now place own reply = Refuses h place own reply refusals.Memory
+FitsRead limits h mark (Err fault) now place own reply = Refuses h place own reply (refusal_of fault)
 
 -- the reply to a text fits the command that the text reads as, or is the refusal of the text
 pub record FitsText (limits : Limits) (h : History) (mark : By) (text : List ℕ) (now : ℤ) (place : ℕ) (own : Bool) (reply : Reply) : Type 0 where
@@ -42,9 +49,9 @@ abbrev pub FitsBlock : Limits → History → By → Block → ℤ → ℕ → B
 FitsBlock limits h mark (command text) now place own reply = FitsText limits h mark text now place own reply
 FitsBlock limits h mark (too_long bytes) now place own reply = Refuses h place own reply (refusals.TooLong bytes)
 
--- the refusals of a text alone, and for want of memory: Memory, Syntax, Deep, TooLong and NotText
+-- the refusals of a text alone, and for want of memory: Memory, Syntax, Deep, TooLong, Unsupported and NotText
 abbrev pub is_early : ℕ → Bool
-is_early kind = list_any (nat_eq kind) (1 ∷ 2 ∷ 3 ∷ 6 ∷ 22 ∷ [])
+is_early kind = list_any (nat_eq kind) (1 ∷ 2 ∷ 3 ∷ 6 ∷ 12 ∷ 22 ∷ [])
 
 -- the takes for a reply of this kind at this place: such a refusal needs none, and else the place is at least the first
 abbrev pub AreTakes : ℕ → ℕ → List ℕ → Type 0

@@ -3,7 +3,7 @@ ghost use Rattle.std.specs.Prelude.{◌≡◌, ℕ, false, length};
 ghost use Rattle.kq_script.specs.Script.{Block, command};
 ghost use Rattle.kq_script.specs.Item.{IsItemOf};
 ghost use Rattle.kq_reply.specs.declared.reply.Reply.TheVariants as replies;
-ghost use Rattle.kq_session.specs.Blocks.{Steps};
+ghost use Rattle.kq_session.specs.Blocks.{Steps, refusal_of};
 
 use crate::service::Service;
 use kq_command::{CommandFault, read_command};
@@ -51,10 +51,19 @@ fn answer_text<R: Wait, G: Gate>(
             let work = Work { by, command, now };
             shared.apply(service.rt, pass, work, service.gate)
         }
-        Err(CommandFault::NotText { at }) => {
-            refused(shared, pass, Refusal::NotText { at: at as u64 })
-        }
-        Err(CommandFault::Memory) => refused(shared, pass, Refusal::Memory),
+        Err(fault) => refused(shared, pass, refusal(fault)),
+    }
+}
+
+fn refusal(fault: CommandFault) -> Refusal
+    ensures { result ≡ refusal_of fault }
+{
+    match fault {
+        CommandFault::NotText { at } => Refusal::NotText { at: at as u64 },
+        CommandFault::Syntax { at } => Refusal::Syntax { at: at as u64 },
+        CommandFault::Deep { at } => Refusal::Deep { at: at as u64 },
+        CommandFault::Unsupported { at } => Refusal::Unsupported { at: at as u64 },
+        CommandFault::Memory => Refusal::Memory,
     }
 }
 

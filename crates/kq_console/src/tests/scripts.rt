@@ -118,23 +118,91 @@ fn a_create_is_refused_where_it_is_wrong(rt: HostRuntime) -> Result<(), Fail> {
         ),
         (
             b".create table by (k:long)".as_slice(),
-            b"refused Unbuilt\n\n".as_slice(),
+            b"refused Syntax at 14\n\n".as_slice(),
         ),
         (
             b".create table A ()".as_slice(),
-            b"refused Unbuilt\n\n".as_slice(),
+            b"refused Syntax at 17\n\n".as_slice(),
         ),
         (
             b".create table A (k:long) x".as_slice(),
-            b"refused Unbuilt\n\n".as_slice(),
+            b"refused Syntax at 25\n\n".as_slice(),
         ),
         (
             b".create table A (k:real)".as_slice(),
+            b"refused Unsupported at 19\n\n".as_slice(),
+        ),
+    ] {
+        expect_script(&rt, script, output)?;
+    }
+    Ok(())
+}
+
+#[test]
+fn a_text_is_refused_at_the_token_that_ends_every_command(rt: HostRuntime) -> Result<(), Fail> {
+    for (script, output) in [
+        (
+            b"print \"abc".as_slice(),
+            b"refused Syntax at 6\n\n".as_slice(),
+        ),
+        (
+            b"print \"a\" matches \"(\"".as_slice(),
+            b"refused Syntax at 10\n\n".as_slice(),
+        ),
+        (
+            b"E | where".as_slice(),
+            b"refused Syntax at 9\n\n".as_slice(),
+        ),
+        (
+            b"E | | count".as_slice(),
+            b"refused Syntax at 4\n\n".as_slice(),
+        ),
+        (
+            b".create table (a:long)".as_slice(),
+            b"refused Syntax at 14\n\n".as_slice(),
+        ),
+        (
+            b".ingest inline into table E with (colour='red') <|\n1".as_slice(),
+            b"refused Unsupported at 34\n\n".as_slice(),
+        ),
+        (b"print 1".as_slice(), b"refused Unbuilt\n\n".as_slice()),
+        (
+            b"E | summarize n = count() by k".as_slice(),
             b"refused Unbuilt\n\n".as_slice(),
         ),
     ] {
         expect_script(&rt, script, output)?;
     }
+    Ok(())
+}
+
+// `print (( .. 1 .. ))` with that many brackets.
+fn nested(alloc: Global, brackets: usize) -> Result<Vec<u8>, Fail> {
+    let mut script = String::from_str(alloc, "print ")?;
+    for _ in 0..brackets {
+        script.push_str("(")?;
+    }
+    script.push_str("1")?;
+    for _ in 0..brackets {
+        script.push_str(")")?;
+    }
+    Ok(script.into_bytes())
+}
+
+#[test]
+fn the_121st_open_bracket_is_too_deep(rt: HostRuntime) -> Result<(), Fail> {
+    let script = nested(rt.alloc(), 120)?;
+    expect_script(&rt, script.as_slice(), b"refused Unbuilt\n\n")?;
+    let script = nested(rt.alloc(), 121)?;
+    expect_script(&rt, script.as_slice(), b"refused Deep at 126\n\n")?;
+    Ok(())
+}
+
+#[test]
+fn comments_and_line_ends_stand_between_tokens(rt: HostRuntime) -> Result<(), Fail> {
+    let script =
+        b".create // a table\ntable ['my table'] (k // key\n: long)\n\n['my table'] // all\n| count\n";
+    expect_script(&rt, script, b"done 1\n\nrows 1\nCount:long\n0\n\n")?;
     Ok(())
 }
 
