@@ -7,8 +7,6 @@
 mod added;
 mod chain;
 mod slot_list;
-#[cfg(test)]
-mod tests;
 
 pub use chain::Chain;
 pub use slot_list::SlotList;

@@ -10,7 +10,7 @@ use Rattle.serde_json.proofs.Views.{Entry}
 use Rattle.kq_value.specs.Tree.{item, entry}
 use Rattle.kq_value.specs.Seen.{tree_of, trees_of, entries_of}
 use Rattle.kq_value.specs.Bags.{KeysAscend}
-use Rattle.kq_value.specs.Json.{tree_from, trees_from, entries_from}
+use Rattle.kq_written.specs.Json.{tree_from, trees_from, entries_from}
 use Rattle.kq_value.specs.declared.dynamic.Dyn.{Dyn}
 use Rattle.kq_value.specs.declared.dynamic.Member.{Member}
 

@@ -7,10 +7,10 @@ use Rattle.serde_json.specs.declared.value.Value.{Value}
 use Rattle.serde_json.proofs.Views.{Entry}
 use Rattle.kq_value.specs.Tree.{Trees, Entries, trees_depth, entries_depth, tree_size, trees_size, entries_size}
 use Rattle.kq_value.specs.Seen.{tree_of, trees_of, entries_of}
-use Rattle.kq_value.specs.Json.{trees_from, entries_from}
+use Rattle.kq_written.specs.Json.{trees_from, entries_from}
 use Rattle.kq_value.specs.declared.dynamic.Dyn.{Dyn}
 use Rattle.kq_value.specs.declared.dynamic.Member.{Member}
-use Rattle.kq_value.proofs.JsonLemmas.{trees_depth-trees_from, entries_depth-entries_from}
+use Rattle.kq_written.proofs.JsonLemmas.{trees_depth-trees_from, entries_depth-entries_from}
 
 depth_at : (vs : List Value) (i : ℕ) (v : Value) → i < length vs → depth (view (get_or vs i v)) ≤ items_depth (items_view vs)
 depth_at [] i v h = absurd (omega arith)

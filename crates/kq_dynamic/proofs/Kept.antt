@@ -11,7 +11,7 @@ use Rattle.serde_json.specs.View.{items_of}
 use Rattle.kq_value.specs.Tree.{Tree, Entries, no_entries, entry}
 use Rattle.kq_value.specs.Seen.{tree_of, trees_of, entries_of}
 use Rattle.kq_value.specs.Bags.{KeysAscend, push_entry}
-use Rattle.kq_value.specs.Json.{tree_from, trees_from, entries_from, data_from, items_from, members_from}
+use Rattle.kq_written.specs.Json.{tree_from, trees_from, entries_from, data_from, items_from, members_from}
 use Rattle.kq_value.specs.declared.dynamic.Dyn.{Dyn}
 use Rattle.kq_value.specs.declared.dynamic.Member.{Member}
 use Rattle.kq_value.proofs.Trees.{entries_of-push}

@@ -5,7 +5,7 @@ use Rattle.std.specs.Option.{option_map}
 use Rattle.std.proofs.lemmas.Option.{slice_get_read}
 use Rattle.kq_value.specs.Tree.{Tree, items_of}
 use Rattle.kq_value.specs.Seen.{tree_of, trees_of}
-use Rattle.kq_value.specs.Members.{item_at}
+use Rattle.kq_written.specs.Members.{item_at}
 use Rattle.kq_value.specs.declared.dynamic.Dyn.{Dyn}
 use Rattle.kq_value.proofs.Trees.{slice_get-items_of}
 use Rattle.kq_dynamic.specs.Places.{place_of}

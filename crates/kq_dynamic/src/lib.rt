@@ -1,10 +1,8 @@
-//! Dynamics as JSON text: reading and printing them over `serde_json`, and looking into them. What a dynamic is, which text is which dynamic, and what stands at a key or an index, are definitions of `kq_value`.
+//! Dynamics as JSON text: reading and printing them over `serde_json`, and looking into them. What a dynamic is, which text is which dynamic, and what stands at a key or an index, are definitions of `kq_written`.
 #![tactic(auto)]
 
 mod members;
 mod read;
-#[cfg(test)]
-mod tests;
 mod write;
 
 pub use members::{at_index, at_key};

@@ -1,7 +1,7 @@
 // Looking into a dynamic.
 ghost use Rattle.std.specs.Prelude.{◌≡◌, option_map};
 ghost use Rattle.kq_value.specs.Seen.{tree_of};
-ghost use Rattle.kq_value.specs.Members as members;
+ghost use Rattle.kq_written.specs.Members as members;
 ghost use Rattle.kq_dynamic.specs.Places.{place_of};
 
 use kq_value::Dyn;

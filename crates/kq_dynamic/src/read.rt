@@ -3,7 +3,7 @@ ghost use Rattle.std.specs.Prelude.{◌≡◌, ◌≤◌, ◌<◌, IfOk, option_
 ghost use Rattle.serde_json.specs.Data.{depth, items_depth, members_depth};
 ghost use Rattle.serde_json.specs.View.{view, items_view, members_view};
 ghost use Rattle.kq_value.specs.Seen.{tree_of};
-ghost use Rattle.kq_value.specs.Json.{tree_from, trees_from, entries_from, json_of};
+ghost use Rattle.kq_written.specs.Json.{tree_from, trees_from, entries_from, json_of};
 
 use kq_value::{Dyn, DynBag, DynList, Member, Memory, Text};
 use serde_json::{Map, Value};

@@ -3,7 +3,7 @@ ghost use Rattle.std.specs.Prelude.{◌≡◌, ◌≤◌, ◌<◌, ◌++◌, IfO
 ghost use Rattle.serde_json.specs.Data.{depth, items_depth, members_depth};
 ghost use Rattle.serde_json.specs.View.{view, items_view, members_view};
 ghost use Rattle.kq_value.specs.Seen.{tree_of};
-ghost use Rattle.kq_value.specs.Json.{tree_from, trees_from, entries_from, data_from, items_from, members_from, json_of, dynamic_text};
+ghost use Rattle.kq_written.specs.Json.{tree_from, trees_from, entries_from, data_from, items_from, members_from, json_of, dynamic_text};
 
 use kq_value::{Bytes, Dyn, DynBag, DynList, Memory};
 use serde_json::{Map, Number, Value};

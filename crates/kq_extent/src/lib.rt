@@ -8,8 +8,6 @@ mod builder;
 mod cells;
 mod extent;
 mod list;
-#[cfg(test)]
-mod tests;
 
 pub use builder::ExtentBuilder;
 pub use extent::Extent;

@@ -5,7 +5,7 @@ use Rattle.std.specs.Cmp.Lexicographic.{pointwise}
 use Rattle.std.specs.Char.{to_ascii_lowercase}
 use Rattle.std.proofs.Math.ListN.{get_or-map}
 use Rattle.std.proofs.lemmas.List.{length-map, length-take, take_more, take-map, drop-map}
-use Rattle.kq_value.specs.Strings.{occurs_at, endswith_cs}
+use Rattle.kq_written.specs.Strings.{occurs_at, endswith_cs}
 use Rattle.kq_strings.specs.declared.case.Case.{Case}
 use Rattle.kq_strings.specs.declared.case.Case.TheVariants.{Exact, Ignored}
 use Rattle.kq_strings.specs.Case.{in_case, byte_in_case}

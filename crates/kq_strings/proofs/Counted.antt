@@ -5,7 +5,7 @@ use Rattle.std.proofs.lemmas.Bool.{cases_lt}
 use Rattle.std.proofs.lemmas.Bool.Decides.{nat_tests}
 use Rattle.std.proofs.lemmas.List.{length-map}
 use Rattle.std.proofs.Math.ListN.{get_or-map}
-use Rattle.kq_value.specs.Strings.{occurs_at, are_joined, is_term_at}
+use Rattle.kq_written.specs.Strings.{occurs_at, are_joined, is_term_at}
 use Rattle.kq_strings.specs.declared.case.Case.{Case}
 use Rattle.kq_strings.specs.declared.case.Case.TheVariants.{Exact, Ignored}
 use Rattle.kq_strings.specs.Case.{in_case}

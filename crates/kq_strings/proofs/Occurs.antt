@@ -11,7 +11,7 @@ use Rattle.std.proofs.lemmas.Slice.Eq.{bytes_eq-Decides}
 use Rattle.std.proofs.lemmas.List.{length-take, length-drop, take_all}
 use Rattle.memchr.specs.Find.{OccursAt, FindsNeedle}
 use Rattle.memchr.proofs.lemmas.MatchLemmas.{OccursAt-true, occurs_at-true}
-use Rattle.kq_value.specs.Strings.{occurs_at, contains_cs, endswith_cs}
+use Rattle.kq_written.specs.Strings.{occurs_at, contains_cs, endswith_cs}
 
 -- ---- equal bytes, as a test
 

@@ -6,8 +6,8 @@ use Rattle.std.proofs.Math.Seq.{drop-append_seam, take-append_seam}
 use Rattle.std.proofs.lemmas.Slice.Eq.{bytes_eq-Decides}
 use Rattle.std.proofs.lemmas.List.{take-append-drop}
 use Rattle.kq_value.specs.Tree.{string, Trees, no_items, item, items_of}
-use Rattle.kq_value.specs.Members.{strings}
-use Rattle.kq_value.specs.Strings.{pieces_from, split, joined_by, replace_string}
+use Rattle.kq_written.specs.Members.{strings}
+use Rattle.kq_written.specs.Strings.{pieces_from, split, joined_by, replace_string}
 
 passed_over : (t : List ℕ) (n : ℕ) (s : List ℕ) → pieces_from t n s ≡ pieces_from t 0 (drop n s)
 passed_over t zero s = refl

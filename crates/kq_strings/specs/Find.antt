@@ -1,6 +1,6 @@
 -- What each kind of search finds.
 use Rattle.std.specs.Prelude.{ℕ, Bool, List}
-use Rattle.kq_value.specs.Strings.{has_cs, contains_cs, startswith_cs, endswith_cs, without_case}
+use Rattle.kq_written.specs.Strings.{has_cs, contains_cs, startswith_cs, endswith_cs, without_case}
 use Rattle.kq_strings.specs.declared.find.FindKind.{FindKind}
 use Rattle.kq_strings.specs.declared.find.FindKind.TheVariants.{Has, HasCs, Contains, ContainsCs, StartsWith, StartsWithCs, EndsWith, EndsWithCs}
 

@@ -1,6 +1,6 @@
 -- What a search finds.
 use Rattle.std.specs.Prelude.{ℕ, Bool, ◌&&◌, List}
-use Rattle.kq_value.specs.Strings.{occurs_at, is_term_at, contains_cs, has_cs}
+use Rattle.kq_written.specs.Strings.{occurs_at, is_term_at, contains_cs, has_cs}
 use Rattle.kq_strings.specs.declared.search.Occurrence.{Occurrence}
 use Rattle.kq_strings.specs.declared.search.Occurrence.TheVariants.{Any, Term}
 

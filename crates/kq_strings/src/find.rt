@@ -1,6 +1,6 @@
 // Whether a text is found in another.
 ghost use Rattle.std.specs.Prelude.{◌≡◌};
-ghost use Rattle.kq_value.specs.Strings.{has_cs, contains_cs, endswith_cs};
+ghost use Rattle.kq_written.specs.Strings.{has_cs, contains_cs, endswith_cs};
 ghost use Rattle.kq_strings.specs.Find.{finds};
 ghost use Rattle.kq_strings.specs.Case.{in_case};
 

@@ -1,4 +1,4 @@
-//! Searching, splitting and replacing in strings, as `has`, `contains`, `startswith`, `endswith`, `split` and `replace_string` do. What each gives is a definition of `kq_value`.
+//! Searching, splitting and replacing in strings, as `has`, `contains`, `startswith`, `endswith`, `split` and `replace_string` do. What each gives is a definition of `kq_written`.
 #![tactic(auto)]
 
 mod case;
@@ -7,8 +7,6 @@ mod search;
 mod split;
 mod sums;
 mod terms;
-#[cfg(test)]
-mod tests;
 
 pub use find::{FindKind, find_text};
 pub use split::{replace_text, split_text};

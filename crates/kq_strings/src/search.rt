@@ -1,6 +1,6 @@
 // Searching a text for the places at which another stands.
 ghost use Rattle.std.specs.Prelude.{◌≡◌, ◌+◌, ◌≤◌, ◌<◌, length};
-ghost use Rattle.kq_value.specs.Strings.{occurs_at};
+ghost use Rattle.kq_written.specs.Strings.{occurs_at};
 ghost use Rattle.kq_strings.specs.Case.{in_case};
 ghost use Rattle.kq_strings.specs.Found.{counts_at as counts, is_found as found};
 

@@ -2,8 +2,8 @@
 ghost use Rattle.std.specs.Prelude.{◌≡◌, ◌<◌, [], ◌∷◌, IfOk, IfSome, MatchOption, length};
 ghost use Rattle.kq_value.specs.Tree.{array};
 ghost use Rattle.kq_value.specs.Seen.{tree_of};
-ghost use Rattle.kq_value.specs.Members.{strings};
-ghost use Rattle.kq_value.specs.Strings.{split, replace_string};
+ghost use Rattle.kq_written.specs.Members.{strings};
+ghost use Rattle.kq_written.specs.Strings.{split, replace_string};
 
 use kq_value::{Dyn, DynList, Memory, Text};
 use std::alloc::Global;
@@ -46,5 +46,5 @@ pub fn replace_text(alloc: Global, text: &str, part: &str, by: &str) -> Result<T
         rest = after;
     }
     replaced.push_str(rest)?;
-    Ok(Text::from_string(replaced))
+    Text::from_string(alloc, replaced)
 }

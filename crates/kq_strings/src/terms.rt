@@ -1,6 +1,6 @@
 // Terms: what ends where no alphanumeric goes on.
 ghost use Rattle.std.specs.Prelude.{◌≡◌, ◌+◌, ◌≤◌, ◌<◌, length};
-ghost use Rattle.kq_value.specs.Strings.{are_joined as joined, is_term_at};
+ghost use Rattle.kq_written.specs.Strings.{are_joined as joined, is_term_at};
 
 /// Whether what stands at `at` doesn't go on before it, nor after it.
 pub(crate) fn is_term(text: &[u8], part: &[u8], at: usize) -> bool

@@ -5,10 +5,10 @@ use Rattle.std.specs.Str.{IsAscii, IsUtf8}
 use Rattle.std.proofs.lemmas.Str.{IsAscii-append, IsUtf8-from_ascii}
 use Rattle.std.proofs.lemmas.Str.Ascii.{IsAscii-cons, IsAscii-nil}
 use Rattle.std.proofs.lemmas.Fmt.{IsAscii-decimal}
-use Rattle.kq_value.specs.Numerals.{last_digit, padded}
-use Rattle.kq_value.specs.Civil.{Civil, date_of_day}
-use Rattle.kq_value.specs.Datetimes.{clock_text, date_text, datetime_text, ticks_per_day, ticks_per_hour, ticks_per_minute, ticks_per_second}
-use Rattle.kq_value.specs.Timespans.{timespan_text}
+use Rattle.kq_written.specs.Numerals.{last_digit, padded}
+use Rattle.kq_written.specs.Civil.{Civil, date_of_day}
+use Rattle.kq_written.specs.Datetimes.{clock_text, date_text, datetime_text, ticks_per_day, ticks_per_hour, ticks_per_minute, ticks_per_second}
+use Rattle.kq_written.specs.Timespans.{timespan_text}
 
 byte_is : (b : ℕ) → b < 128 → IsAscii (b ∷ [])
 byte_is b h = IsAscii-cons b [] h IsAscii-nil

@@ -6,10 +6,10 @@ use Rattle.jiff_core.specs.Calendar.{days_in_month, days_of_months}
 use Rattle.jiff_core.proofs.SignedLemmas.{signed_arith}
 use Rattle.jiff_core.proofs.CalendarLemmas.{days_of_months-zero}
 use Rattle.jiff_core.proofs.DateLemmas.{epoch_day_injective}
-use Rattle.kq_value.specs.Civil.{Civil, date_of_day, days_to}
-use Rattle.kq_value.proofs.CivilLemmas.{date_of_day_is, days_from_civil-days_to, days_to-date_of_day, year_of_day_bound}
-use Rattle.kq_value.specs.Datetimes.{ticks_per_day}
-use Rattle.kq_value.specs.Ticks.{day_of}
+use Rattle.kq_written.specs.Civil.{Civil, date_of_day, days_to}
+use Rattle.kq_written.proofs.CivilLemmas.{date_of_day_is, days_from_civil-days_to, days_to-date_of_day, year_of_day_bound}
+use Rattle.kq_written.specs.Datetimes.{ticks_per_day}
+use Rattle.kq_written.specs.Ticks.{day_of}
 use Rattle.kq_time.specs.Dates.{HasDate}
 use Rattle.kq_time.specs.Units.{unit_start}
 use Rattle.kq_time.specs.declared.unit.Unit.{Unit}

@@ -13,9 +13,9 @@ use Rattle.jiff_core.specs.declared.civil.date.Date.{Date}
 use Rattle.jiff_core.specs.Date.{epoch_day}
 use Rattle.jiff_core.specs.Calendar.{IsDate, days_from_civil, days_in_month}
 use Rattle.jiff_core.proofs.SignedLemmas.{signed_arith}
-use Rattle.kq_value.specs.Civil.{Civil, days_to, is_date}
-use Rattle.kq_value.specs.Datetimes.{after_date, clock_ticks, date_days, datetime_of, fits, fraction_ticks, is_clock, is_fraction, is_moment, is_time_byte, number_at, ticks_per_day, time_ticks, zone_ticks}
-use Rattle.kq_value.proofs.CivilLemmas.{IsDate as IsCivil, IsDate-from_test, days_from_civil-days_to, is_date-from_IsDate}
+use Rattle.kq_written.specs.Civil.{Civil, days_to, is_date}
+use Rattle.kq_written.specs.Datetimes.{after_date, clock_ticks, date_days, datetime_of, fits, fraction_ticks, is_clock, is_fraction, is_moment, is_time_byte, number_at, ticks_per_day, time_ticks, zone_ticks}
+use Rattle.kq_written.proofs.CivilLemmas.{IsDate as IsCivil, IsDate-from_test, days_from_civil-days_to, is_date-from_IsDate}
 use Rattle.kq_time.specs.Dates.{HasDate}
 use Rattle.kq_time.specs.Parts.{capped}
 

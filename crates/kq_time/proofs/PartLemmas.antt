@@ -12,8 +12,8 @@ use Rattle.std.proofs.lemmas.List.{get_or-replicate, take_all}
 use Rattle.std.proofs.lemmas.List.Splits.{length-slice_split, slice_split_first}
 use Rattle.std.proofs.lemmas.Int.Digits.{digits_value_more}
 use Rattle.std.proofs.lemmas.Str.Parse.{IsNumeralModel, digits_value_short, numerals_by_value, tells_all_ascii_digits}
-use Rattle.kq_value.specs.Numerals.{is_numeral}
-use Rattle.kq_value.specs.Timespans.{pieces}
+use Rattle.kq_written.specs.Numerals.{is_numeral}
+use Rattle.kq_written.specs.Timespans.{pieces}
 use Rattle.kq_time.specs.Parts.{capped}
 
 -- ---- digits

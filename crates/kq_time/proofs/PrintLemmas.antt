@@ -3,11 +3,11 @@ use Rattle.std.proofs.Common.{Bool, ◌≡◌, ◌<◌, ◌≤◌, ℕ, ◌+◌,
 use Rattle.std.specs.Prelude.{codes, decimal, if◌then◌else◌, ◌==◌, int_lt}
 use Rattle.std.proofs.lemmas.Fmt.{decimal_digit, decimal_step, length-decimal-le}
 use Rattle.jiff_core.specs.declared.civil.date.Date.{Date}
-use Rattle.kq_value.specs.Numerals.{last_digit, padded}
-use Rattle.kq_value.specs.Civil.{Civil, date_of_day}
-use Rattle.kq_value.specs.Ticks.{day_of}
-use Rattle.kq_value.specs.Datetimes.{clock_text, date_text, datetime_text, ticks_per_day, ticks_per_second}
-use Rattle.kq_value.specs.Timespans.{timespan_text}
+use Rattle.kq_written.specs.Numerals.{last_digit, padded}
+use Rattle.kq_written.specs.Civil.{Civil, date_of_day}
+use Rattle.kq_written.specs.Ticks.{day_of}
+use Rattle.kq_written.specs.Datetimes.{clock_text, date_text, datetime_text, ticks_per_day, ticks_per_second}
+use Rattle.kq_written.specs.Timespans.{timespan_text}
 use Rattle.kq_time.specs.Dates.{HasDate, civil_of}
 
 -- ---- decimal

@@ -2,11 +2,11 @@
 use Rattle.std.proofs.Common.{◌≡◌, true, List, take, Option, Some, ◌≤◌, ◌∙◌, ap, arith, FitsSigned, w64, ℕ, ℤ, pos, negsuc}
 use Rattle.std.proofs.lemmas.Bool.Decides.{nat_tests}
 use Rattle.std.proofs.lemmas.Int.{ints}
-use Rattle.kq_value.specs.Numerals.{is_long}
-use Rattle.kq_value.specs.Datetimes.{datetime_of, datetime_text, is_moment}
-use Rattle.kq_value.specs.Timespans.{timespan_of, timespan_text}
-use Rattle.kq_value.proofs.PrintedDatetimes.{datetime_of-datetime_text}
-use Rattle.kq_value.proofs.PrintedTimespans.{timespan_of-timespan_text}
+use Rattle.kq_written.specs.Numerals.{is_long}
+use Rattle.kq_written.specs.Datetimes.{datetime_of, datetime_text, is_moment}
+use Rattle.kq_written.specs.Timespans.{timespan_of, timespan_text}
+use Rattle.kq_written.proofs.PrintedDatetimes.{datetime_of-datetime_text}
+use Rattle.kq_written.proofs.PrintedTimespans.{timespan_of-timespan_text}
 
 -- what `put_datetime` wrote, as `read_datetime` reads it
 pub datetime_read_back : (ticks : ℤ) (out : List ℕ) (read : Option ℤ) → is_moment ticks ≡ true → out ≡ datetime_text ticks → read ≡ datetime_of out → read ≡ Some ticks

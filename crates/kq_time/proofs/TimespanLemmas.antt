@@ -10,9 +10,9 @@ use Rattle.std.proofs.lemmas.Bool.Decides.{nat_tests}
 use Rattle.std.proofs.lemmas.List.{drop_all, drop_more, take-append-drop, take_all}
 use Rattle.std.proofs.lemmas.List.Folds.{length-prefix_len}
 use Rattle.std.proofs.lemmas.List.Sums.{prefix_len-le-length}
-use Rattle.kq_value.specs.Datetimes.{ticks_per_day}
-use Rattle.kq_value.specs.Numerals.{begins_with_minus, if_passes, is_long, is_numeral, numeral_of}
-use Rattle.kq_value.specs.Timespans.{amount_ticks, both, magnitude_ticks, timespan_of}
+use Rattle.kq_written.specs.Datetimes.{ticks_per_day}
+use Rattle.kq_written.specs.Numerals.{begins_with_minus, if_passes, is_long, is_numeral, numeral_of}
+use Rattle.kq_written.specs.Timespans.{amount_ticks, both, magnitude_ticks, timespan_of}
 use Rattle.kq_time.specs.Parts.{capped, part_ticks}
 
 -- ---- the value of digits

@@ -1,7 +1,7 @@
 -- The dates of `jiff`.
 use Rattle.std.specs.Prelude.{◌≡◌, pos, unsigned_abs}
 use Rattle.jiff_core.specs.declared.civil.date.Date.{Date}
-use Rattle.kq_value.specs.Civil.{Civil}
+use Rattle.kq_written.specs.Civil.{Civil}
 
 -- d is the date c
 abbrev pub HasDate : Date → Civil → Type 0

@@ -1,7 +1,7 @@
 -- Numbers and parts, as they are read.
 use Rattle.std.specs.Prelude.{◌≡◌, ◌<◌, ℕ, ◌*◌, ◌/◌, ◌%◌, ◌^◌, ◌&&◌, ◌==◌, min, List, [], ◌∷◌, length, if◌then◌else◌, Option, Some, None}
 use Rattle.std.specs.Str.Parse.{digits_value}
-use Rattle.kq_value.specs.Numerals.{is_numeral}
+use Rattle.kq_written.specs.Numerals.{is_numeral}
 use Rattle.kq_time.specs.declared.digits.Parts.{Parts}
 use Rattle.kq_time.specs.declared.digits.Parts.TheVariants.{One, Two, Three, More}
 

@@ -1,6 +1,6 @@
 -- What the units of datetimes are.
 use Rattle.std.specs.Prelude.{ℕ, ℤ}
-use Rattle.kq_value.specs.Ticks.{date_of, day_of_week, hour_of, start_of_year, start_of_month, start_of_week, start_of_day, start_of_hour}
+use Rattle.kq_written.specs.Ticks.{date_of, day_of_week, hour_of, start_of_year, start_of_month, start_of_week, start_of_day, start_of_hour}
 use Rattle.kq_time.specs.declared.unit.Unit.{Unit}
 use Rattle.kq_time.specs.declared.unit.Unit.TheVariants.{Year, Month, Week, Day, Hour}
 

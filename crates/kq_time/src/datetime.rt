@@ -3,8 +3,8 @@ ghost use Rattle.std.specs.Prelude.{◌≡◌, ◌≤◌, ◌<◌, ◌+◌, ◌^
 ghost use Rattle.std.specs.List.{prefix_len};
 ghost use Rattle.std.specs.Char.{is_ascii_digit};
 ghost use Rattle.std.specs.Str.{all_ascii_digits};
-ghost use Rattle.kq_value.specs.Civil.{days_of_year_0};
-ghost use Rattle.kq_value.specs.Datetimes.{after_date as after_value, clock_ticks as clock_value, date_days as date_value, datetime_of, fits as is_of_form, fraction_ticks as fraction_value, is_clock, is_fraction, is_moment as is_moment_value, is_time_byte as is_of_time, number_at as number_in, ticks_per_day, time_ticks as time_value, zone_ticks as zone_value};
+ghost use Rattle.kq_written.specs.Civil.{days_of_year_0};
+ghost use Rattle.kq_written.specs.Datetimes.{after_date as after_value, clock_ticks as clock_value, date_days as date_value, datetime_of, fits as is_of_form, fraction_ticks as fraction_value, is_clock, is_fraction, is_moment as is_moment_value, is_time_byte as is_of_time, number_at as number_in, ticks_per_day, time_ticks as time_value, zone_ticks as zone_value};
 
 use crate::day::{TICKS_PER_DAY, TICKS_PER_HOUR, TICKS_PER_MINUTE, TICKS_PER_SECOND};
 use crate::digits;

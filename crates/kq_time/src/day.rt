@@ -1,8 +1,8 @@
 // The day of a datetime, and its date.
 ghost use Rattle.std.specs.Prelude.{◌≡◌, ◌≤◌, pos, IsTrue, unsigned_abs};
-ghost use Rattle.kq_value.specs.Datetimes.{is_moment};
-ghost use Rattle.kq_value.specs.Ticks.{day_of as day_number};
-ghost use Rattle.kq_value.specs.Civil.{date_of_day};
+ghost use Rattle.kq_written.specs.Datetimes.{is_moment};
+ghost use Rattle.kq_written.specs.Ticks.{day_of as day_number};
+ghost use Rattle.kq_written.specs.Civil.{date_of_day};
 ghost use Rattle.kq_time.specs.Dates.{HasDate};
 
 use jiff_core::civil::Date;

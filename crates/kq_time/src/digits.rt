@@ -3,9 +3,9 @@ ghost use Rattle.std.specs.Prelude.{◌≡◌, ◌<◌, ◌++◌, replicate, sli
 ghost use Rattle.std.specs.Char.{digit_value};
 ghost use Rattle.std.specs.Str.{all_ascii_digits};
 ghost use Rattle.std.specs.Str.Parse.{digits_value};
-ghost use Rattle.kq_value.specs.Numerals.{is_numeral as passes, numeral_of};
-ghost use Rattle.kq_value.specs.Datetimes.{fraction_ticks};
-ghost use Rattle.kq_value.specs.Timespans.{pieces};
+ghost use Rattle.kq_written.specs.Numerals.{is_numeral as passes, numeral_of};
+ghost use Rattle.kq_written.specs.Datetimes.{fraction_ticks};
+ghost use Rattle.kq_written.specs.Timespans.{pieces};
 ghost use Rattle.kq_time.specs.Parts.{capped, IsParts};
 
 /// Whether the text is one digit or more, and nothing else.

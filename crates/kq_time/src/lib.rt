@@ -1,12 +1,10 @@
-//! The calendar over ticks of 100 ns: the starts of units and the places in them, and the written forms of datetimes and timespans, read and printed. None takes memory. What a form means stands in `kq_value`; the days of dates are `jiff`'s; tokens, literals and cells are left to others.
+//! The calendar over ticks of 100 ns: the starts of units and the places in them, and the written forms of datetimes and timespans, read and printed. None takes memory. What a form means stands in `kq_written`; the days of dates are `jiff`'s; tokens, literals and cells are left to others.
 #![tactic(auto)]
 
 mod datetime;
 mod day;
 mod digits;
 mod print;
-#[cfg(test)]
-mod tests;
 mod timespan;
 mod unit;
 

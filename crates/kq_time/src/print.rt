@@ -1,9 +1,9 @@
 // The printed forms, written from the front of a buffer on.
 ghost use Rattle.std.specs.Prelude.{◌≡◌, ◌+◌, ◌*◌, ◌<◌, ◌≤◌, ◌^◌, ◌++◌, ◌∷◌, [], take, length, pos, ◌≤ℤ◌, IsTrue, decimal, codes, ◌==◌, if◌then◌else◌};
 ghost use Rattle.std.specs.Str.{IsUtf8};
-ghost use Rattle.kq_value.specs.Numerals.{padded, last_digit};
-ghost use Rattle.kq_value.specs.Datetimes.{is_moment, clock_text, date_text, datetime_text};
-ghost use Rattle.kq_value.specs.Timespans.{timespan_text};
+ghost use Rattle.kq_written.specs.Numerals.{padded, last_digit};
+ghost use Rattle.kq_written.specs.Datetimes.{is_moment, clock_text, date_text, datetime_text};
+ghost use Rattle.kq_written.specs.Timespans.{timespan_text};
 ghost use Rattle.kq_time.specs.Dates.{civil_of};
 
 use crate::day::{self, TICKS_PER_DAY, TICKS_PER_HOUR, TICKS_PER_MINUTE, TICKS_PER_SECOND};
@@ -143,7 +143,7 @@ fn put_decimal(n: u64, out: &mut Buffer, at: usize) -> usize
     put_byte(digit(n), out, at)
 }
 
-#[tactic(auto, unfolding(kq_value::specs::Numerals::last_digit))]
+#[tactic(auto, unfolding(kq_written::specs::Numerals::last_digit))]
 fn digit(n: u64) -> u8
     ensures { result ≡ last_digit n }
 {

@@ -4,9 +4,9 @@ ghost use Rattle.std.specs.Int.{IsInRange};
 ghost use Rattle.std.specs.List.{prefix_len};
 ghost use Rattle.std.specs.Str.{all_ascii_digits};
 ghost use Rattle.std.specs.Str.Parse.{digits_value};
-ghost use Rattle.kq_value.specs.Datetimes.{fraction_ticks};
-ghost use Rattle.kq_value.specs.Timespans.{amount_ticks as amount_value, both, clock_parts_ticks, decimals_ticks, hours_ticks as hours_value, is_amount_byte as is_of_amount, magnitude_ticks, pieces, seconds_ticks as seconds_value, short_numeral, timespan_of, token_ticks, unit_ticks as unit_value};
-ghost use Rattle.kq_value.specs.Numerals.{begins_with_minus as has_minus, if_passes, is_long};
+ghost use Rattle.kq_written.specs.Datetimes.{fraction_ticks};
+ghost use Rattle.kq_written.specs.Timespans.{amount_ticks as amount_value, both, clock_parts_ticks, decimals_ticks, hours_ticks as hours_value, is_amount_byte as is_of_amount, magnitude_ticks, pieces, seconds_ticks as seconds_value, short_numeral, timespan_of, token_ticks, unit_ticks as unit_value};
+ghost use Rattle.kq_written.specs.Numerals.{begins_with_minus as has_minus, if_passes, is_long};
 ghost use Rattle.kq_time.specs.Parts.{capped, part_ticks as part_value};
 
 use crate::day::{TICKS_PER_DAY, TICKS_PER_HOUR, TICKS_PER_MINUTE, TICKS_PER_SECOND};

@@ -1,7 +1,7 @@
 // The units that datetimes are divided in.
 ghost use Rattle.std.specs.Prelude.{◌≡◌, ◌≤◌, ◌*◌, pos, IsTrue};
-ghost use Rattle.kq_value.specs.Civil.{days_since_sunday};
-ghost use Rattle.kq_value.specs.Datetimes.{is_moment};
+ghost use Rattle.kq_written.specs.Civil.{days_since_sunday};
+ghost use Rattle.kq_written.specs.Datetimes.{is_moment};
 ghost use Rattle.kq_time.specs.Units.{unit_start, unit_part};
 
 use crate::day::{self, TICKS_PER_DAY, TICKS_PER_HOUR};

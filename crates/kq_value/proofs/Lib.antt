@@ -1,13 +1,8 @@
-pub mod CivilLemmas
 pub mod Equals
 pub mod Fields
-pub mod FunctionExamples
-pub mod JsonLemmas
-pub mod PrintedDatetimes
-pub mod PrintedTimespans
+pub mod HashExamples
 pub mod SameLemmas
 pub mod Steps
 pub mod Totals
 pub mod Trees
 pub mod Types
-pub mod WrittenExamples

@@ -1,4 +1,4 @@
-//! Values, rows, schemas, tags and what names a record: their types, their total order, their hashes, and, as definitions for contracts alone, the texts that they are written as and what the language's functions of datetimes, strings and dynamics give. Reading, printing and evaluating is left to the crates that meet these definitions.
+//! Values, rows, schemas, tags and what names a record: their types, their total order and their hashes.
 //!
 //! Contracts see a text as its bytes, a collection as its list and a dynamic as its tree, with no allocator, capacity or pointer in sight, so that two values which the order doesn't tell apart are equal.
 #![tactic(auto)]
@@ -13,8 +13,6 @@ mod record_id;
 mod row;
 mod schema;
 mod tags;
-#[cfg(test)]
-mod tests;
 mod text;
 mod ty;
 mod value;

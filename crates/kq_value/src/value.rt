@@ -1,5 +1,6 @@
 // Values.
-ghost use Rattle.std.specs.Prelude.{◌≡◌, ◌↔◌, IfOk, IsTrue};
+ghost use Rattle.std.specs.Prelude.{◌≡◌, ◌≢◌, ◌↔◌, IfOk, IsOk, IsTrue};
+ghost use Rattle.kq_value.specs.declared.ty.Ty.TheVariants as types;
 ghost use Rattle.kq_value.specs.declared.value.Value.TheVariants.{Dynamic};
 ghost use Rattle.std.specs.declared.cmp.Ordering.TheVariants.{Equal};
 ghost use Rattle.kq_value.specs.Values.{value_kind, value_cmp, is_same};
@@ -164,15 +165,16 @@ impl Value {
         Ok(Value::Dynamic(DynBox::new(alloc, dynamic)?))
     }
 
-    /// The cell that stands where a row has none: null, or empty for a string.
-    pub fn missing(alloc: Global, ty: Ty) -> Value
-        ensures missing { result ≡ missing_of ty }
-        ensures typed { HasType ty result }
+    /// The cell that stands where a row has none: null, or empty for a string. Only a string and a dynamic take memory.
+    pub fn missing(alloc: Global, ty: Ty) -> Result<Value, Memory>
+        ensures missing { IfOk result (λ v. v ≡ missing_of ty) }
+        ensures typed { IfOk result (λ v. HasType ty v) }
+        ensures nulls { ty ≢ types.Text → ty ≢ types.Dynamic → IsOk result }
     {
         match ty {
-            Ty::Text => Value::Text(Text::from_string(String::new(alloc))),
-            Ty::Dynamic => Value::Dynamic(DynBox::null()),
-            _ => Value::Null(ty),
+            Ty::Text => Ok(Value::Text(Text::from_string(alloc, String::new(alloc))?)),
+            Ty::Dynamic => Value::dynamic(alloc, Dyn::Null),
+            _ => Ok(Value::Null(ty)),
         }
     }
 }

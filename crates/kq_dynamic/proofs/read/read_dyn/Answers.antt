@@ -1,6 +1,6 @@
 use Rattle.std.proofs.lemmas.Bool.{false≢true}
 use Rattle.serde_json.proofs.Nesting.{depth-read}
-use Rattle.kq_value.specs.Json.{json_of}
+use Rattle.kq_written.specs.Json.{json_of}
 use Rattle.kq_dynamic.proofs.read.read_dyn.Goals as goal
 
 pub dyn_from-requires : goal.dyn_from-requires

@@ -6,7 +6,7 @@ use Rattle.serde_json.proofs.Views.{members_view-insert_entry}
 use Rattle.kq_value.specs.Tree.{trees_size, entries_size, trees_depth, entries_depth}
 use Rattle.kq_value.specs.Bags.{KeysAscend}
 use Rattle.kq_value.specs.Seen.{tree_of, trees_of, entries_of}
-use Rattle.kq_value.specs.Json.{data_from, items_from, members_from}
+use Rattle.kq_written.specs.Json.{data_from, items_from, members_from}
 use Rattle.kq_dynamic.proofs.Kept.{ComeBack, MembersComeBack, items_of-data, trees_from-back, entries_from-back, MembersComeBack-more, members_from-more}
 use Rattle.kq_dynamic.proofs.Deep.{tree_size-item, tree_size-member, trees_depth-from, entries_depth-from}
 use Rattle.kq_dynamic.proofs.write.+write.Goals as goal

@@ -2,7 +2,7 @@ use Rattle.std.proofs.Common.{◌≡◌, map, take}
 use Rattle.serde_json.specs.View.{view, members_view}
 use Rattle.kq_value.specs.Tree.{tree_size, trees_size, entries_size}
 use Rattle.kq_value.specs.Seen.{tree_of, entries_of}
-use Rattle.kq_value.specs.Json.{data_from, members_from}
+use Rattle.kq_written.specs.Json.{data_from, members_from}
 use Rattle.kq_dynamic.proofs.Kept.{ComeBack, MembersComeBack}
 use Rattle.kq_dynamic.proofs.write.+write.Given as goal
 

@@ -5,8 +5,8 @@ use Rattle.serde_json.specs.Read.{read}
 use Rattle.serde_json.specs.View.{view}
 use Rattle.serde_json.specs.Written.{compact_text, has_float}
 use Rattle.kq_value.specs.Seen.{tree_of}
-use Rattle.kq_value.specs.Json.{json_of, dynamic_text, tree_from, data_from}
-use Rattle.kq_value.proofs.JsonLemmas.{has_float-data_from}
+use Rattle.kq_written.specs.Json.{json_of, dynamic_text, tree_from, data_from}
+use Rattle.kq_written.proofs.JsonLemmas.{has_float-data_from}
 use Rattle.kq_dynamic.proofs.write.put_dyn.Goals as goal
 
 OnOk-always : {A E : Type 0} {P : Type 0} (r : Result A E) → P → OnOk r P

@@ -1,5 +1,5 @@
 use Rattle.std.proofs.Common.{◌&&◌, ◌∙◌}
-use Rattle.kq_value.specs.Strings.{occurs_at}
+use Rattle.kq_written.specs.Strings.{occurs_at}
 use Rattle.kq_strings.specs.Case.{in_case}
 use Rattle.kq_strings.proofs.Counted.{term_stands}
 use Rattle.kq_strings.proofs.search.counts_at.Goals as goal

@@ -3,7 +3,7 @@ use Rattle.std.proofs.lemmas.Bool.{false≢true}
 use Rattle.std.specs.Prelude.{MatchOption}
 use Rattle.std.specs.Str.Pattern.{FindsText}
 use Rattle.std.proofs.lemmas.Str.Pattern.{split_text_parts}
-use Rattle.kq_value.specs.Strings.{split}
+use Rattle.kq_written.specs.Strings.{split}
 use Rattle.kq_strings.proofs.Pieces.{split-first, split-last}
 use Rattle.kq_strings.proofs.split.cut.Goals as goal
 

@@ -1,5 +1,5 @@
 use Rattle.std.proofs.Common.{◌≡◌, ℕ, List, ◌++◌, string_bytes, sym, ap, ◌∙◌, append_assoc, rules}
-use Rattle.kq_value.specs.Strings.{replace_string}
+use Rattle.kq_written.specs.Strings.{replace_string}
 use Rattle.kq_strings.proofs.Pieces.{replace-first}
 use Rattle.kq_strings.proofs.split.replace_text.Goals as goal
 

@@ -1,7 +1,7 @@
 use Rattle.std.proofs.Common.{◌≡◌, ◌++◌, length, string_bytes}
 use denote.Text.{Utf8}
 use denote.Shadow.{shadow}
-use Rattle.kq_value.specs.Strings.{replace_string}
+use Rattle.kq_written.specs.Strings.{replace_string}
 use Rattle.kq_strings.proofs.split.replace_text.Given as goal
 
 abbrev pub invariant-loop-piece : goal.invariant-loop-piece

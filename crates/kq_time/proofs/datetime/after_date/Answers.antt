@@ -2,7 +2,7 @@ use Rattle.std.proofs.Common.{◌≡◌, take, drop, sym, ap, ◌∙◌, arith}
 use Rattle.std.specs.Prelude.{◌∷◌}
 use Rattle.std.proofs.lemmas.Int.{ints}
 use Rattle.std.proofs.lemmas.List.Sums.{prefix_len-le-length}
-use Rattle.kq_value.specs.Datetimes.{is_time_byte, time_ticks, zone_ticks}
+use Rattle.kq_written.specs.Datetimes.{is_time_byte, time_ticks, zone_ticks}
 use Rattle.kq_time.proofs.DatetimeLemmas.{after_found}
 use Rattle.kq_time.proofs.datetime.after_date.Goals as goal
 

@@ -1,7 +1,7 @@
 use Rattle.std.proofs.Common.{◌≡◌, ℕ, ◌<◌, ◌^◌, to_z, w8, w16, pos, refl, sym, ap, ◌∙◌, arith}
 use Rattle.std.specs.Prelude.{codes}
 use Rattle.std.proofs.lemmas.Int.{ints}
-use Rattle.kq_value.specs.Datetimes.{number_at}
+use Rattle.kq_written.specs.Datetimes.{number_at}
 use Rattle.kq_time.proofs.DatetimeLemmas.{date_read, date_unread, form_digits}
 use Rattle.kq_time.proofs.datetime.date_days.Goals as goal
 

@@ -1,5 +1,5 @@
 use Rattle.std.proofs.Common.{◌≡◌, drop}
-use Rattle.kq_value.specs.Datetimes.{fits}
+use Rattle.kq_written.specs.Datetimes.{fits}
 use Rattle.kq_time.proofs.datetime.fits.Given as goal
 
 abbrev pub invariant-loop-place : goal.invariant-loop-place

@@ -1,7 +1,7 @@
 use Rattle.std.proofs.Common.{◌≡◌, ◌*◌, subst, to_z, of_z, w64, take, drop, Some, None, pos, ◌-ℤ◌, ◌+ℤ◌, ap, ◌∙◌, arith}
 use Rattle.std.specs.Prelude.{if◌then◌else◌}
 use Rattle.std.proofs.lemmas.Int.{ints}
-use Rattle.kq_value.specs.Datetimes.{after_date, date_days, is_moment}
+use Rattle.kq_written.specs.Datetimes.{after_date, date_days, is_moment}
 use Rattle.kq_time.proofs.DatetimeLemmas.{drop_to, moment_read, no_date_read, no_time_read, take_to}
 use Rattle.kq_time.proofs.datetime.read_datetime.Goals as goal
 

@@ -3,7 +3,7 @@ use Rattle.std.specs.List.{position_or_len}
 use Rattle.std.proofs.lemmas.Iterator.{YieldsList-from_slice}
 use Rattle.std.proofs.lemmas.Iterator.Search.{position_from_yields_List}
 use borrow.Author.Tests.{tests}
-use Rattle.kq_value.specs.Datetimes.{is_time_byte}
+use Rattle.kq_written.specs.Datetimes.{is_time_byte}
 use Rattle.kq_time.proofs.TimespanLemmas.{prefix_found}
 use Rattle.kq_time.proofs.datetime.time_len.Goals as goal
 

@@ -1,5 +1,5 @@
 use Rattle.std.proofs.Common.{◌≡◌, take, drop, refl, sym, ◌∙◌}
-use Rattle.kq_value.specs.Datetimes.{is_fraction, number_at}
+use Rattle.kq_written.specs.Datetimes.{is_fraction, number_at}
 use Rattle.kq_time.proofs.DatetimeLemmas.{clock_missing, drop_to, part_missing, parts_found, take_to, time_long}
 use Rattle.kq_time.proofs.datetime.time_ticks.Goals as goal
 

@@ -2,7 +2,7 @@ use Rattle.std.proofs.Common.{◌≡◌, ◌≤◌, ◌∙◌, sym, subst, arith
 use Rattle.std.specs.Str.{IsUtf8}
 use Rattle.std.proofs.lemmas.Int.{ints}
 use Rattle.std.proofs.lemmas.List.{take_all}
-use Rattle.kq_value.specs.Ticks.{day_of}
+use Rattle.kq_written.specs.Ticks.{day_of}
 use Rattle.kq_time.proofs.AsciiLemmas.{IsUtf8-datetime_text}
 use Rattle.kq_time.proofs.PrintLemmas.{printed_datetime, six_pieces}
 use Rattle.kq_time.proofs.print.put_datetime.Goals as goal

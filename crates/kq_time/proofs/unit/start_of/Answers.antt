@@ -1,6 +1,6 @@
 use Rattle.std.proofs.Common.{◌≡◌, ◌∙◌, arith, to_z, of_z, w64}
 use Rattle.std.proofs.lemmas.Int.{ints}
-use Rattle.kq_value.specs.Ticks.{day_of}
+use Rattle.kq_written.specs.Ticks.{day_of}
 use Rattle.kq_time.proofs.DateLemmas.{month_start, month_starts_in, year_start, year_starts_in}
 use Rattle.kq_time.proofs.unit.start_of.Goals as goal
 

@@ -1,0 +1,6 @@
+pub mod CivilLemmas
+pub mod FunctionExamples
+pub mod JsonLemmas
+pub mod PrintedDatetimes
+pub mod PrintedTimespans
+pub mod WrittenExamples
