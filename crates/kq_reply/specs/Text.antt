@@ -1,6 +1,6 @@
 -- The printed form of a reply.
 use Rattle.std.specs.Prelude.{ℕ, List, [], ◌++◌, codes, decimal}
-use Rattle.kq_value.specs.Cells.{escaped}
+use Rattle.kq_written.specs.Cells.{escaped}
 use Rattle.kq_model.specs.declared.cause.Why.{Why}
 use Rattle.kq_model.specs.declared.cause.Why.TheVariants.{Form, Source, Query, Body, Schema}
 use Rattle.kq_model.specs.declared.cause.Cause.{Cause}

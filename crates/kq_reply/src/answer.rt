@@ -1,7 +1,7 @@
 // The printed form of an answer.
 ghost use Rattle.std.specs.Prelude.{◌≡◌, ◌++◌, IfOk, OnOk, All, codes, map, vec_items};
 ghost use Rattle.std.specs.List.{flat_map};
-ghost use Rattle.kq_value.specs.Cells.{escaped, escaped_byte, reply_text_of};
+ghost use Rattle.kq_written.specs.Cells.{escaped, escaped_byte, reply_text_of};
 ghost use Rattle.kq_value.specs.Typed.{HasTypes, IsProper};
 ghost use Rattle.kq_reply.specs.Text.{counted};
 ghost use Rattle.kq_reply.specs.Answer.{Prints, AreArranged, column_text, ended, header_text, row_text, tab_before, type_name as name_of};
@@ -11,7 +11,7 @@ use itoa::Buffer;
 use kq_dynamic::put_dyn;
 use kq_model::Answer;
 use kq_time::{put_datetime, put_timespan};
-use kq_value::{Bytes, Dyn, Field, Memory, Row, Rows, Schema, Ty, Value};
+use kq_value::{Bytes, Field, Memory, Row, Rows, Schema, Ty, Value};
 use std::alloc::Global;
 
 /// The answer as it is printed: its number of rows, its header and its rows, each line with an LF at its end.
@@ -151,7 +151,7 @@ fn put_cell(alloc: Global, line: &mut Bytes, cell: &Value) -> Result<(), Memory>
             let len = put_timespan(*span, &mut ticks);
             line.extend(&ticks[..len])
         }
-        Value::Dynamic(value) => put_dyn(alloc, value.as_dyn_or(&Dyn::Null), line),
+        Value::Dynamic(value) => put_dyn(alloc, value.as_dyn(), line),
     }
 }
 
@@ -172,6 +172,3 @@ fn put_escape(line: &mut Bytes, byte: u8) -> Result<(), Memory>
         None => line.push(byte),
     }
 }
-
-#[cfg(test)]
-mod tests;

@@ -1,6 +1,6 @@
 // The escapes of names and strings.
 ghost use Rattle.std.specs.Prelude.{◌≡◌};
-ghost use Rattle.kq_value.specs.Cells.{escaped_byte};
+ghost use Rattle.kq_written.specs.Cells.{escaped_byte};
 ghost use Rattle.kq_reply.specs.Answer.{written_as};
 
 /// The sign that stands for the byte behind a backslash, where it is escaped.

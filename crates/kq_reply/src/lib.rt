@@ -7,12 +7,10 @@ mod answer;
 mod escape;
 mod refusal;
 mod reply;
+mod short;
 mod write;
 
 pub use answer::render;
 pub use refusal::Refusal;
 pub use reply::Reply;
 pub use write::write_reply;
-
-#[cfg(test)]
-mod tests;

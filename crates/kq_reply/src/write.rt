@@ -1,20 +1,33 @@
 // The printed form.
 ghost use Rattle.std.specs.Prelude.{◌++◌, codes};
 ghost use Rattle.kq_world.specs.Outside.{PutsAll, HasCause};
-ghost use Rattle.kq_value.specs.Cells.{escaped_byte, escaped};
+ghost use Rattle.kq_written.specs.Cells.{escaped_byte, escaped};
 ghost use Rattle.kq_reply.specs.Text.{counted, why_text, cause_text, refusal_text, words_of, lines_of, text_of};
 
 use crate::escape::escape_sign;
 use crate::refusal::Refusal;
 use crate::reply::Reply;
+use crate::short::ShortText;
 use itoa::Buffer;
 use kq_model::{Cause, Why};
 use kq_value::Text;
 use kq_world::{Failed, Sink, put_all};
 
-/// Writes the whole printed form, or a beginning of it and then a fault. Takes no memory.
+/// Writes the whole printed form, or a beginning of it and then a fault. A short one is handed out whole, so that it can
+/// leave in one write. Takes no memory.
 pub fn write_reply<K: Sink>(reply: &Reply, sink: &mut K) -> Result<(), Failed>
-    ensures puts { PutsAll (K.written sink.old) (K.written sink.new) result (text_of reply.now) }
+    ensures puts { PutsAll (K.accepted sink.old) (K.accepted sink.new) result (text_of reply.now) }
+    ensures cause { HasCause (K.faults sink.old) (K.faults sink.new) result }
+{
+    let mut text = ShortText::new();
+    match put_reply(&mut text, reply) {
+        Ok(()) => put_all(sink, text.bytes()),
+        Err(Failed) => put_reply(sink, reply),
+    }
+}
+
+fn put_reply<K: Sink>(sink: &mut K, reply: &Reply) -> Result<(), Failed>
+    ensures puts { PutsAll (K.accepted sink.old) (K.accepted sink.new) result (text_of reply.now) }
     ensures cause { HasCause (K.faults sink.old) (K.faults sink.new) result }
 {
     put_lines(sink, reply)?;
@@ -22,7 +35,7 @@ pub fn write_reply<K: Sink>(reply: &Reply, sink: &mut K) -> Result<(), Failed>
 }
 
 fn put_lines<K: Sink>(sink: &mut K, reply: &Reply) -> Result<(), Failed>
-    ensures puts { PutsAll (K.written sink.old) (K.written sink.new) result (lines_of reply.now) }
+    ensures puts { PutsAll (K.accepted sink.old) (K.accepted sink.new) result (lines_of reply.now) }
     ensures cause { HasCause (K.faults sink.old) (K.faults sink.new) result }
 {
     if let Reply::Rows { text } = reply {
@@ -33,7 +46,7 @@ fn put_lines<K: Sink>(sink: &mut K, reply: &Reply) -> Result<(), Failed>
 }
 
 fn put_words<K: Sink>(sink: &mut K, reply: &Reply) -> Result<(), Failed>
-    ensures puts { PutsAll (K.written sink.old) (K.written sink.new) result (words_of reply.now) }
+    ensures puts { PutsAll (K.accepted sink.old) (K.accepted sink.new) result (words_of reply.now) }
     ensures cause { HasCause (K.faults sink.old) (K.faults sink.new) result }
 {
     match reply {
@@ -52,7 +65,7 @@ fn put_words<K: Sink>(sink: &mut K, reply: &Reply) -> Result<(), Failed>
 }
 
 fn put_ingested<K: Sink>(sink: &mut K, cursor: u64, rows: u64) -> Result<(), Failed>
-    ensures puts { PutsAll (K.written sink.old) (K.written sink.new) result (counted (codes "ingested ") cursor ++ counted (codes " rows ") rows) }
+    ensures puts { PutsAll (K.accepted sink.old) (K.accepted sink.new) result (counted (codes "ingested ") cursor ++ counted (codes " rows ") rows) }
     ensures cause { HasCause (K.faults sink.old) (K.faults sink.new) result }
 {
     put_counted(sink, b"ingested ", cursor)?;
@@ -60,7 +73,7 @@ fn put_ingested<K: Sink>(sink: &mut K, cursor: u64, rows: u64) -> Result<(), Fai
 }
 
 fn put_exported<K: Sink>(sink: &mut K, from: u64, to: u64, rows: u64) -> Result<(), Failed>
-    ensures puts { PutsAll (K.written sink.old) (K.written sink.new) result (counted (codes "exported ") from ++ counted (codes " ") to ++ counted (codes " rows ") rows) }
+    ensures puts { PutsAll (K.accepted sink.old) (K.accepted sink.new) result (counted (codes "exported ") from ++ counted (codes " ") to ++ counted (codes " rows ") rows) }
     ensures cause { HasCause (K.faults sink.old) (K.faults sink.new) result }
 {
     put_counted(sink, b"exported ", from)?;
@@ -69,7 +82,7 @@ fn put_exported<K: Sink>(sink: &mut K, from: u64, to: u64, rows: u64) -> Result<
 }
 
 fn put_refused<K: Sink>(sink: &mut K, refusal: &Refusal) -> Result<(), Failed>
-    ensures puts { PutsAll (K.written sink.old) (K.written sink.new) result (codes "refused " ++ refusal_text refusal.now) }
+    ensures puts { PutsAll (K.accepted sink.old) (K.accepted sink.new) result (codes "refused " ++ refusal_text refusal.now) }
     ensures cause { HasCause (K.faults sink.old) (K.faults sink.new) result }
 {
     put_all(sink, b"refused ")?;
@@ -77,7 +90,7 @@ fn put_refused<K: Sink>(sink: &mut K, refusal: &Refusal) -> Result<(), Failed>
 }
 
 fn put_refusal<K: Sink>(sink: &mut K, refusal: &Refusal) -> Result<(), Failed>
-    ensures puts { PutsAll (K.written sink.old) (K.written sink.new) result (refusal_text refusal.now) }
+    ensures puts { PutsAll (K.accepted sink.old) (K.accepted sink.new) result (refusal_text refusal.now) }
     ensures cause { HasCause (K.faults sink.old) (K.faults sink.new) result }
 {
     match refusal {
@@ -106,7 +119,7 @@ fn put_refusal<K: Sink>(sink: &mut K, refusal: &Refusal) -> Result<(), Failed>
 }
 
 fn put_policy<K: Sink>(sink: &mut K, entry: u32, why: Why) -> Result<(), Failed>
-    ensures puts { PutsAll (K.written sink.old) (K.written sink.new) result (counted (codes "BadPolicy entry ") entry ++ codes " " ++ why_text why) }
+    ensures puts { PutsAll (K.accepted sink.old) (K.accepted sink.new) result (counted (codes "BadPolicy entry ") entry ++ codes " " ++ why_text why) }
     ensures cause { HasCause (K.faults sink.old) (K.faults sink.new) result }
 {
     put_counted(sink, b"BadPolicy entry ", entry as u64)?;
@@ -115,7 +128,7 @@ fn put_policy<K: Sink>(sink: &mut K, entry: u32, why: Why) -> Result<(), Failed>
 }
 
 fn put_why<K: Sink>(sink: &mut K, why: Why) -> Result<(), Failed>
-    ensures puts { PutsAll (K.written sink.old) (K.written sink.new) result (why_text why) }
+    ensures puts { PutsAll (K.accepted sink.old) (K.accepted sink.new) result (why_text why) }
     ensures cause { HasCause (K.faults sink.old) (K.faults sink.new) result }
 {
     match why {
@@ -128,7 +141,7 @@ fn put_why<K: Sink>(sink: &mut K, why: Why) -> Result<(), Failed>
 }
 
 fn put_failed<K: Sink>(sink: &mut K, target: &Text, cause: Cause) -> Result<(), Failed>
-    ensures puts { PutsAll (K.written sink.old) (K.written sink.new) result (codes "PolicyFailed target " ++ escaped target.now ++ codes " cause " ++ cause_text cause) }
+    ensures puts { PutsAll (K.accepted sink.old) (K.accepted sink.new) result (codes "PolicyFailed target " ++ escaped target.now ++ codes " cause " ++ cause_text cause) }
     ensures cause { HasCause (K.faults sink.old) (K.faults sink.new) result }
 {
     put_named(sink, b"PolicyFailed target ", target)?;
@@ -137,7 +150,7 @@ fn put_failed<K: Sink>(sink: &mut K, target: &Text, cause: Cause) -> Result<(), 
 }
 
 fn put_cause<K: Sink>(sink: &mut K, cause: Cause) -> Result<(), Failed>
-    ensures puts { PutsAll (K.written sink.old) (K.written sink.new) result (cause_text cause) }
+    ensures puts { PutsAll (K.accepted sink.old) (K.accepted sink.new) result (cause_text cause) }
     ensures cause { HasCause (K.faults sink.old) (K.faults sink.new) result }
 {
     match cause {
@@ -148,7 +161,7 @@ fn put_cause<K: Sink>(sink: &mut K, cause: Cause) -> Result<(), Failed>
 
 /// The words, and then the number in decimal.
 fn put_counted<K: Sink>(sink: &mut K, words: &[u8], n: u64) -> Result<(), Failed>
-    ensures puts { PutsAll (K.written sink.old) (K.written sink.new) result (counted words.now n) }
+    ensures puts { PutsAll (K.accepted sink.old) (K.accepted sink.new) result (counted words.now n) }
     ensures cause { HasCause (K.faults sink.old) (K.faults sink.new) result }
 {
     put_all(sink, words)?;
@@ -158,7 +171,7 @@ fn put_counted<K: Sink>(sink: &mut K, words: &[u8], n: u64) -> Result<(), Failed
 
 /// The words, and then the name with its escapes.
 fn put_named<K: Sink>(sink: &mut K, words: &[u8], name: &Text) -> Result<(), Failed>
-    ensures puts { PutsAll (K.written sink.old) (K.written sink.new) result (words.now ++ escaped name.now) }
+    ensures puts { PutsAll (K.accepted sink.old) (K.accepted sink.new) result (words.now ++ escaped name.now) }
     ensures cause { HasCause (K.faults sink.old) (K.faults sink.new) result }
 {
     put_all(sink, words)?;
@@ -166,7 +179,7 @@ fn put_named<K: Sink>(sink: &mut K, words: &[u8], name: &Text) -> Result<(), Fai
 }
 
 fn put_escaped<K: Sink>(sink: &mut K, name: &[u8]) -> Result<(), Failed>
-    ensures puts { PutsAll (K.written sink.old) (K.written sink.new) result (escaped name.now) }
+    ensures puts { PutsAll (K.accepted sink.old) (K.accepted sink.new) result (escaped name.now) }
     ensures cause { HasCause (K.faults sink.old) (K.faults sink.new) result }
 {
     for byte in name {
@@ -176,7 +189,7 @@ fn put_escaped<K: Sink>(sink: &mut K, name: &[u8]) -> Result<(), Failed>
 }
 
 fn put_escape<K: Sink>(sink: &mut K, byte: u8) -> Result<(), Failed>
-    ensures puts { PutsAll (K.written sink.old) (K.written sink.new) result (escaped_byte byte) }
+    ensures puts { PutsAll (K.accepted sink.old) (K.accepted sink.new) result (escaped_byte byte) }
     ensures cause { HasCause (K.faults sink.old) (K.faults sink.new) result }
 {
     match escape_sign(byte) {

@@ -1,10 +1,9 @@
 -- What a reader has taken and given, and what a call adds.
-use Rattle.std.specs.Prelude.{◌≡◌, ◌≢◌, ◌≤◌, ◌<◌, ◌++◌, ◌⊎◌, ℕ, true, false, List, [], ◌∷◌, length, Option, Result, Ok, Err}
-use Rattle.kq_world.specs.Told.{Loses}
-use Rattle.kq_world.specs.Outside.{Rose}
+use Rattle.std.specs.Prelude.{◌≡◌, ◌≢◌, ◌≤◌, ◌<◌, ◌++◌, ◌⊎◌, ℕ, true, false, List, [], ◌∷◌, length, Result, Ok, Err}
+use Rattle.kq_world.specs.Outside.{SourceView, Gives, Rose}
 use Rattle.kq_script.specs.Item.{IsItemOf}
 use Rattle.kq_script.specs.Script.{Block, Script, script_blocks}
-use Rattle.kq_script.specs.State.{IsAt, IsDrained}
+use Rattle.kq_script.specs.State.{IsAt, IsAtEnd}
 use Rattle.kq_script.specs.declared.reader.ScriptReader.{ScriptReader}
 use Rattle.kq_script.specs.declared.reader.Phase.TheVariants as phases
 use Rattle.kq_script.specs.declared.item.Item.{Item}
@@ -21,36 +20,36 @@ abbrev pub GoesOn : ScriptReader → Type 0
 GoesOn reader = reader.phase ≢ phases.Closed
 
 -- a reader with these limits has taken these bytes from a source that told this at first and tells this now, and has given
--- these blocks
-pub record IsReading (command input : ℕ) (reader : ScriptReader) (first left : Option (List ℕ)) (taken : List ℕ) (given : List Block) : Type 0 where
+-- these blocks. They begin the script's blocks, among which the last one counts only where the end was read
+pub record IsReading (command input : ℕ) (reader : ScriptReader) (first source : SourceView) (taken : List ℕ) (given : List Block) : Type 0 where
   pub command_limit : reader.block.limit ≡ command
   pub input_limit : reader.input ≡ input
   pub counted : reader.taken ≡ length taken
   pub within : length taken ≤ input
-  pub loses : Loses first left taken
-  pub prefix : IsPrefix given (script_blocks command taken true)
-  pub state : IsAt reader.phase command input reader first left taken given
+  pub gives : Gives first source taken
+  pub prefix : IsPrefix given (script_blocks command taken source.ended)
+  pub state : IsAt reader.phase command input reader first source taken given
 
 -- what came of a call, with these bytes taken by then
-abbrev pub Outcome : ℕ → ℕ → Result Item ScriptFault → ScriptReader → Option (List ℕ) → Option (List ℕ) → List ℕ → List Block → Type 0
-Outcome command input (Ok Finished) reader first left taken given = Script command taken true given × IsDrained first left × (length taken < input)
-Outcome command input (Ok item) reader first left taken given = (block : Block) × IsItemOf command item block × IsReading command input reader first left taken (given ++ block ∷ [])
-Outcome command input (Err ReadFault) reader first left taken given = Script command taken false given × (length taken < input)
-Outcome command input (Err InputLimit) reader first left taken given = Script command taken false given × (length taken ≡ input)
+abbrev pub Outcome : ℕ → ℕ → Result Item ScriptFault → ScriptReader → SourceView → SourceView → List ℕ → List Block → Type 0
+Outcome command input (Ok Finished) reader first source taken given = Script command taken true given × IsAtEnd first source × (length taken < input)
+Outcome command input (Ok item) reader first source taken given = (block : Block) × IsItemOf command item block × IsReading command input reader first source taken (given ++ block ∷ [])
+Outcome command input (Err ReadFault) reader first source taken given = Script command taken false given × (length taken < input) × (source.ended ≡ first.ended)
+Outcome command input (Err InputLimit) reader first source taken given = Script command taken false given × (length taken ≡ input) × (source.ended ≡ first.ended)
 
--- one call: the bytes that the source lost are those taken. The last piece of them was taken only because the bytes
+-- one call: the bytes that the source gave are those taken. The last piece of them was taken only because the bytes
 -- before it left no closed block, and the fault at the limit comes wherever it is due
-pub record Reads (command input : ℕ) (result : Result Item ScriptFault) (reader : ScriptReader) (first left left' : Option (List ℕ)) (taken : List ℕ) (given : List Block) : Type 0 where
+pub record Reads (command input : ℕ) (result : Result Item ScriptFault) (reader : ScriptReader) (first source source' : SourceView) (taken : List ℕ) (given : List Block) : Type 0 where
   pub before : List ℕ
   pub last : List ℕ
-  pub loses : Loses left left' (before ++ last)
+  pub gives : Gives source source' (before ++ last)
   pub piece : length last ≤ 4096
   pub needed : (before ++ last ≡ []) ⊎ Script command (taken ++ before) false given
-  pub outcome : Outcome command input result reader first left' (taken ++ (before ++ last)) given
+  pub outcome : Outcome command input result reader first source' (taken ++ (before ++ last)) given
   pub at_limit : length (taken ++ (before ++ last)) ≡ input → Script command (taken ++ (before ++ last)) false given → result ≡ Err InputLimit
 
--- the count of faults never falls, and a read fault comes only where it rose
+-- the count of faults rises exactly at a read fault
 abbrev pub CausedBy : ℕ → ℕ → Result Item ScriptFault → Type 0
-CausedBy before now (Ok item) = before ≤ now
+CausedBy before now (Ok item) = now ≡ before
 CausedBy before now (Err ReadFault) = Rose before now
-CausedBy before now (Err InputLimit) = before ≤ now
+CausedBy before now (Err InputLimit) = now ≡ before

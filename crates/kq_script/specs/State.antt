@@ -1,6 +1,7 @@
 -- How a reader's fields stand to what it has taken and given.
 use Rattle.std.specs.Prelude.{⊤, ◌≡◌, ◌<◌, ◌++◌, ◌-◌, ℕ, true, false, List, [], ◌∷◌, length, take, drop, Option, Some, None}
 use Rattle.kq_world.specs.Told.{IsEmpty}
+use Rattle.kq_world.specs.Outside.{SourceView}
 use Rattle.kq_script.specs.Item.{IsItemOf}
 use Rattle.kq_script.specs.Script.{Block, Script}
 use Rattle.kq_script.specs.Open.{IsOpen, open_run, open_line}
@@ -27,16 +28,21 @@ abbrev pub IsDrained : Option (List ℕ) → Option (List ℕ) → Type 0
 IsDrained None left = ⊤
 IsDrained (Some bytes) left = IsEmpty left
 
+-- the source's end was read
+pub record IsAtEnd (first source : SourceView) : Type 0 where
+  pub ended : source.ended ≡ true
+  pub drained : IsDrained first.left source.left
+
 -- after it: all was given, and the limit wasn't reached
-pub record HasEnded (command input : ℕ) (first left : Option (List ℕ)) (taken : List ℕ) (given : List Block) : Type 0 where
+pub record HasEnded (command input : ℕ) (first source : SourceView) (taken : List ℕ) (given : List Block) : Type 0 where
   pub given_all : Script command taken true given
-  pub empty : IsDrained first left
+  pub at_end : IsAtEnd first source
   pub below : length taken < input
 
-abbrev pub IsAt : Phase → ℕ → ℕ → ScriptReader → Option (List ℕ) → Option (List ℕ) → List ℕ → List Block → Type 0
-IsAt phases.Reading command input reader first left taken given = HasLooked command reader taken given
-IsAt phases.Ended command input reader first left taken given = HasEnded command input first left taken given
-IsAt phases.Closed command input reader first left taken given = ⊥
+abbrev pub IsAt : Phase → ℕ → ℕ → ScriptReader → SourceView → SourceView → List ℕ → List Block → Type 0
+IsAt phases.Reading command input reader first source taken given = HasLooked command reader taken given × (source.ended ≡ first.ended)
+IsAt phases.Ended command input reader first source taken given = HasEnded command input first source taken given
+IsAt phases.Closed command input reader first source taken given = ⊥
 
 -- at the end: the last block, after which all was given, or the answer that all was given
 abbrev pub GivesLast : ℕ → Item → Phase → List ℕ → List Block → Type 0

@@ -7,8 +7,6 @@ mod block;
 mod item;
 mod line;
 mod reader;
-#[cfg(test)]
-mod tests;
 
 pub use item::{Item, ScriptFault};
 pub use reader::ScriptReader;

@@ -1,6 +1,6 @@
 // A reader of a script.
-ghost use Rattle.std.specs.Prelude.{◌≡◌, ◌≢◌, ◌++◌, ◌+◌, ◌-◌, ◌^◌, ◌<◌, ◌≤◌, ℕ, List, [], Option, IfOk, IfNone, MatchResult, length, vec_len};
-ghost use Rattle.kq_world.specs.Outside.{Takes, HasCause};
+ghost use Rattle.std.specs.Prelude.{◌≡◌, ◌≢◌, ◌++◌, ◌+◌, ◌-◌, ◌^◌, ◌<◌, ◌≤◌, ℕ, List, [], IfOk, IfNone, MatchResult, length, vec_len};
+ghost use Rattle.kq_world.specs.Outside.{SourceView, Takes, HasCause};
 
 use crate::block::OpenBlock;
 use crate::item::{Item, ScriptFault};
@@ -52,7 +52,7 @@ impl ScriptReader {
     /// A reader of commands of at most `command` bytes that takes at most `input` bytes.
     pub fn new(alloc: Global, command: u64, input: u64) -> Result<ScriptReader, Memory>
         ensures goes_on { IfOk result GoesOn }
-        ensures reading { IfOk result (λ reader. (left : Option (List ℕ)) → IsReading command input reader left left [] []) }
+        ensures reading { IfOk result (λ reader. (source : SourceView) → IsReading command input reader source source [] []) }
     {
         let piece = vec![in alloc; 0; PIECE]?;
         Ok(ScriptReader {
@@ -72,9 +72,9 @@ impl ScriptReader {
         requires { GoesOn self.old }
         ensures cause { CausedBy (S.faults source.old) (S.faults source.new) result }
         ensures goes_on { IfOk result (λ item. item ≢ Item.Finished → GoesOn self.new) }
-        ensures reads { (command input : ℕ) (first : Option (List ℕ)) (taken : List ℕ) (given : List Block)
-            → IsReading command input self.old first (S.left source.old) taken given
-            → Reads command input result self.new first (S.left source.old) (S.left source.new) taken given }
+        ensures reads { (command input : ℕ) (first : SourceView) (taken : List ℕ) (given : List Block)
+            → IsReading command input self.old first (S.told source.old) taken given
+            → Reads command input result self.new first (S.told source.old) (S.told source.new) taken given }
     {
         match self.phase {
             Phase::Reading => self.read_on(source),
@@ -91,9 +91,9 @@ impl ScriptReader {
         requires { self.old.phase ≡ Phase.Reading }
         ensures cause { CausedBy (S.faults source.old) (S.faults source.new) result }
         ensures goes_on { IfOk result (λ item. item ≢ Item.Finished → GoesOn self.new) }
-        ensures reads { (command input : ℕ) (first : Option (List ℕ)) (taken : List ℕ) (given : List Block)
-            → IsReading command input self.old first (S.left source.old) taken given
-            → Reads command input result self.new first (S.left source.old) (S.left source.new) taken given }
+        ensures reads { (command input : ℕ) (first : SourceView) (taken : List ℕ) (given : List Block)
+            → IsReading command input self.old first (S.told source.old) taken given
+            → Reads command input result self.new first (S.told source.old) (S.told source.new) taken given }
     {
         loop {
             if let Some(item) = self.closed_block() {
@@ -135,7 +135,7 @@ impl ScriptReader {
         ensures same { (self.new.block ≡ self.old.block) × (self.new.input ≡ self.old.input)
             × (self.new.phase ≡ self.old.phase) }
         ensures taken { MatchResult result (λ n. self.new.taken ≡ self.old.taken + n) (λ _. self.new.taken ≡ self.old.taken) }
-        ensures takes { Takes (S.left source.old) (S.left source.new) result (unread self.new) }
+        ensures takes { Takes (S.told source.old) (S.told source.new) result (unread self.new) }
         ensures piece { IfOk result (λ n. (length (unread self.new) ≡ n) × (n ≤ 4096)) }
         ensures cause { HasCause (S.faults source.old) (S.faults source.new) result }
     {
@@ -174,7 +174,7 @@ fn read_piece<S: Source>(source: &mut S, piece: &mut [u8], room: usize) -> Resul
     requires some { 0 < room }
     requires within { room ≤ length piece.old }
     ensures room { IfOk result (λ n. n ≤ room) }
-    ensures takes { Takes (S.left source.old) (S.left source.new) result piece.new }
+    ensures takes { Takes (S.told source.old) (S.told source.new) result piece.new }
     ensures cause { HasCause (S.faults source.old) (S.faults source.new) result }
 {
     source.read(&mut piece[..room])

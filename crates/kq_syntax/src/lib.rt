@@ -5,8 +5,6 @@ mod class;
 mod cursor;
 mod kind;
 mod part;
-#[cfg(test)]
-mod tests;
 mod word;
 
 pub use class::Class;

@@ -9,8 +9,6 @@ mod numbers;
 mod read;
 mod spelling;
 mod strings;
-#[cfg(test)]
-mod tests;
 mod token;
 mod words;
 

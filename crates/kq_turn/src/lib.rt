@@ -13,6 +13,3 @@ mod view;
 pub use grows::Grows;
 pub use pass::Pass;
 pub use turn::{Memory, Turn};
-
-#[cfg(test)]
-mod tests;

@@ -3,7 +3,5 @@
 #![tactic(auto)]
 
 mod options;
-#[cfg(test)]
-mod tests;
 
 pub use options::{Options, OptionsError};

@@ -1,18 +1,25 @@
 -- The objects in memory, as contracts see them.
-use Rattle.std.specs.Prelude.{ℕ, ℤ, pos, ◌+◌, ◌-◌, ◌^◌, min, List, length, slice_index_or}
+use Rattle.std.specs.Prelude.{ℕ, ℤ, pos, ◌+◌, ◌-◌, ◌^◌, min, Bool, List, Some, length, slice_index_or}
+use Rattle.kq_world.specs.Outside.{SourceView}
 
--- a source: the bytes left, the most that a read gives, the numbers of the calls that fail, and the counts of the
--- calls and of the faults
+-- a source: the bytes that were read, whether the end was, the bytes left, the most that a read gives, the numbers of the
+-- calls that fail, and the counts of the calls and of the faults
 pub record SourceState : Type 0 where
+  pub taken : List ℕ
+  pub ended : Bool
   pub left : List ℕ
   pub step : ℕ
   pub fails : List ℕ
   pub calls : ℕ
   pub faults : ℕ
 
+-- what such a source tells
+abbrev pub source_told : SourceState → SourceView
+source_told s = record { taken = s.taken; ended = s.ended; left = Some s.left }
+
 -- a sink: the bytes written, the most that a write takes, and the rest as in a source
 pub record SinkState : Type 0 where
-  pub written : List ℕ
+  pub accepted : List ℕ
   pub step : ℕ
   pub fails : List ℕ
   pub calls : ℕ

@@ -3,8 +3,8 @@ use Rattle.std.specs.Prelude.{◌≡◌, ℕ, List, [], ◌∷◌, nat_eq, if◌
 use Rattle.std.specs.Cmp.Lexicographic.{pointwise}
 use Rattle.kq_world.specs.declared.outside.Parts.{Parts}
 use Rattle.kq_world.specs.declared.memory.feed.Feed.{Feed}
-use Rattle.kq_world.specs.Memory.{SourceState, SinkState, ClockState}
-use Rattle.kq_world.specs.Outside.{Contents}
+use Rattle.kq_world.specs.Memory.{SourceState, SinkState, ClockState, source_told}
+use Rattle.kq_world.specs.Outside.{Contents, contents, new_contents}
 
 -- what `first` will give, the feeds that were not opened yet, the names asked for, the numbers of the openings that fail,
 -- and the count of the faults
@@ -32,5 +32,5 @@ others name (f ∷ fs) = if pointwise nat_eq f.name name then fs else f ∷ othe
 
 -- what the objects tell that a world in memory will give
 abbrev pub contents_of : Option (Parts SourceState SinkState ClockState) → Contents
-contents_of None = record { left = None; written = None; readings = None }
-contents_of (Some p) = record { left = Some p.source.left; written = Some p.sink.written; readings = Some p.clock.given }
+contents_of None = new_contents
+contents_of (Some p) = contents source_told (λ (s : SinkState). s.accepted) (λ (c : ClockState). c.given) p

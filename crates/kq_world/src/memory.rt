@@ -2,7 +2,6 @@
 mod clock;
 mod feed;
 mod gate;
-mod given;
 mod hold;
 mod sink;
 mod source;

@@ -1,7 +1,7 @@
 // What a session is given.
-ghost use Rattle.std.specs.Prelude.{◌≡◌, ◌≢◌, ◌<◌, ◌≤◌, ◌++◌, ◌∷◌, [], true, false, Bool, ℕ, ℤ, List, Option, IfOk, OnErr, length};
+ghost use Rattle.std.specs.Prelude.{◌≡◌, ◌≢◌, ◌<◌, ◌++◌, ◌∷◌, [], true, false, Bool, ℕ, ℤ, List, IfOk, OnErr, length};
 ghost use Rattle.kq_world.specs.Told.{Adds};
-ghost use Rattle.kq_world.specs.Outside.{Takes, Puts, HasCause, OpensByCause, AsksFor, Contents, AreTold};
+ghost use Rattle.kq_world.specs.Outside.{SourceView, Takes, Puts, HasCause, OpensByCause, AsksFor, Contents, contents};
 ghost use Rattle.kq_value.specs.Typed.{IsMoment};
 
 use kq_value::Memory;
@@ -43,23 +43,23 @@ impl<T: Drop> From<AllocFailed<T>> for OpenFault {
 
 /// Bytes that come in.
 pub trait Source: Drop {
-    /// The bytes left, where told.
-    ghost left: { Self → Option (List ℕ) };
+    /// All bytes that its reads have given, whether a read met the end, and the bytes left, where told.
+    ghost told: { Self → SourceView };
 
     /// How often it has failed.
     ghost faults: { Self → ℕ };
 
-    /// Takes the next bytes into the front of the buffer and answers their number, 0 exactly at the end.
+    /// Puts the next bytes into the front of the buffer and answers their number, 0 exactly at the end.
     fn read(&mut self, buf: &mut [u8]) -> Result<usize, Failed>
         requires { 0 < length buf.old }
-        ensures takes { Takes (left self.old) (left self.new) result buf.new }
+        ensures takes { Takes (told self.old) (told self.new) result buf.new }
         ensures cause { HasCause (faults self.old) (faults self.new) result };
 }
 
 /// Bytes that go out.
 pub trait Sink: Drop {
-    /// The bytes written, where told.
-    ghost written: { Self → Option (List ℕ) };
+    /// All bytes that its writes took.
+    ghost accepted: { Self → List ℕ };
 
     /// How often it has failed.
     ghost faults: { Self → ℕ };
@@ -68,14 +68,14 @@ pub trait Sink: Drop {
     /// failed.
     fn write(&mut self, piece: &[u8]) -> Result<usize, Failed>
         requires { 0 < length piece.now }
-        ensures puts { Puts (written self.old) (written self.new) result piece.now }
+        ensures puts { Puts (accepted self.old) (accepted self.new) result piece.now }
         ensures cause { HasCause (faults self.old) (faults self.new) result };
 }
 
 /// Moments.
 pub trait Clock: Drop {
-    /// The readings given, where told.
-    ghost readings: { Self → Option (List ℤ) };
+    /// All readings that it gave.
+    ghost readings: { Self → List ℤ };
 
     /// The moment, in ticks of 100 ns from 0001-01-01, within the range of datetime.
     fn now(&mut self) -> i64
@@ -125,34 +125,34 @@ pub trait World {
     /// How often it has failed.
     ghost faults: { Self → ℕ };
 
-    /// What the objects tell that `first` will give, where told.
+    /// What the objects tell that `first` will give.
     ghost first_contents: { Self → Contents };
 
-    /// What the objects tell that `open_feed` will give for a name, where told.
+    /// What the objects tell that `open_feed` will give for a name.
     ghost feed_contents: { Self → List ℕ → Contents };
 
     /// The objects of session 0.
     fn first(&mut self) -> Parts<Self::Source, Self::Sink, Self::Clock>
         requires { begun self.old ≡ false }
         ensures begun { begun self.new ≡ true }
-        ensures told { AreTold (first_contents self.old) (record { left = Self.Source.left result.source; written = Self.Sink.written result.sink; readings = Self.Clock.readings result.clock }) }
+        ensures told { contents Self.Source.told Self.Sink.accepted Self.Clock.readings result ≡ first_contents self.old }
         ensures source { Self.Source.faults result.source ≡ 0 }
         ensures sink { Self.Sink.faults result.sink ≡ 0 }
-        ensures feeds { (name : List ℕ) → AreTold (feed_contents self.old name) (feed_contents self.new name) }
+        ensures feeds { (name : List ℕ) → feed_contents self.new name ≡ feed_contents self.old name }
         ensures asked { asked self.new ≡ asked self.old }
-        ensures cause { faults self.old ≤ faults self.new };
+        ensures cause { faults self.new ≡ faults self.old };
 
     /// The objects of a feed. A refusal leaves all feeds to be opened as before.
     fn open_feed(
         &mut self,
         name: &str,
     ) -> Result<Parts<Self::Source, Self::Sink, Self::Clock>, OpenFault>
-        ensures told { IfOk result (λ p. AreTold (feed_contents self.old name.now) (record { left = Self.Source.left p.source; written = Self.Sink.written p.sink; readings = Self.Clock.readings p.clock })) }
+        ensures told { IfOk result (λ p. contents Self.Source.told Self.Sink.accepted Self.Clock.readings p ≡ feed_contents self.old name.now) }
         ensures source { IfOk result (λ p. Self.Source.faults p.source ≡ 0) }
         ensures sink { IfOk result (λ p. Self.Sink.faults p.sink ≡ 0) }
-        ensures others { (other : List ℕ) → other ≢ name.now → AreTold (feed_contents self.old other) (feed_contents self.new other) }
-        ensures refused { OnErr result (AreTold (feed_contents self.old name.now) (feed_contents self.new name.now)) }
-        ensures first { AreTold (first_contents self.old) (first_contents self.new) }
+        ensures others { (other : List ℕ) → other ≢ name.now → feed_contents self.new other ≡ feed_contents self.old other }
+        ensures refused { OnErr result (feed_contents self.new name.now ≡ feed_contents self.old name.now) }
+        ensures first { first_contents self.new ≡ first_contents self.old }
         ensures begun { begun self.new ≡ begun self.old }
         ensures asked { AsksFor (asked self.old) (asked self.new) result name.now }
         ensures cause { OpensByCause (faults self.old) (faults self.new) result };

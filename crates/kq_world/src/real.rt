@@ -1,4 +1,4 @@
-// The real outside, which tells nothing of its contents.
+// The real outside. It tells what was read and written, and nothing of the bytes left.
 mod clock;
 mod counted;
 mod sink;

@@ -1,7 +1,7 @@
 // A world in memory.
 ghost use Rattle.std.specs.Prelude.{◌≡◌, ◌≢◌, ◌⊎◌, ℕ, List, [], All, Contains, Err, IfOk, OnErr, Some, None, is_none, false, length, nat_eq, position};
 ghost use Rattle.std.specs.Cmp.Lexicographic.{pointwise};
-ghost use Rattle.kq_world.specs.Outside.{OpensByCause, AsksFor, AreTold};
+ghost use Rattle.kq_world.specs.Outside.{OpensByCause, AsksFor};
 ghost use Rattle.kq_world.specs.World.{IsFresh, contents_of, feed_named, others};
 
 use super::{Feed, ListClock, MemorySink, MemorySource};
@@ -108,7 +108,7 @@ impl World for MemoryWorld {
         ensures gives { IfOk result (λ p. feed_named name.now self.old.feeds ≡ Some p) }
         ensures succeeds { IfOk result (λ p. (Contains self.old.fails (length self.new.asked) → ⊥) × (self.new.feeds ≡ others name.now self.old.feeds)) }
         ensures fails { result ≡ Err OpenFault.Failed → Contains self.old.fails (length self.new.asked) ⊎ (feed_named name.now self.old.feeds ≡ None) }
-        ensures others { (other : List ℕ) → other ≢ name.now → AreTold (contents_of (feed_named other self.old.feeds)) (contents_of (feed_named other self.new.feeds)) }
+        ensures others { (other : List ℕ) → other ≢ name.now → feed_named other self.new.feeds ≡ feed_named other self.old.feeds }
         ensures refused { OnErr result (self.new.feeds ≡ self.old.feeds) }
         ensures asked { AsksFor self.old.asked self.new.asked result name.now }
         ensures cause { OpensByCause self.old.faults self.new.faults result }

@@ -1,6 +1,7 @@
 // The real world.
-ghost use Rattle.std.specs.Prelude.{◌≡◌, ◌++◌, [], false, IfOk, codes, string_bytes};
-ghost use Rattle.kq_world.specs.Real.{source_faults, sink_faults};
+ghost use Rattle.std.specs.Prelude.{◌≡◌, ◌++◌, [], true, false, IfOk, codes, string_bytes};
+ghost use Rattle.kq_world.specs.Outside.{OpensByCause, AsksFor, contents, new_contents};
+ghost use Rattle.kq_world.specs.Real.{SystemClockState, is_stdin, is_stdout, source_told, source_faults, sink_accepted, sink_faults};
 
 use super::{FileSink, FileSource, RealSink, RealSource, StdinSource, StdoutSink, SystemClock};
 use crate::outside::{OpenFault, Parts, World};
@@ -45,8 +46,10 @@ fn open_files(
     rt: HostRuntime,
     name: &str,
 ) -> io::Result<Parts<RealSource, RealSink, SystemClock<HostRuntime>>>
+    ensures new { IfOk result (λ p. contents source_told sink_accepted (λ (c : SystemClockState). c.given) p ≡ new_contents) }
     ensures source { IfOk result (λ p. source_faults p.source ≡ 0) }
     ensures sink { IfOk result (λ p. sink_faults p.sink ≡ 0) }
+    ensures streams { IfOk result (λ p. (is_stdin p.source ≡ false) × (is_stdout p.sink ≡ false)) }
 {
     let source = File::open(&rt, name)?;
     let sink = File::create(&rt, out_name(rt.alloc(), name)?)?;
@@ -58,7 +61,7 @@ fn open_files(
 }
 
 impl World for RealWorld {
-    ghost use Rattle.std.specs.Prelude.{None};
+    ghost use Rattle.kq_world.specs.Outside.{new_contents};
 
     type Source = RealSource;
 
@@ -72,11 +75,19 @@ impl World for RealWorld {
 
     ghost faults = { λ w. w.faults };
 
-    ghost first_contents = { λ _. record { left = None; written = None; readings = None } };
+    ghost first_contents = { λ _. new_contents };
 
-    ghost feed_contents = { λ _ _. record { left = None; written = None; readings = None } };
+    ghost feed_contents = { λ _ _. new_contents };
 
-    fn first(&mut self) -> Parts<RealSource, RealSink, SystemClock<HostRuntime>> {
+    fn first(&mut self) -> Parts<RealSource, RealSink, SystemClock<HostRuntime>>
+        ensures begun { self.new.begun ≡ true }
+        ensures told { contents source_told sink_accepted (λ (c : SystemClockState). c.given) result ≡ new_contents }
+        ensures source { source_faults result.source ≡ 0 }
+        ensures sink { sink_faults result.sink ≡ 0 }
+        ensures streams { (is_stdin result.source ≡ true) × (is_stdout result.sink ≡ true) }
+        ensures asked { self.new.asked.items ≡ self.old.asked.items }
+        ensures cause { self.new.faults ≡ self.old.faults }
+    {
         self.begun = true;
         Parts {
             source: RealSource::Stdin(StdinSource::new(self.rt)),
@@ -88,7 +99,15 @@ impl World for RealWorld {
     fn open_feed(
         &mut self,
         name: &str,
-    ) -> Result<Parts<RealSource, RealSink, SystemClock<HostRuntime>>, OpenFault> {
+    ) -> Result<Parts<RealSource, RealSink, SystemClock<HostRuntime>>, OpenFault>
+        ensures told { IfOk result (λ p. contents source_told sink_accepted (λ (c : SystemClockState). c.given) p ≡ new_contents) }
+        ensures source { IfOk result (λ p. source_faults p.source ≡ 0) }
+        ensures sink { IfOk result (λ p. sink_faults p.sink ≡ 0) }
+        ensures streams { IfOk result (λ p. (is_stdin p.source ≡ false) × (is_stdout p.sink ≡ false)) }
+        ensures begun { self.new.begun ≡ self.old.begun }
+        ensures asked { AsksFor self.old.asked.items self.new.asked.items result name.now }
+        ensures cause { OpensByCause self.old.faults self.new.faults result }
+    {
         let asked = Text::from_str(self.rt.alloc(), name)?;
         self.asked.push(asked)?;
         match open_files(self.rt, name) {

@@ -1,4 +1,4 @@
-use Rattle.kq_value.specs.Cells.{reply_text_of}
+use Rattle.kq_written.specs.Cells.{reply_text_of}
 use Rattle.kq_reply.proofs.Printed.{tabbed-put}
 use Rattle.kq_reply.proofs.answer.row_line.Goals as goal
 

@@ -1,4 +1,5 @@
-use Rattle.std.proofs.Common.{◌≡◌, ◌≤◌, ◌-◌, ℕ, List, Option}
+use Rattle.std.proofs.Common.{◌≡◌, ◌-◌, ℕ, List}
+use Rattle.kq_world.specs.Outside.{SourceView}
 use Rattle.kq_script.specs.Script.{Block}
 use Rattle.kq_script.specs.Reading.{IsReading}
 use Rattle.kq_script.specs.declared.reader.Phase.TheVariants as phases
@@ -8,9 +9,9 @@ use Rattle.kq_script.proofs.reader.ScriptReader.read_on.Given as goal
 abbrev pub invariant-loop-item : goal.invariant-loop-item
 invariant-loop-item g l = record {
   phase : l.self.phase ≡ phases.Reading;
-  faults : g.S.Source.faults l.fn.source ≤ g.S.Source.faults l.source;
-  reads : (command input : ℕ) (first : Option (List ℕ)) (taken : List ℕ) (given : List Block) → IsReading command input l.fn.self first (g.S.Source.left l.fn.source) taken given
-      → Goes command input l.self first (g.S.Source.left l.fn.source) (g.S.Source.left l.source) taken given;
+  faults : g.S.Source.faults l.source ≡ g.S.Source.faults l.fn.source;
+  reads : (command input : ℕ) (first : SourceView) (taken : List ℕ) (given : List Block) → IsReading command input l.fn.self first (g.S.Source.told l.fn.source) taken given
+      → Goes command input l.self first (g.S.Source.told l.fn.source) (g.S.Source.told l.source) taken given;
 }
 
 abbrev pub decreases-loop-item : goal.decreases-loop-item

@@ -1,5 +1,0 @@
-use Rattle.kq_script.specs.Reading.{GoesOn}
-use Rattle.kq_script.proofs.tests.given.Given as goal
-
-abbrev pub invariant-loop-round : goal.invariant-loop-round
-invariant-loop-round l = GoesOn l.reader
