@@ -44,8 +44,11 @@ grouping n = skip (of (k.reserved r.By)) (items n)
 unfoldable pub nulls : Parser Symbol Symbol
 nulls = skip (of (k.clause w.Nulls)) (expect (of k.extreme))
 
+abbrev pub order : Parser Symbol (Option Symbol × Option Symbol)
+order = both (maybe (of k.direction) (expect (of k.direction))) (maybe (of (k.clause w.Nulls)) nulls)
+
 unfoldable pub key : ℕ → Parser Symbol KeyTree
-key n = (λ p. record { value = p.0; direction = p.1.0; nulls = p.1.1 }) <$> both (expression n) (both (maybe (of k.direction) (expect (of k.direction))) (maybe (of (k.clause w.Nulls)) nulls))
+key n = (λ p. record { value = p.0; direction = p.1.0; nulls = p.1.1 }) <$> both (expression n) order
 
 unfoldable pub keys : ℕ → Parser Symbol (KeyTree × List KeyTree)
 keys n = listed (key n) n

@@ -1,7 +1,8 @@
 // Items, keys, groupings and names in lists.
-ghost use Rattle.std.specs.Prelude.{◌≡◌, map};
+ghost use Rattle.std.specs.Prelude.{◌≡◌, map, true};
+ghost use Rattle.std.specs.Option.{option_map};
 ghost use Rattle.kq_clause.specs.Reading as spec;
-ghost use Rattle.kq_grammar.specs.Views.{item_view, key_view, grouping_view};
+ghost use Rattle.kq_grammar.specs.Views.{item_view, key_view, grouping_view, tree_of};
 ghost use Rattle.kq_syntax.specs.Classes as k;
 ghost use Rattle.kq_syntax.specs.Classes.{of};
 ghost use Rattle.kq_syntax.specs.Forms.{expect, maybe};
@@ -10,10 +11,21 @@ ghost use Rattle.kq_syntax.specs.declared.word.ClauseWord.TheVariants as w;
 
 use crate::lists::listed;
 use kq_expression::{AName, read_expression};
-use kq_grammar::{Grouping, Item, Key, Name, is_bare, item};
+use kq_grammar::{Expression, Grouping, Item, Key, Name, is_bare, item};
 use kq_syntax::{Class, ClauseWord, Cursor, Part, ReservedWord, Stop, Symbol};
 use kq_token::Operator;
 use std::alloc::Global;
+
+/// What stands behind `=`, where it comes next.
+fn given(alloc: Global, cursor: &mut Cursor<'_>, budget: usize) -> Result<Option<Expression>, Stop>
+    ensures { Gives (option_map tree_of) (spec.given true budget cursor.old) result cursor.new }
+{
+    if !cursor.sees(Class::Operator(Operator::Assign)) {
+        return Ok(None);
+    }
+    cursor.expect(Class::Operator(Operator::Assign))?;
+    Ok(Some(read_expression(alloc, cursor, budget)?))
+}
 
 /// The expression that comes next, with the name that it is given where there is one. The budget is at least the number of
 /// symbols that are left.
@@ -25,12 +37,8 @@ pub fn read_item(alloc: Global, cursor: &mut Cursor<'_>, budget: usize) -> Resul
     if !is_bare(&value) {
         return Ok(item(value, None));
     }
-    if !cursor.sees(Class::Operator(Operator::Assign)) {
-        return Ok(item(value, None));
-    }
-    cursor.expect(Class::Operator(Operator::Assign))?;
-    let given = read_expression(alloc, cursor, budget)?;
-    Ok(item(value, Some(given)))
+    let given = given(alloc, cursor, budget)?;
+    Ok(item(value, given))
 }
 
 /// One item.
@@ -107,14 +115,22 @@ fn nulls(cursor: &mut Cursor<'_>) -> Result<Option<Symbol>, Stop>
     Ok(Some(cursor.expect(Class::Extreme)?))
 }
 
+/// How a key of a sort orders, as far as it is said.
+fn order(cursor: &mut Cursor<'_>) -> Result<(Option<Symbol>, Option<Symbol>), Stop>
+    ensures { Gives (λ p. p) (spec.order cursor.old) result cursor.new }
+{
+    let direction = direction(cursor)?;
+    let nulls = nulls(cursor)?;
+    Ok((direction, nulls))
+}
+
 /// The key of a sort that comes next.
 #[tactic(auto, unfolding(crate::specs::Reading::key))]
 pub fn read_key(alloc: Global, cursor: &mut Cursor<'_>, budget: usize) -> Result<Key, Stop>
     ensures { Gives key_view (spec.key budget cursor.old) result cursor.new }
 {
     let value = read_expression(alloc, cursor, budget)?;
-    let direction = direction(cursor)?;
-    let nulls = nulls(cursor)?;
+    let (direction, nulls) = order(cursor)?;
     Ok(Key {
         value,
         direction,

@@ -6,8 +6,6 @@ mod cells;
 mod items;
 mod joins;
 mod lists;
-#[cfg(test)]
-mod tests;
 
 pub use aggregates::{AnAggregate, read_aggregates};
 pub use cells::{read_cells, read_columns};

@@ -1,40 +1,31 @@
 -- The readers of the parts of commands are exact.
-use Rattle.std.proofs.Common.{◌≡◌, ℕ, ◌≤◌, Bool, true, false, ◌||◌, List, [], ◌∷◌, ◌++◌, ◌⊎◌, inl, inr, Option, Some, None, refl, sym, ◌∙◌, ap, subst, append_assoc, append-nil, arith}
+use Rattle.std.proofs.Common.{◌≡◌, ℕ, Bool, true, false, List, [], ◌∷◌, ◌++◌, refl, sym, ◌∙◌, ap, subst, arith}
 use Rattle.kq_clause.proofs.CellLaws.{columns_exact, columns_example}
 use Rattle.kq_clause.proofs.ListLaws.{listed_exact, listed_example}
 use Rattle.kq_clause.specs.Following.{columns_go_on}
 use Rattle.kq_clause.specs.Reading.{columns, listed as listed_by}
 use Rattle.kq_control.specs.ControlReading as reading
-use Rattle.kq_control.specs.ControlTrees.{ColumnsTree, PropertiesTree, BodyTree, ViewTree, ExportTree}
+use Rattle.kq_control.specs.ControlTrees.{ColumnsTree, PropertiesTree}
 use Rattle.kq_control.specs.Controls as grammar
 use Rattle.kq_control.specs.declared.tree.Property.{Property}
-use Rattle.kq_expression.proofs.NameLaws.{example_of, a_word, name_exact, name_example, one_leads, front_leads, starts_apart}
+use Rattle.kq_expression.proofs.NameLaws.{example_of, a_word, name_exact, name_example}
 use Rattle.kq_expression.specs.Reading.{name}
 use Rattle.kq_grammar.specs.Clauses.{columns_text, listed}
 use Rattle.kq_grammar.specs.declared.expression.Name.{Name}
-use Rattle.kq_grammar.specs.declared.expression.Name.TheVariants as shown
 use Rattle.kq_grammar.specs.Expressions.{Text, name_text}
-use Rattle.kq_grammar.specs.Tabulars.{tabular_text}
-use Rattle.kq_grammar.specs.Trees.{TabularTree}
-use Rattle.kq_parse.specs.Reading.{tabular}
 use Rattle.kq_syntax.specs.declared.kind.Kind.TheVariants as kind
 use Rattle.kq_syntax.specs.declared.kind.Quoted.TheVariants as quoted
 use Rattle.kq_syntax.specs.declared.kind.Symbol.{Symbol}
-use Rattle.kq_syntax.specs.declared.word.ClauseWord.TheVariants as l
 use Rattle.kq_syntax.specs.declared.word.ControlWord.{ControlWord}
 use Rattle.kq_syntax.specs.declared.word.ControlWord.TheVariants as w
 use Rattle.kq_syntax.specs.declared.word.Word.TheVariants as word
-use Rattle.kq_token.specs.declared.kind.DashedWord.TheVariants as d
 use Rattle.kq_token.specs.declared.kind.Operator.TheVariants as o
 use Rattle.kq_token.specs.declared.kind.Punctuation.TheVariants as p
 use Rattle.kq_syntax.specs.Classes as k
 use Rattle.kq_syntax.specs.Classes.{Class, of}
-use Rattle.kq_syntax.specs.Forms.{Stops, Parser, one, some, ◌⨾◌, Bind, Then, Image, Maybe, starts, pure, expect, bind, both, ◌<$>◌, choose, maybe, skip, closed}
-use Rattle.kq_syntax.specs.Spans.{Spanned, spanned}
-use Rattle.kq_syntax.proofs.ClassLemmas.{apart, within, part}
-use Rattle.kq_syntax.proofs.Laws.{Exact, Example, Follows, nothing, stops_nothing, stops_starts, starts_stops, bind_exact, both_exact, image_exact, same_exact, wider_exact, pure_exact, one_exact, choose_exact, maybe_exact, maybe_follows, skip_exact, skip_example, closed_exact, closed_example}
-use Rattle.kq_syntax.proofs.OtherwiseLaws.{otherwise, choose_otherwise}
-use Rattle.kq_syntax.proofs.SpanLaws.{spanned_exact, spanned_example}
+use Rattle.kq_syntax.specs.Forms.{Parser, one, some, ◌⨾◌, Then, Image, starts, expect, both, skip, closed}
+use Rattle.kq_syntax.proofs.ClassLemmas.{apart}
+use Rattle.kq_syntax.proofs.Laws.{Exact, Example, Follows, nothing, stops_nothing, both_exact, image_exact, same_exact, one_exact, skip_exact, skip_example, closed_exact, closed_example}
 
 -- ---- words before a form
 

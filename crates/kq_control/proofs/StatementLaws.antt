@@ -1,22 +1,22 @@
 -- The reader of commands is exact.
-use Rattle.std.proofs.Common.{◌≡◌, ℕ, ◌≤◌, Bool, true, false, ◌||◌, List, [], ◌∷◌, ◌++◌, ◌⊎◌, inl, inr, Option, Some, None, refl, sym, ◌∙◌, ap, subst, append_assoc, append-nil, arith}
+use Rattle.std.proofs.Common.{◌≡◌, ℕ, Bool, true, false, List, [], ◌∷◌, ◌++◌, ◌⊎◌, inl, inr, Option, None, refl, sym, ◌∙◌, ap, subst, append_assoc}
 use Rattle.kq_control.proofs.PartLaws.{control_word, behind, behind_example, behind_begins, behind_begins_not, any_follows, properties_exact, table_text, table_exact, table_example, columned, columned_exact, columned_example, then_example}
-use Rattle.kq_control.proofs.ViewLaws.{export_exact, export_begins, view_exact, view_example, view_begins, begins_view}
+use Rattle.kq_control.proofs.ViewLaws.{export_exact, export_begins, view_exact, view_begins, begins_view}
 use Rattle.kq_control.specs.ControlReading as reading
 use Rattle.kq_control.specs.ControlTrees.{ColumnsTree, PropertiesTree, ViewTree, ExportTree, ControlTree, create_table, ingest, set_policy, alter_merge, create_view, show_view, show_failures, show_extents, show_journal, fold, merge, export, StatementTree, query as query_tree, control as control_tree}
 use Rattle.kq_control.specs.Controls as grammar
 use Rattle.kq_control.specs.Following.{hashed_goes_on, begins_query, statement_goes_on}
-use Rattle.kq_expression.proofs.NameLaws.{example_of, a_word, name_exact, name_example, one_leads, front_leads, starts_part}
+use Rattle.kq_expression.proofs.NameLaws.{example_of, a_word, name_exact, name_example, front_leads, starts_part}
 use Rattle.kq_expression.specs.Reading.{name}
 use Rattle.kq_grammar.specs.declared.expression.Name.{Name}
 use Rattle.kq_grammar.specs.Clauses.{columns_text}
 use Rattle.kq_grammar.specs.Expressions.{Text, name_text}
 use Rattle.kq_grammar.specs.Tabulars.{tabular_text, query_text, query_end, let_text}
-use Rattle.kq_grammar.specs.Trees.{TabularTree, QueryTree, LetTree}
+use Rattle.kq_grammar.specs.Trees.{QueryTree, LetTree}
 use Rattle.kq_parse.proofs.QueryLaws.{query_exact}
-use Rattle.kq_parse.proofs.TabularLaws.{tabular_exact, tabular_example, tabular_begins}
-use Rattle.kq_parse.specs.Following.{tabular_goes_on, query_goes_on}
-use Rattle.kq_parse.specs.Reading.{tabular, query}
+use Rattle.kq_parse.proofs.TabularLaws.{tabular_begins}
+use Rattle.kq_parse.specs.Following.{query_goes_on}
+use Rattle.kq_parse.specs.Reading.{query}
 use Rattle.kq_syntax.specs.declared.kind.Kind.TheVariants as kind
 use Rattle.kq_syntax.specs.declared.kind.Quoted.TheVariants as quoted
 use Rattle.kq_syntax.specs.declared.kind.Symbol.{Symbol}
@@ -28,7 +28,7 @@ use Rattle.kq_syntax.specs.Classes as k
 use Rattle.kq_syntax.specs.Classes.{Class, of}
 use Rattle.kq_syntax.specs.Forms.{Stops, Parser, one, some, ◌⨾◌, Then, Image, Many, Maybe, starts, expect, both, ◌<$>◌, choose, maybe, skip, closed}
 use Rattle.kq_syntax.proofs.ClassLemmas.{apart, within, part}
-use Rattle.kq_syntax.proofs.Laws.{Exact, Example, Follows, nothing, stops_starts, both_exact, image_exact, same_exact, wider_exact, one_exact, choose_exact, maybe_exact, maybe_follows, closed_exact, closed_example}
+use Rattle.kq_syntax.proofs.Laws.{Exact, Example, Follows, nothing, both_exact, image_exact, wider_exact, one_exact, choose_exact, maybe_exact, closed_exact}
 
 -- ---- values made of others
 

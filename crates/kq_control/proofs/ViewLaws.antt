@@ -1,17 +1,15 @@
 -- The readers of views, exports and their bodies are exact.
-use Rattle.std.proofs.Common.{◌≡◌, ℕ, ◌≤◌, Bool, true, false, ◌||◌, List, [], ◌∷◌, ◌++◌, ◌⊎◌, inl, inr, Option, Some, None, refl, sym, ◌∙◌, ap, subst, append_assoc, append-nil, arith}
-use Rattle.kq_clause.specs.Reading.{listed as listed_by}
-use Rattle.kq_control.proofs.PartLaws.{control_word, behind, behind_example, behind_begins, behind_begins_not, any_follows, list_text, property_list_exact, property_list_example, table_text, table_exact, table_example, then_example}
+use Rattle.std.proofs.Common.{◌≡◌, ℕ, Bool, true, false, ◌||◌, List, [], ◌∷◌, ◌++◌, ◌⊎◌, inl, inr, Option, Some, None, refl, sym, ◌∙◌, ap, subst, append_assoc, append-nil, arith}
+use Rattle.kq_control.proofs.PartLaws.{control_word, behind, behind_example, behind_begins, any_follows, list_text, property_list_exact, table_text, table_exact, table_example, then_example}
 use Rattle.kq_control.specs.ControlReading as reading
-use Rattle.kq_control.specs.ControlTrees.{ColumnsTree, PropertiesTree, BodyTree, ViewTree, ExportTree}
+use Rattle.kq_control.specs.ControlTrees.{PropertiesTree, BodyTree, ViewTree, ExportTree}
 use Rattle.kq_control.specs.Controls as grammar
-use Rattle.kq_expression.proofs.NameLaws.{example_of, a_word, name_exact, name_example, one_leads, front_leads, starts_apart}
+use Rattle.kq_expression.proofs.NameLaws.{example_of, a_word, name_exact, name_example, one_leads, front_leads}
 use Rattle.kq_expression.specs.Reading.{name}
 use Rattle.kq_grammar.specs.declared.expression.Name.{Name}
 use Rattle.kq_grammar.specs.declared.expression.Name.TheVariants as shown
 use Rattle.kq_grammar.specs.Expressions.{Text, name_text}
 use Rattle.kq_grammar.specs.Tabulars.{tabular_text}
-use Rattle.kq_grammar.specs.Trees.{TabularTree}
 use Rattle.kq_parse.proofs.TabularLaws.{tabular_exact, tabular_example, tabular_begins}
 use Rattle.kq_parse.specs.Following.{tabular_goes_on}
 use Rattle.kq_parse.specs.Reading.{tabular}
@@ -25,10 +23,10 @@ use Rattle.kq_token.specs.declared.kind.DashedWord.TheVariants as d
 use Rattle.kq_token.specs.declared.kind.Punctuation.TheVariants as p
 use Rattle.kq_syntax.specs.Classes as k
 use Rattle.kq_syntax.specs.Classes.{Class, of}
-use Rattle.kq_syntax.specs.Forms.{Stops, Parser, one, some, ◌⨾◌, Bind, Then, Image, Maybe, starts, pure, expect, bind, both, ◌<$>◌, choose, maybe, skip, closed}
-use Rattle.kq_syntax.specs.Spans.{Span, Spanned, spanned}
+use Rattle.kq_syntax.specs.Forms.{one, some, ◌⨾◌, Bind, Then, Image, Maybe, starts, pure, expect, bind, both, ◌<$>◌, skip, closed}
+use Rattle.kq_syntax.specs.Spans.{Spanned}
 use Rattle.kq_syntax.proofs.ClassLemmas.{apart, within, part}
-use Rattle.kq_syntax.proofs.Laws.{Exact, Example, Follows, Leads, nothing, stops_nothing, stops_within, stops_starts, starts_stops, bind_exact, both_exact, image_exact, same_exact, wider_exact, pure_exact, one_exact, choose_exact, maybe_exact, maybe_follows, skip_exact, skip_example, closed_exact, closed_example}
+use Rattle.kq_syntax.proofs.Laws.{Exact, Example, nothing, stops_starts, starts_stops, bind_exact, both_exact, image_exact, same_exact, pure_exact, one_exact, choose_exact, maybe_exact, closed_exact, closed_example}
 use Rattle.kq_syntax.proofs.OtherwiseLaws.{otherwise, choose_otherwise}
 use Rattle.kq_syntax.proofs.SpanLaws.{spanned_exact, spanned_example}
 

@@ -1,12 +1,11 @@
 -- How symbols are read to commands: what the code computes.
-use Rattle.std.specs.Prelude.{ℕ, zero, suc, List, [], ◌∷◌, Bool, true, false, ◌||◌, Result, Ok, Err, Option, Some, None, if◌then◌else◌}
+use Rattle.std.specs.Prelude.{ℕ, Option, Some, None}
 use Rattle.kq_clause.specs.Reading.{columns, listed}
 use Rattle.kq_control.specs.ControlTrees.{ColumnsTree, PropertiesTree, BodyTree, ViewTree, ExportTree, ControlTree, create_table, ingest as ingest_tree, set_policy, alter_merge, create_view, show_view, show_failures, show_extents, show_journal, fold, merge, export as export_tree, StatementTree, query as query_tree, control as control_tree}
 use Rattle.kq_control.specs.declared.tree.Property.{Property}
 use Rattle.kq_expression.specs.Reading.{name}
 use Rattle.kq_grammar.specs.declared.expression.Name.{Name}
 use Rattle.kq_grammar.specs.declared.expression.Name.TheVariants as shown
-use Rattle.kq_grammar.specs.Trees.{TabularTree, QueryTree}
 use Rattle.kq_parse.specs.Reading.{tabular, query}
 use Rattle.kq_syntax.specs.declared.kind.Symbol.{Symbol}
 use Rattle.kq_syntax.specs.declared.word.ClauseWord.TheVariants as l
@@ -16,8 +15,8 @@ use Rattle.kq_token.specs.declared.kind.DashedWord.TheVariants as d
 use Rattle.kq_token.specs.declared.kind.Punctuation.TheVariants as p
 use Rattle.kq_syntax.specs.Classes as k
 use Rattle.kq_syntax.specs.Classes.{Class, of}
-use Rattle.kq_syntax.specs.Forms.{Parser, Outcome, pure, expect, bind, both, ◌<$>◌, ◌>>=◌, and_then, choose, maybe, many, skip, closed, separated, starts}
-use Rattle.kq_syntax.specs.Spans.{Span, spanned}
+use Rattle.kq_syntax.specs.Forms.{Parser, pure, expect, bind, both, ◌<$>◌, choose, maybe, skip, closed}
+use Rattle.kq_syntax.specs.Spans.{spanned}
 
 -- ---- parts
 
@@ -35,6 +34,9 @@ properties n = skip (of (k.control w.With)) (property_list n)
 
 unfoldable pub spanned_tabular : ℕ → Parser Symbol BodyTree
 spanned_tabular n = spanned (tabular n)
+
+abbrev pub maybe_properties : ℕ → Parser Symbol (Option PropertiesTree)
+maybe_properties n = maybe (of (k.control w.With)) (properties n)
 
 unfoldable pub body : ℕ → Parser Symbol BodyTree
 body n = skip (of k.open_brace) (closed (spanned_tabular n) (of k.close_brace))
@@ -57,12 +59,16 @@ viewed n = choose (of (k.control w.With)) ((λ q. q.1) <$> bind (expect (of (k.c
 unfoldable pub word_if : ControlWord → Parser Symbol (Option Symbol)
 word_if word = maybe (of (k.control word)) (expect (of (k.control word)))
 
+-- the table that a view is on, and its query
+abbrev pub on_table : ℕ → Parser Symbol (Name × BodyTree)
+on_table n = both (skip (of (k.clause l.On)) table_name) (body n)
+
 unfoldable pub view : ℕ → Parser Symbol ViewTree
 view n = (λ q. record { at_leisure = q.0; unless_there = q.1.0; properties = q.1.1.0.0; name = q.1.1.0.1; table = q.1.1.1.0; body = q.1.1.1.1 })
     <$> both (word_if w.Async)
     (both (word_if w.IfNotExists)
     (both (skip (of (k.dashed d.MaterializedView)) (viewed n))
-    (both (skip (of (k.clause l.On)) table_name) (body n))))
+    (on_table n)))
 
 -- ---- behind the first words
 
@@ -70,7 +76,7 @@ unfoldable pub creation : ℕ → Parser Symbol ControlTree
 creation n = choose (of (k.control w.Table)) ((λ q. create_table q.0 q.1) <$> table_columns n) (create_view <$> view n)
 
 unfoldable pub ingestion : ℕ → Parser Symbol ControlTree
-ingestion n = (λ q. ingest_tree q.0 q.1.0 q.1.1) <$> skip (of (k.control w.Inline)) (skip (of (k.control w.Into)) (both table_name (both (maybe (of (k.control w.With)) (properties n)) (expect (of (k.sign p.BodyMark))))))
+ingestion n = (λ q. ingest_tree q.0 q.1.0 q.1.1) <$> skip (of (k.control w.Inline)) (skip (of (k.control w.Into)) (both table_name (both (maybe_properties n) (expect (of (k.sign p.BodyMark))))))
 
 unfoldable pub policy : Parser Symbol ControlTree
 policy = (λ q. set_policy q.0 q.1) <$> both table_name (skip (of (k.control w.Policy)) (skip (of (k.control w.Update)) (expect (of k.text))))

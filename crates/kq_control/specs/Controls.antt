@@ -1,12 +1,10 @@
 -- The symbols that spell a command.
-use Rattle.std.specs.Prelude.{◌≡◌, List, [], ◌∷◌, Option, Some, None}
 use Rattle.kq_control.specs.ControlTrees.{ColumnsTree, PropertiesTree, BodyTree, ViewTree, ExportTree, ControlTree, create_table, ingest, set_policy, alter_merge, create_view, show_view, show_failures, show_extents, show_journal, fold, merge, export, StatementTree, query, control}
 use Rattle.kq_control.specs.declared.tree.Property.{Property}
 use Rattle.kq_grammar.specs.declared.expression.Name.{Name}
 use Rattle.kq_grammar.specs.Clauses.{columns_text, listed}
-use Rattle.kq_grammar.specs.Expressions.{Text, empty, name_text}
+use Rattle.kq_grammar.specs.Expressions.{Text, name_text}
 use Rattle.kq_grammar.specs.Tabulars.{tabular_text, query_text}
-use Rattle.kq_syntax.specs.declared.kind.Symbol.{Symbol}
 use Rattle.kq_syntax.specs.declared.word.ClauseWord.TheVariants as l
 use Rattle.kq_syntax.specs.declared.word.ControlWord.TheVariants as w
 use Rattle.kq_token.specs.declared.kind.DashedWord.TheVariants as d

@@ -1,5 +1,5 @@
 -- The symbols of a text: its tokens, with what each word says.
-use Rattle.std.specs.Prelude.{◌≡◌, ℕ, List, map, slice_range}
+use Rattle.std.specs.Prelude.{ℕ, List, map, slice_range}
 use Rattle.kq_literal.specs.Strings.{string_text_of}
 use Rattle.kq_syntax.specs.declared.kind.Kind.{Kind}
 use Rattle.kq_syntax.specs.declared.kind.Kind.TheVariants as kind

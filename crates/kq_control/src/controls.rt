@@ -4,7 +4,7 @@ ghost use Rattle.kq_control.specs.ControlReading as spec;
 ghost use Rattle.kq_control.specs.ControlViews.{control_of, statement_of};
 ghost use Rattle.kq_syntax.specs.Gives.{Gives};
 
-use crate::parts::{properties, table_columns, table_name};
+use crate::parts::{maybe_properties, table_columns, table_name};
 use crate::tree::{Control, Statement};
 use crate::views::{export_definition, view};
 use kq_expression::read_name;
@@ -32,11 +32,7 @@ fn ingestion(alloc: Global, cursor: &mut Cursor<'_>, budget: usize) -> Result<Co
     cursor.expect(Class::Control(ControlWord::Inline))?;
     cursor.expect(Class::Control(ControlWord::Into))?;
     let table = table_name(cursor)?;
-    let list = if cursor.sees(Class::Control(ControlWord::With)) {
-        Some(properties(alloc, cursor, budget)?)
-    } else {
-        None
-    };
+    let list = maybe_properties(alloc, cursor, budget)?;
     let mark = cursor.expect(Class::Sign(Punctuation::BodyMark))?;
     Ok(Control::Ingest(table, list, mark))
 }
@@ -140,11 +136,13 @@ pub(crate) fn read_statement(
 {
     if cursor.sees(Class::Sign(Punctuation::Dot)) {
         cursor.expect(Class::Sign(Punctuation::Dot))?;
-        return Ok(Statement::Control(dotted(alloc, cursor, budget)?));
+        let control = dotted(alloc, cursor, budget)?;
+        return Ok(Statement::Control(Box::new(alloc, control)?));
     }
     if cursor.sees(Class::Sign(Punctuation::Hash)) {
         cursor.expect(Class::Sign(Punctuation::Hash))?;
-        return Ok(Statement::Control(hashed(alloc, cursor, budget)?));
+        let control = hashed(alloc, cursor, budget)?;
+        return Ok(Statement::Control(Box::new(alloc, control)?));
     }
     Ok(Statement::Query(read_query(alloc, cursor, budget)?))
 }

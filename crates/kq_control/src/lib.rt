@@ -5,8 +5,6 @@ mod controls;
 mod parts;
 mod statement;
 mod symbols;
-#[cfg(test)]
-mod tests;
 mod tree;
 mod views;
 

@@ -1,5 +1,6 @@
 // What control commands are made of.
 ghost use Rattle.std.specs.Prelude.{◌≡◌};
+ghost use Rattle.std.specs.Option.{option_map};
 ghost use Rattle.kq_control.specs.ControlReading as spec;
 ghost use Rattle.kq_control.specs.ControlViews.{body_of, columns_of, properties_of};
 ghost use Rattle.kq_control.specs.declared.tree.Property.{Property as Shown};
@@ -66,15 +67,26 @@ pub(crate) fn property_list(
 
 /// `with` and properties.
 #[tactic(auto, unfolding(crate::specs::ControlReading::properties))]
-pub(crate) fn properties(
-    alloc: Global,
-    cursor: &mut Cursor<'_>,
-    budget: usize,
-) -> Result<PropertyList, Stop>
+fn properties(alloc: Global, cursor: &mut Cursor<'_>, budget: usize) -> Result<PropertyList, Stop>
     ensures { Gives properties_of (spec.properties budget cursor.old) result cursor.new }
 {
     cursor.expect(Class::Control(ControlWord::With))?;
     property_list(alloc, cursor, budget)
+}
+
+/// `with` and properties, where they are there.
+pub(crate) fn maybe_properties(
+    alloc: Global,
+    cursor: &mut Cursor<'_>,
+    budget: usize,
+) -> Result<Option<PropertyList>, Stop>
+    ensures { Gives (option_map properties_of) (spec.maybe_properties budget cursor.old) result cursor.new }
+{
+    if !cursor.sees(Class::Control(ControlWord::With)) {
+        return Ok(None);
+    }
+    let list = properties(alloc, cursor, budget)?;
+    Ok(Some(list))
 }
 
 /// `table`, a name, and columns in parentheses.

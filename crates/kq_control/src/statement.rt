@@ -8,8 +8,8 @@ ghost use Rattle.kq_parse.specs.Places.{Answers, RefusesAt};
 use crate::controls::read_statement;
 use crate::symbols::read_symbols;
 use crate::tree::Statement;
-use kq_parse::{ParseFault, refusal, too_deep};
-use kq_syntax::{Cursor, Stop, Symbol};
+use kq_parse::{ParseFault, too_deep, whole};
+use kq_syntax::{Cursor, Symbol};
 use kq_token::{LexFault, tokens};
 use std::alloc::Global;
 
@@ -22,19 +22,7 @@ fn statement_in(alloc: Global, symbols: &[Symbol], end: usize) -> Result<Stateme
     }
     let mut cursor = Cursor::new(symbols);
     let found = read_statement(alloc, &mut cursor, symbols.len());
-    match found {
-        Ok(statement) => {
-            if cursor.left() == 0 {
-                Ok(statement)
-            } else {
-                Err(refusal(&mut cursor, end))
-            }
-        }
-        Err(stop) => match stop {
-            Stop::Memory => Err(ParseFault::Memory),
-            Stop::Syntax => Err(refusal(&mut cursor, end)),
-        },
-    }
+    whole(found, &mut cursor, end)
 }
 
 /// The command that the text is. A text that isn't all tokens is refused where none starts, before brackets are counted and

@@ -1,5 +1,6 @@
 // The symbols of a text.
 ghost use Rattle.std.specs.Prelude.{◌≡◌, ◌<◌, true, IfOk, length};
+ghost use Rattle.std.specs.Str.{IsUtf8};
 ghost use Rattle.kq_control.specs.Symbols.{kind_of as kind_at, quoted_as as said, quoted_of, symbol_of, symbols_of};
 ghost use Rattle.kq_literal.specs.Strings.{is_string_token};
 ghost use Rattle.kq_token.specs.Forms.{is_form};
@@ -23,7 +24,8 @@ fn quoted_as(word: Word) -> Quoted
 
 /// What the text of a string says.
 fn quoted(alloc: Global, kind: TokenKind, bytes: &[u8]) -> Result<Quoted, Memory>
-    requires { is_string_token kind bytes.now ≡ true }
+    requires form { is_string_token kind bytes.now ≡ true }
+    requires utf8 { IsUtf8 bytes.now }
     ensures { IfOk result (λ q. q ≡ quoted_of kind bytes.now) }
 {
     let text = string_text(alloc, kind, bytes)?;
@@ -32,7 +34,8 @@ fn quoted(alloc: Global, kind: TokenKind, bytes: &[u8]) -> Result<Quoted, Memory
 
 /// The kind of the symbol that a token is.
 fn kind_of(alloc: Global, token: TokenKind, bytes: &[u8]) -> Result<Kind, Memory>
-    requires { is_form token bytes.now ≡ true }
+    requires form { is_form token bytes.now ≡ true }
+    requires utf8 { is_string_token token bytes.now ≡ true → IsUtf8 bytes.now }
     ensures { IfOk result (λ k. k ≡ kind_at token bytes.now) }
 {
     match token {
@@ -55,6 +58,7 @@ fn kind_of(alloc: Global, token: TokenKind, bytes: &[u8]) -> Result<Kind, Memory
 /// The symbol that the token at the index is.
 fn symbol_at(alloc: Global, tokens: &Tokens, index: usize) -> Result<Symbol, Memory>
     requires read { AreTokens tokens.now.text tokens.now.tokens }
+    requires utf8 { IsUtf8 tokens.now.text }
     requires within { index < length tokens.now.tokens }
     ensures { IfOk result (λ s. IfSome (slice_get tokens.now.tokens index) (λ t. s ≡ symbol_of tokens.now.text t)) }
 {
@@ -69,7 +73,8 @@ fn symbol_at(alloc: Global, tokens: &Tokens, index: usize) -> Result<Symbol, Mem
 
 /// The symbols of a text, one for each token.
 pub(crate) fn read_symbols(alloc: Global, tokens: &Tokens) -> Result<Vec<Symbol>, Memory>
-    requires { AreTokens tokens.now.text tokens.now.tokens }
+    requires read { AreTokens tokens.now.text tokens.now.tokens }
+    requires utf8 { IsUtf8 tokens.now.text }
     ensures { IfOk result (λ v. v.items ≡ symbols_of tokens.now.text tokens.now.tokens) }
 {
     let mut list = Vec::with_capacity(alloc, tokens.len())?;

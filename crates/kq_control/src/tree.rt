@@ -29,7 +29,7 @@ pub struct PropertyList {
 pub struct Body {
     pub first: Symbol,
     pub last: Symbol,
-    pub query: Tabular,
+    pub query: Box<Tabular>,
 }
 
 /// What makes a view.
@@ -61,7 +61,7 @@ pub enum Control {
     /// The string holds the policy.
     SetPolicy(Name, Symbol),
     AlterMerge(Name, ColumnList),
-    CreateView(ViewDefinition),
+    CreateView(Box<ViewDefinition>),
     ShowView(Name),
     ShowFailures,
     ShowExtents(Name),
@@ -69,12 +69,12 @@ pub enum Control {
     Fold(Name),
     Merge(Name),
     /// The export's word, and what it is to be where that is said.
-    Export(Symbol, Option<ExportDefinition>),
+    Export(Symbol, Option<Box<ExportDefinition>>),
 }
 
 /// A command.
 #[derive(Drop)]
 pub enum Statement {
-    Query(Query),
-    Control(Control),
+    Query(Box<Query>),
+    Control(Box<Control>),
 }

@@ -2,11 +2,11 @@
 ghost use Rattle.std.specs.Prelude.{◌≡◌};
 ghost use Rattle.std.specs.Option.{option_map};
 ghost use Rattle.kq_control.specs.ControlReading as spec;
-ghost use Rattle.kq_control.specs.ControlViews.{export_of, properties_of, view_of};
+ghost use Rattle.kq_control.specs.ControlViews.{body_of, export_of, properties_of, view_of};
 ghost use Rattle.kq_syntax.specs.Gives.{Gives};
 
-use crate::parts::{body, properties, property_list, table_name};
-use crate::tree::{ExportDefinition, PropertyList, ViewDefinition};
+use crate::parts::{body, property_list, table_name};
+use crate::tree::{Body, ExportDefinition, PropertyList, ViewDefinition};
 use kq_expression::read_name;
 use kq_grammar::Name;
 use kq_syntax::{Class, ClauseWord, ControlWord, Cursor, Stop, Symbol};
@@ -60,30 +60,39 @@ fn word_if(cursor: &mut Cursor<'_>, word: ControlWord) -> Result<Option<Symbol>,
     Ok(Some(found))
 }
 
+/// The table that a view is on, and its query.
+fn on_table(alloc: Global, cursor: &mut Cursor<'_>, budget: usize) -> Result<(Name, Body), Stop>
+    ensures { Gives (λ p. (p.0, body_of p.1)) (spec.on_table budget cursor.old) result cursor.new }
+{
+    cursor.expect(Class::Clause(ClauseWord::On))?;
+    let table = table_name(cursor)?;
+    let body = body(alloc, cursor, budget)?;
+    Ok((table, body))
+}
+
 /// What stands behind `create` where a view is made.
 #[tactic(auto, unfolding(crate::specs::ControlReading::view))]
 pub(crate) fn view(
     alloc: Global,
     cursor: &mut Cursor<'_>,
     budget: usize,
-) -> Result<ViewDefinition, Stop>
-    ensures { Gives view_of (spec.view budget cursor.old) result cursor.new }
+) -> Result<Box<ViewDefinition>, Stop>
+    ensures { Gives (λ b. view_of b.value) (spec.view budget cursor.old) result cursor.new }
 {
     let at_leisure = word_if(cursor, ControlWord::Async)?;
     let unless_there = word_if(cursor, ControlWord::IfNotExists)?;
     cursor.expect(Class::Dashed(DashedWord::MaterializedView))?;
     let (properties, name) = viewed(alloc, cursor, budget)?;
-    cursor.expect(Class::Clause(ClauseWord::On))?;
-    let table = table_name(cursor)?;
-    let body = body(alloc, cursor, budget)?;
-    Ok(ViewDefinition {
+    let (table, body) = on_table(alloc, cursor, budget)?;
+    let view = ViewDefinition {
         at_leisure,
         unless_there,
         properties,
         name,
         table,
         body,
-    })
+    };
+    Ok(Box::new(alloc, view)?)
 }
 
 /// What an export is to be.
@@ -92,11 +101,11 @@ pub(crate) fn export_definition(
     alloc: Global,
     cursor: &mut Cursor<'_>,
     budget: usize,
-) -> Result<ExportDefinition, Stop>
-    ensures { Gives export_of (spec.export_definition budget cursor.old) result cursor.new }
+) -> Result<Box<ExportDefinition>, Stop>
+    ensures { Gives (λ b. export_of b.value) (spec.export_definition budget cursor.old) result cursor.new }
 {
     cursor.expect(Class::Control(ControlWord::Over))?;
     let table = read_name(cursor)?;
     let body = body(alloc, cursor, budget)?;
-    Ok(ExportDefinition { table, body })
+    Ok(Box::new(alloc, ExportDefinition { table, body })?)
 }

@@ -1,9 +1,23 @@
--- A relation behind an operand that was read before.
-use Rattle.std.specs.Prelude.{Some}
+-- What stands behind an operand that was read before: the relations of the code, and their trees.
+use Rattle.std.specs.Prelude.{Vec, Some, map}
+use Rattle.std.specs.declared.alloc.Global.{Global}
+use Rattle.kq_grammar.specs.declared.expression.Expression.{Expression}
+use Rattle.kq_grammar.specs.declared.expression.Interval.{Interval}
+use Rattle.kq_grammar.specs.declared.expression.Link.{Link}
 use Rattle.kq_grammar.specs.Trees.{Tree}
+use Rattle.kq_grammar.specs.Views.{tree_of, trees_of, link_of, interval_of}
 use Rattle.kq_syntax.specs.declared.kind.Symbol.{Symbol}
 use Rattle.kq_syntax.specs.Forms.{Parser, ◌<$>◌}
-use Rattle.kq_expression.specs.Reading.{Relation, related_of}
+use Rattle.kq_expression.specs.Reading.{Relation, compared, listed, ranged, related_of}
 
 abbrev pub related : Tree → Parser Symbol Relation → Parser Symbol Tree
 related left p = (λ r. related_of left (Some r)) <$> p
+
+abbrev pub compared_of : Link → Relation
+compared_of l = compared (link_of l).0 (link_of l).1
+
+abbrev pub listed_of : Link × Vec Expression Global → Relation
+listed_of p = listed (link_of p.0).0 (link_of p.0).1 (trees_of (map tree_of p.1.items))
+
+abbrev pub ranged_of : Interval → Relation
+ranged_of i = ranged (interval_of i).operator (interval_of i).low (interval_of i).high

@@ -85,8 +85,11 @@ module _ (rec : Parser Symbol Tree) (n : ℕ) where
   unfoldable pub listing : Parser Symbol Relation
   listing = (λ p. listed p.0 p.1.0 (trees_of p.1.1)) <$> both (expect (of k.membership)) (skip (of k.open_parenthesis) (closed (separated (of k.comma) rec n) (of k.close_parenthesis)))
 
+  abbrev pub bounds : Parser Symbol (Tree × Tree)
+  bounds = both sum (skip (of k.dots) sum)
+
   unfoldable pub ranging : Parser Symbol Relation
-  ranging = (λ p. ranged p.0 p.1.0 p.1.1) <$> both (expect (of k.interval)) (skip (of k.open_parenthesis) (closed (both sum (skip (of k.dots) sum)) (of k.close_parenthesis)))
+  ranging = (λ p. ranged p.0 p.1.0 p.1.1) <$> both (expect (of k.interval)) (skip (of k.open_parenthesis) (closed bounds (of k.close_parenthesis)))
 
   unfoldable pub relating : Parser Symbol Relation
   relating = choose (of k.comparison) comparing (choose (of k.membership) listing ranging)

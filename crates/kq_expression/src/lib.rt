@@ -9,8 +9,6 @@ mod paths;
 mod primaries;
 mod relations;
 mod sums;
-#[cfg(test)]
-mod tests;
 
 pub use names::{AName, read_name};
 pub use operands::{AnExpression, read_expression};

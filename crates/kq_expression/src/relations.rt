@@ -2,15 +2,16 @@
 ghost use Rattle.std.specs.Prelude.{◌≡◌, map};
 ghost use Rattle.kq_expression.specs.Nests.{Nests};
 ghost use Rattle.kq_expression.specs.Reading as spec;
-ghost use Rattle.kq_expression.specs.BehindOperands.{related};
+ghost use Rattle.kq_expression.specs.BehindOperands.{compared_of, listed_of, ranged_of, related};
 ghost use Rattle.kq_grammar.specs.Strengths.{relation};
-ghost use Rattle.kq_grammar.specs.Views.{tree_of, trees_of};
+ghost use Rattle.kq_grammar.specs.Views.{tree_of};
+ghost use Rattle.kq_syntax.specs.Classes as k;
 ghost use Rattle.kq_syntax.specs.Classes.{of};
-ghost use Rattle.kq_syntax.specs.Forms.{starts};
+ghost use Rattle.kq_syntax.specs.Forms.{separated, starts};
 ghost use Rattle.kq_syntax.specs.Gives.{Gives};
 
 use crate::nesting::{Nested, Reader};
-use kq_grammar::{Expression, between, compare, interval, link, within};
+use kq_grammar::{Expression, Interval, Link, between, compare, interval, link, within};
 use kq_syntax::{Behind, Class, Cursor, Part, Stop, more};
 use kq_token::Punctuation;
 use std::alloc::Global;
@@ -23,23 +24,30 @@ fn sees_relation(cursor: &Cursor<'_>) -> bool
 }
 
 impl<F: Fn(Global, &mut Cursor<'_>, usize) -> Result<Expression, Stop>> Reader<F> {
+    /// An operator of comparison and what stands behind it.
     #[tactic(auto, unfolding(crate::specs::Reading::comparing))]
+    fn compared(&self, cursor: &mut Cursor<'_>) -> Result<Link, Stop>
+        requires { Nests self.now.budget (F.pre self.now.expression) (F.post self.now.expression) }
+        ensures { Gives compared_of (spec.comparing (spec.expression self.now.budget) self.now.turns cursor.old) result cursor.new }
+    {
+        let operator = cursor.expect(Class::Comparison)?;
+        let right = self.sum(cursor)?;
+        Ok(link(operator, right))
+    }
+
     fn comparing(&self, left: Expression, cursor: &mut Cursor<'_>) -> Result<Expression, Stop>
         requires { Nests self.now.budget (F.pre self.now.expression) (F.post self.now.expression) }
         ensures { Gives tree_of (related (tree_of left) (spec.comparing (spec.expression self.now.budget) self.now.turns) cursor.old) result cursor.new }
     {
-        let operator = cursor.expect(Class::Comparison)?;
-        let right = self.sum(cursor)?;
-        Ok(compare(self.alloc, left, link(operator, right))?)
+        let right = self.compared(cursor)?;
+        Ok(compare(self.alloc, left, right)?)
     }
 
-    #[tactic(auto, unfolding(crate::specs::Reading::listing))]
-    fn listing(&self, left: Expression, cursor: &mut Cursor<'_>) -> Result<Expression, Stop>
+    /// One value or more.
+    fn values(&self, cursor: &mut Cursor<'_>) -> Result<(Expression, Vec<Expression>), Stop>
         requires { Nests self.now.budget (F.pre self.now.expression) (F.post self.now.expression) }
-        ensures { Gives tree_of (related (tree_of left) (spec.listing (spec.expression self.now.budget) self.now.turns) cursor.old) result cursor.new }
+        ensures { Gives (λ p. (tree_of p.0, map tree_of p.1.items)) (separated (of k.comma) (spec.expression self.now.budget) self.now.turns cursor.old) result cursor.new }
     {
-        let operator = cursor.expect(Class::Membership)?;
-        cursor.expect(Class::Sign(Punctuation::OpenParenthesis))?;
         let value = Nested(self);
         let first = value.read(cursor)?;
         let comma = Class::Sign(Punctuation::Comma);
@@ -48,22 +56,60 @@ impl<F: Fn(Global, &mut Cursor<'_>, usize) -> Result<Expression, Stop>> Reader<F
             part: &value,
         };
         let others = more(self.turns, comma, &next, cursor, Vec::new(self.alloc))?;
-        cursor.expect(Class::Sign(Punctuation::CloseParenthesis))?;
-        Ok(within(self.alloc, left, link(operator, first), others)?)
+        Ok((first, others))
     }
 
+    /// `in` or one of its kin with the first value, and the others.
+    #[tactic(auto, unfolding(crate::specs::Reading::listing))]
+    fn listed(&self, cursor: &mut Cursor<'_>) -> Result<(Link, Vec<Expression>), Stop>
+        requires { Nests self.now.budget (F.pre self.now.expression) (F.post self.now.expression) }
+        ensures { Gives listed_of (spec.listing (spec.expression self.now.budget) self.now.turns cursor.old) result cursor.new }
+    {
+        let operator = cursor.expect(Class::Membership)?;
+        cursor.expect(Class::Sign(Punctuation::OpenParenthesis))?;
+        let (first, others) = self.values(cursor)?;
+        cursor.expect(Class::Sign(Punctuation::CloseParenthesis))?;
+        Ok((link(operator, first), others))
+    }
+
+    fn listing(&self, left: Expression, cursor: &mut Cursor<'_>) -> Result<Expression, Stop>
+        requires { Nests self.now.budget (F.pre self.now.expression) (F.post self.now.expression) }
+        ensures { Gives tree_of (related (tree_of left) (spec.listing (spec.expression self.now.budget) self.now.turns) cursor.old) result cursor.new }
+    {
+        let (first, others) = self.listed(cursor)?;
+        Ok(within(self.alloc, left, first, others)?)
+    }
+
+    /// Two sums with `..` between them.
+    fn bounds(&self, cursor: &mut Cursor<'_>) -> Result<(Expression, Expression), Stop>
+        requires { Nests self.now.budget (F.pre self.now.expression) (F.post self.now.expression) }
+        ensures { Gives (λ p. (tree_of p.0, tree_of p.1)) (spec.bounds (spec.expression self.now.budget) self.now.turns cursor.old) result cursor.new }
+    {
+        let low = self.sum(cursor)?;
+        cursor.expect(Class::Sign(Punctuation::DotDot))?;
+        let high = self.sum(cursor)?;
+        Ok((low, high))
+    }
+
+    /// `between` or `!between` and the ends in parentheses.
     #[tactic(auto, unfolding(crate::specs::Reading::ranging))]
+    fn ends(&self, cursor: &mut Cursor<'_>) -> Result<Interval, Stop>
+        requires { Nests self.now.budget (F.pre self.now.expression) (F.post self.now.expression) }
+        ensures { Gives ranged_of (spec.ranging (spec.expression self.now.budget) self.now.turns cursor.old) result cursor.new }
+    {
+        let operator = cursor.expect(Class::Interval)?;
+        cursor.expect(Class::Sign(Punctuation::OpenParenthesis))?;
+        let (low, high) = self.bounds(cursor)?;
+        cursor.expect(Class::Sign(Punctuation::CloseParenthesis))?;
+        Ok(interval(operator, low, high))
+    }
+
     fn ranging(&self, left: Expression, cursor: &mut Cursor<'_>) -> Result<Expression, Stop>
         requires { Nests self.now.budget (F.pre self.now.expression) (F.post self.now.expression) }
         ensures { Gives tree_of (related (tree_of left) (spec.ranging (spec.expression self.now.budget) self.now.turns) cursor.old) result cursor.new }
     {
-        let operator = cursor.expect(Class::Interval)?;
-        cursor.expect(Class::Sign(Punctuation::OpenParenthesis))?;
-        let low = self.sum(cursor)?;
-        cursor.expect(Class::Sign(Punctuation::DotDot))?;
-        let high = self.sum(cursor)?;
-        cursor.expect(Class::Sign(Punctuation::CloseParenthesis))?;
-        Ok(between(self.alloc, left, interval(operator, low, high))?)
+        let ends = self.ends(cursor)?;
+        Ok(between(self.alloc, left, ends)?)
     }
 
     #[tactic(auto, unfolding(crate::specs::Reading::relating))]

@@ -32,7 +32,7 @@ operators_of (o ∷ more) = and_operator o.0 o.1 (operators_of more)
 -- ---- one layer, its parts seen already
 
 abbrev pub one_tabular : Tabular-F ArmTree BodyTree SourceTree FromTree BodyTree (Symbol × BodyTree) TabularTree UnionTree → TabularTree
-one_tabular q = pipeline q.source (operators_of q.operators.items)
+one_tabular q = pipeline q.source.value (operators_of q.operators.items)
 
 abbrev pub one_source : Source-F ArmTree BodyTree SourceTree FromTree BodyTree (Symbol × BodyTree) TabularTree UnionTree → SourceTree
 one_source (Source-F.Table n) = table n
@@ -42,7 +42,7 @@ one_source (Source-F.Worded t b) = worded t b
 abbrev pub one_from : SourceBody-F ArmTree BodyTree SourceTree FromTree BodyTree (Symbol × BodyTree) TabularTree UnionTree → FromTree
 one_from (SourceBody-F.View t) = view t
 one_from (SourceBody-F.Print i is) = print (item_view i) (map item_view is.items)
-one_from (SourceBody-F.Range n a b c) = range n (tree_of a) (tree_of b) (tree_of c)
+one_from (SourceBody-F.Range n a b c) = range n (tree_of a.value) (tree_of b.value) (tree_of c.value)
 one_from (SourceBody-F.Datatable c cs ls) = datatable c cs.items ls.items
 one_from (SourceBody-F.Union u) = union u
 
@@ -70,12 +70,12 @@ one_body (OperatorBody-F.Distinct n ns) = distinct n ns.items
 one_body (OperatorBody-F.DistinctAll t) = distinct_all t
 one_body (OperatorBody-F.Summarize a more g) = summarize (aggregate_view a) (map aggregate_view more.items) (option_map grouping_view g)
 one_body (OperatorBody-F.SummarizeBy g) = summarize_by (grouping_view g)
-one_body (OperatorBody-F.Join j) = j.value
+one_body (OperatorBody-F.Join j) = j
 one_body (OperatorBody-F.Unite u) = unite u
 one_body (OperatorBody-F.MvExpand i t) = mv_expand (item_view i) t
 
 abbrev pub one_join : Join-F ArmTree BodyTree SourceTree FromTree BodyTree (Symbol × BodyTree) TabularTree UnionTree → BodyTree
-one_join j = join j.kind j.right j.first j.others.items
+one_join j = join j.kind j.right.value j.first j.others.items
 
 -- ---- all layers
 
@@ -106,12 +106,12 @@ join_of = fold-Join ArmTree BodyTree SourceTree FromTree BodyTree (Symbol × Bod
 -- ---- queries
 
 abbrev pub right_of : LetRight → Right Tree TabularTree
-right_of (right.Scalar e) = scalar (tree_of e)
-right_of (right.Tabular q) = tabular_alone (tabular_of q)
-right_of (right.Either e q) = either (tree_of e) (tabular_of q)
+right_of (right.Scalar e) = scalar (tree_of e.value)
+right_of (right.Tabular q) = tabular_alone (tabular_of q.value)
+right_of (right.Either e q) = either (tree_of e.value) (tabular_of q.value)
 
 abbrev pub let_of : Let → LetTree
 let_of l = record { name = l.name; right = right_of l.right }
 
 abbrev pub query_of : Query → QueryTree
-query_of q = record { lets = map let_of q.lets.items; tabular = tabular_of q.tabular }
+query_of q = record { lets = map let_of q.lets.items; tabular = tabular_of q.tabular.value }

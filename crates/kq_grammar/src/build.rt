@@ -9,6 +9,19 @@ use crate::expression::{Expression, Interval, Level, Link, Name, Step};
 use kq_syntax::Symbol;
 use std::alloc::{AllocError, Global};
 
+/// Two parts of a tree in boxes. Neither type is known here, so that one proof serves all.
+fn boxed<A: Drop, B: Drop>(
+    alloc: Global,
+    first: A,
+    second: B,
+) -> Result<(Box<A>, Box<B>), AllocError>
+    ensures { IfOk result (λ p. (p.0.value ≡ first) × (p.1.value ≡ second)) }
+{
+    let first = Box::new(alloc, first)?;
+    let second = Box::new(alloc, second)?;
+    Ok((first, second))
+}
+
 pub fn group(alloc: Global, paren: Symbol, inner: Expression) -> Result<Expression, AllocError>
     ensures { IfOk result (λ e. tree_of e ≡ the_group paren (tree_of inner)) }
 {
@@ -50,8 +63,8 @@ pub fn path(
     if steps.is_empty() {
         return Ok(first);
     }
-    let step = Box::new(alloc, steps.remove(0))?;
-    Ok(Expression::Path(Box::new(alloc, first)?, step, steps))
+    let (first, step) = boxed(alloc, first, steps.remove(0))?;
+    Ok(Expression::Path(first, step, steps))
 }
 
 pub fn signed(alloc: Global, sign: Symbol, operand: Expression) -> Result<Expression, AllocError>
@@ -63,7 +76,8 @@ pub fn signed(alloc: Global, sign: Symbol, operand: Expression) -> Result<Expres
 pub fn compare(alloc: Global, left: Expression, right: Link) -> Result<Expression, AllocError>
     ensures { IfOk result (λ e. tree_of e ≡ the_compare (tree_of left) (link_of right).0 (link_of right).1) }
 {
-    Ok(Expression::Compare(Box::new(alloc, left)?, Box::new(alloc, right)?))
+    let (left, right) = boxed(alloc, left, right)?;
+    Ok(Expression::Compare(left, right))
 }
 
 pub fn within(
@@ -74,7 +88,8 @@ pub fn within(
 ) -> Result<Expression, AllocError>
     ensures { IfOk result (λ e. tree_of e ≡ the_within (tree_of left) (link_of first).0 (link_of first).1 (trees_of (map tree_of others.items))) }
 {
-    Ok(Expression::Within(Box::new(alloc, left)?, Box::new(alloc, first)?, others))
+    let (left, first) = boxed(alloc, left, first)?;
+    Ok(Expression::Within(left, first, others))
 }
 
 pub fn interval(operator: Symbol, low: Expression, high: Expression) -> Interval
@@ -90,7 +105,8 @@ pub fn interval(operator: Symbol, low: Expression, high: Expression) -> Interval
 pub fn between(alloc: Global, left: Expression, ends: Interval) -> Result<Expression, AllocError>
     ensures { IfOk result (λ e. tree_of e ≡ the_between (tree_of left) (interval_of ends).operator (interval_of ends).low (interval_of ends).high) }
 {
-    Ok(Expression::Between(Box::new(alloc, left)?, Box::new(alloc, ends)?))
+    let (left, ends) = boxed(alloc, left, ends)?;
+    Ok(Expression::Between(left, ends))
 }
 
 /// The operand alone where there is no link.
@@ -105,8 +121,8 @@ pub fn chain(
     if links.is_empty() {
         return Ok(first);
     }
-    let link = Box::new(alloc, links.remove(0))?;
-    Ok(Expression::Chain(level, Box::new(alloc, first)?, link, links))
+    let (first, link) = boxed(alloc, first, links.remove(0))?;
+    Ok(Expression::Chain(level, first, link, links))
 }
 
 /// Whether it is a name alone, which may be given to what comes behind a `=`.

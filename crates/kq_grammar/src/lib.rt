@@ -5,8 +5,6 @@ mod build;
 mod clause;
 mod expression;
 mod tabular;
-#[cfg(test)]
-mod tests;
 
 pub use build::{
     between, call, chain, compare, group, index, interval, is_bare, item, link, member, path,

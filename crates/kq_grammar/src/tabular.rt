@@ -8,7 +8,7 @@ use kq_syntax::Symbol;
 #[cycle(tabular)]
 #[derive(Drop)]
 pub struct Tabular {
-    pub source: Source,
+    pub source: Box<Source>,
     pub operators: Vec<Operator>,
 }
 
@@ -33,9 +33,9 @@ pub enum SourceBody {
     Print(Item, Vec<Item>),
     Range {
         name: Name,
-        from: Expression,
-        to: Expression,
-        step: Expression,
+        from: Box<Expression>,
+        to: Box<Expression>,
+        step: Box<Expression>,
     },
     Datatable {
         first: Column,
@@ -91,7 +91,7 @@ pub enum OperatorBody {
     Summarize(Aggregate, Vec<Aggregate>, Option<Grouping>),
     /// Without aggregates.
     SummarizeBy(Grouping),
-    Join(Box<Join>),
+    Join(Join),
     Unite(Union),
     /// The item, and the word of the type where it is said.
     MvExpand(Item, Option<Symbol>),
@@ -102,7 +102,7 @@ pub enum OperatorBody {
 #[derive(Drop)]
 pub struct Join {
     pub kind: Option<Name>,
-    pub right: Tabular,
+    pub right: Box<Tabular>,
     pub first: JoinKey,
     pub others: Vec<JoinKey>,
 }
@@ -110,9 +110,9 @@ pub struct Join {
 /// What a let stands for: one reading, or both where the text has both.
 #[derive(Drop)]
 pub enum LetRight {
-    Scalar(Expression),
-    Tabular(Tabular),
-    Either(Expression, Tabular),
+    Scalar(Box<Expression>),
+    Tabular(Box<Tabular>),
+    Either(Box<Expression>, Box<Tabular>),
 }
 
 /// A name for what follows.
@@ -126,7 +126,7 @@ pub struct Let {
 #[derive(Drop)]
 pub struct Query {
     pub lets: Vec<Let>,
-    pub tabular: Tabular,
+    pub tabular: Box<Tabular>,
 }
 
 /// Which operator a word begins. Words of one meaning have one key.

@@ -1,13 +1,21 @@
 -- Where an exact reader stops is where symbols stop to begin a text of its form.
-use Rattle.std.proofs.Common.{◌≡◌, ◌≤◌, ◌<◌, ℕ, Bool, List, [], ◌∷◌, ◌++◌, length, Result, Ok, Err, refl, sym, ◌∙◌, ap, subst, append_assoc, append-nil, arith}
+use Rattle.std.specs.Prelude.{MatchResult}
+use Rattle.std.proofs.Common.{◌≡◌, ℕ, Bool, List, [], ◌∷◌, ◌++◌, length, Result, Ok, Err, refl, sym, ◌∙◌, ap, subst, append_assoc, append-nil, arith}
 use Rattle.kq_grammar.specs.Expressions.{Text}
 use Rattle.kq_parse.specs.declared.asking.ParseFault.{ParseFault}
 use Rattle.kq_parse.specs.declared.asking.ParseFault.TheVariants as fault
 use Rattle.kq_parse.specs.Depth.{IsShallow}
-use Rattle.kq_parse.specs.Places.{Ends, BreaksAt, IsOnly, IsRefusal, RefusesAt}
+use Rattle.kq_parse.specs.Places.{Answers, Ends, BreaksAt, IsOnly, IsRefusal, IsWhole, RefusesAt}
+use Rattle.kq_syntax.specs.declared.cursor.Stop.{Stop}
+use Rattle.kq_syntax.specs.declared.cursor.Stop.TheVariants.{Syntax, Memory}
 use Rattle.kq_syntax.specs.declared.kind.Symbol.{Symbol}
+use Rattle.kq_syntax.specs.Gives.{Gives}
 use Rattle.kq_syntax.specs.Forms.{Meets, Parser, Reads, Stuck, Outcome}
 use Rattle.kq_syntax.proofs.Laws.{Exact}
+
+empty_of : (ts : List Symbol) → length ts ≡ 0 → ts ≡ []
+empty_of [] none = refl
+empty_of (t ∷ ts) none = absurd (omega arith)
 
 module _ {A : Type 0} (form : A → Text) (more : Symbol → Bool) where
   join_one : (front : List Symbol) (t : Symbol) (after : List Symbol) → (front ++ t ∷ []) ++ after ≡ front ++ (t ∷ after)
@@ -43,7 +51,7 @@ module _ {A : Type 0} (form : A → Text) (more : Symbol → Bool) where
     read_meets : (ts : List Symbol) (o : Outcome Symbol A) → reader (length ts) ts ≡ o → Meets form more ts o
     read_meets ts o e = subst (λ o. Meets form more ts o) e ((exact (length ts)).meets ts (omega arith))
 
-    pub reads_whole : (ts : List Symbol) (x : A) (rest : List Symbol) → reader (length ts) ts ≡ Ok (x, rest) → length rest ≡ 0 → IsOnly form ts x
+    reads_whole : (ts : List Symbol) (x : A) (rest : List Symbol) → reader (length ts) ts ≡ Ok (x, rest) → length rest ≡ 0 → IsOnly form ts x
     reads_whole ts x [] e none = whole_read ts x (read_meets ts (Ok (x, [])) e)
     reads_whole ts x (t ∷ rest) e none = absurd (omega arith)
 
@@ -52,9 +60,20 @@ module _ {A : Type 0} (form : A → Text) (more : Symbol → Bool) where
     refuses ts rest end (fault.Deep place) shallow breaks is = absurd is
     refuses ts rest end fault.Memory shallow breaks is = tt
 
-    pub refuses_left : (ts : List Symbol) (x : A) (rest : List Symbol) (end : ℕ) (r : ParseFault) → IsShallow ts → reader (length ts) ts ≡ Ok (x, rest) → (length rest ≡ 0 → ⊥) → IsRefusal rest end r → RefusesAt form ts end r
+    refuses_left : (ts : List Symbol) (x : A) (rest : List Symbol) (end : ℕ) (r : ParseFault) → IsShallow ts → reader (length ts) ts ≡ Ok (x, rest) → (length rest ≡ 0 → ⊥) → IsRefusal rest end r → RefusesAt form ts end r
     refuses_left ts x [] end r shallow e some is = absurd (some refl)
     refuses_left ts x (t ∷ rest) end r shallow e some is = refuses ts (t ∷ rest) end r shallow (left_over ts x t rest (read_meets ts (Ok (x, t ∷ rest)) e)) is
 
-    pub refuses_stuck : (ts rest : List Symbol) (end : ℕ) (r : ParseFault) → IsShallow ts → reader (length ts) ts ≡ Err rest → IsRefusal rest end r → RefusesAt form ts end r
+    refuses_stuck : (ts rest : List Symbol) (end : ℕ) (r : ParseFault) → IsShallow ts → reader (length ts) ts ≡ Err rest → IsRefusal rest end r → RefusesAt form ts end r
     refuses_stuck ts rest end r shallow e is = refuses ts rest end r shallow (stuck_breaks ts rest (read_meets ts (Err rest) e)) is
+
+    -- what is answered of symbols that were read and found to be whole
+    pub whole_answers : {V : Type 0} (view : V → A) (ts rest : List Symbol) (end : ℕ) (found : Result V Stop) (r : Result V ParseFault)
+        → IsShallow ts → Gives view (reader (length ts) ts) found rest → IsWhole rest end found r
+        → MatchResult r (λ x. Answers form ts (view x)) (RefusesAt form ts end)
+    whole_answers view ts rest end (Ok x) (Ok y) shallow e is = (shallow, reads_whole ts (view y) rest (e ∙ ap (λ v. Ok (view v, rest)) is.0) (ap length is.1))
+    whole_answers view ts rest end (Ok x) (Err f) shallow e is = refuses_left ts (view x) rest end f shallow e (λ none. is.0 (empty_of rest none)) is.1
+    whole_answers view ts rest end (Err Syntax) (Ok y) shallow e wrong = absurd wrong
+    whole_answers view ts rest end (Err Syntax) (Err f) shallow e is = refuses_stuck ts rest end f shallow e is
+    whole_answers view ts rest end (Err Memory) (Ok y) shallow e wrong = absurd wrong
+    whole_answers view ts rest end (Err Memory) (Err f) shallow e is = subst (RefusesAt form ts end) (sym is) tt

@@ -1,10 +1,12 @@
 -- Which symbols make a text of a form, and where those that make none stop to be one.
-use Rattle.std.specs.Prelude.{◌≡◌, ℕ, List, [], ◌∷◌, ◌++◌}
+use Rattle.std.specs.Prelude.{◌≡◌, ◌≢◌, ℕ, List, [], ◌∷◌, ◌++◌, Result, Ok, Err}
 use Rattle.kq_grammar.specs.Expressions.{Text}
 use Rattle.kq_grammar.specs.Tabulars.{query_text}
 use Rattle.kq_parse.specs.declared.asking.ParseFault.{ParseFault}
 use Rattle.kq_parse.specs.declared.asking.ParseFault.TheVariants as fault
 use Rattle.kq_parse.specs.Depth.{IsShallow, IsDeepAt}
+use Rattle.kq_syntax.specs.declared.cursor.Stop.{Stop}
+use Rattle.kq_syntax.specs.declared.cursor.Stop.TheVariants.{Syntax, Memory}
 use Rattle.kq_syntax.specs.declared.kind.Symbol.{Symbol}
 
 -- the symbols begin some text of the form
@@ -42,6 +44,15 @@ abbrev pub IsRefusal : List Symbol → ℕ → ParseFault → Type 0
 IsRefusal rest end (fault.Syntax place) = place ≡ place_of rest end
 IsRefusal rest end (fault.Deep place) = ⊥
 IsRefusal rest end fault.Memory = Unit {0}
+
+-- all symbols were taken, or the refusal stands where the rest is
+abbrev pub IsWhole : {A : Type 0} → List Symbol → ℕ → Result A Stop → Result A ParseFault → Type 0
+IsWhole rest end (Ok x) (Ok y) = (x ≡ y) × (rest ≡ [])
+IsWhole rest end (Ok x) (Err f) = (rest ≢ []) × IsRefusal rest end f
+IsWhole rest end (Err Syntax) (Ok y) = ⊥
+IsWhole rest end (Err Syntax) (Err f) = IsRefusal rest end f
+IsWhole rest end (Err Memory) (Ok y) = ⊥
+IsWhole rest end (Err Memory) (Err f) = f ≡ fault.Memory
 
 -- Brackets are counted before the grammar is tried. A refusal is at the first symbol with which the symbols begin no text of
 -- the form, or at the end of the text where all of them begin one and are none.

@@ -2,13 +2,16 @@
 use Rattle.std.specs.Prelude.{ℕ, zero, suc, List, Err, Option, Some, None}
 use Rattle.kq_clause.specs.Reading.{names, item, items, grouping, key, keys, aggregates, renamings, join_kind, join_keys, columns, cells}
 use Rattle.kq_expression.specs.Reading.{bracketed_name, name, expression}
+use Rattle.kq_grammar.specs.declared.clause.Cell.{Cell}
+use Rattle.kq_grammar.specs.declared.clause.Column.{Column}
+use Rattle.kq_grammar.specs.declared.clause.JoinKey.{JoinKey}
 use Rattle.kq_grammar.specs.declared.expression.Name.{Name}
 use Rattle.kq_grammar.specs.declared.expression.Name.TheVariants as shown
 use Rattle.kq_grammar.specs.declared.tabular.OperatorKey.{OperatorKey}
 use Rattle.kq_grammar.specs.declared.tabular.OperatorKey.TheVariants as o
 use Rattle.kq_grammar.specs.Tabulars.{source_of, operator_of, any_source_word, table_word}
 use Rattle.kq_grammar.specs.TabularViews.{arms_of, operators_of}
-use Rattle.kq_grammar.specs.Trees.{Tree, TabularTree, pipeline as pipeline_tree, SourceTree, table, nested, worded, FromTree, view as view_tree, print, range as range_tree, datatable as datatable_tree, union as union_tree, UnionTree, arms, ArmTree, named_arm, nested_arm, BodyTree, filter, extend, project, project_away, project_rename, take, count, sort, top as top_tree, distinct, distinct_all, summarize as summarize_tree, summarize_by, join as join_tree, unite, mv_expand, LetTree, QueryTree}
+use Rattle.kq_grammar.specs.Trees.{Tree, TabularTree, pipeline as pipeline_tree, GroupingTree, SourceTree, table, nested, worded, FromTree, view as view_tree, print, range as range_tree, datatable as datatable_tree, union as union_tree, UnionTree, arms, ArmTree, named_arm, nested_arm, BodyTree, filter, extend, project, project_away, project_rename, take, count, sort, top as top_tree, distinct, distinct_all, summarize as summarize_tree, summarize_by, join as join_tree, unite, mv_expand, LetTree, QueryTree}
 use Rattle.kq_syntax.specs.declared.kind.Symbol.{Symbol}
 use Rattle.kq_syntax.specs.declared.word.ClauseWord.TheVariants as w
 use Rattle.kq_syntax.specs.declared.word.ReservedWord.TheVariants as r
@@ -28,8 +31,14 @@ view = skip (of k.open_parenthesis) (closed (expect (of k.text)) (of k.close_par
 unfoldable pub range : ℕ → Parser Symbol FromTree
 range n = (λ p. range_tree p.0 p.1.0 p.1.1.0 p.1.1.1) <$> both name (both (skip (of (k.clause w.From)) (expression n)) (both (skip (of (k.clause w.To)) (expression n)) (skip (of (k.clause w.Step)) (expression n))))
 
+abbrev pub columns_in_parentheses : ℕ → Parser Symbol (Column × List Column)
+columns_in_parentheses n = skip (of k.open_parenthesis) (closed (columns n) (of k.close_parenthesis))
+
+abbrev pub cells_in_brackets : ℕ → Parser Symbol (List Cell)
+cells_in_brackets n = skip (of k.open_bracket) (closed (cells n) (of k.close_bracket))
+
 unfoldable pub datatable : ℕ → Parser Symbol FromTree
-datatable n = (λ p. datatable_tree p.0.0 p.0.1 p.1) <$> both (skip (of k.open_parenthesis) (closed (columns n) (of k.close_parenthesis))) (skip (of k.open_bracket) (closed (cells n) (of k.close_bracket)))
+datatable n = (λ p. datatable_tree p.0.0 p.0.1 p.1) <$> both (columns_in_parentheses n) (cells_in_brackets n)
 
 unfoldable pub table_name : Parser Symbol Name
 table_name = choose (of k.open_bracket) bracketed_name (shown.Word <$> expect (of table_word))
@@ -43,17 +52,26 @@ kind = skip (of (k.clause w.Kind)) (skip (of k.assign) join_kind)
 unfoldable pub maybe_kind : Parser Symbol (Option Name)
 maybe_kind = maybe (of (k.clause w.Kind)) kind
 
+abbrev pub keys_on : ℕ → Parser Symbol (JoinKey × List JoinKey)
+keys_on n = skip (of (k.clause w.On)) (join_keys n)
+
 unfoldable pub top : ℕ → Parser Symbol BodyTree
 top n = (λ p. top_tree p.0 p.1) <$> both (expect (of k.whole_number)) (skip (of (k.reserved r.By)) (key n))
 
 unfoldable pub distinction : ℕ → Parser Symbol BodyTree
 distinction n = choose (of k.star) (distinct_all <$> expect (of k.star)) ((λ p. distinct p.0 p.1) <$> names n)
 
+abbrev pub maybe_grouping : ℕ → Parser Symbol (Option GroupingTree)
+maybe_grouping n = maybe (of (k.reserved r.By)) (grouping n)
+
 unfoldable pub summarize : ℕ → Parser Symbol BodyTree
-summarize n = choose (of (k.reserved r.By)) (summarize_by <$> grouping n) ((λ p. summarize_tree p.0.0 p.0.1 p.1) <$> both (aggregates n) (maybe (of (k.reserved r.By)) (grouping n)))
+summarize n = choose (of (k.reserved r.By)) (summarize_by <$> grouping n) ((λ p. summarize_tree p.0.0 p.0.1 p.1) <$> both (aggregates n) (maybe_grouping n))
+
+abbrev pub maybe_element_type : Parser Symbol (Option Symbol)
+maybe_element_type = maybe (of (k.clause w.To)) element_type
 
 unfoldable pub expansion : ℕ → Parser Symbol BodyTree
-expansion n = (λ p. mv_expand p.0 p.1) <$> both (item n) (maybe (of (k.clause w.To)) element_type)
+expansion n = (λ p. mv_expand p.0 p.1) <$> both (item n) maybe_element_type
 
 -- ---- what holds rows
 
@@ -67,12 +85,15 @@ module _ (rec : Parser Symbol TabularTree) (n : ℕ) where
   unfoldable pub more_arms : Parser Symbol (List ArmTree)
   more_arms = many (of k.comma) (skip (of k.comma) arm) n
 
+  abbrev pub all_arms : Parser Symbol (ArmTree × List ArmTree)
+  all_arms = both arm more_arms
+
   unfoldable pub plain_union : Parser Symbol UnionTree
-  plain_union = (λ p. arms None p.0 (arms_of p.1)) <$> both arm more_arms
+  plain_union = (λ p. arms None p.0 (arms_of p.1)) <$> all_arms
 
   -- behind the word `kind`, which may be the name of an arm
   unfoldable pub behind_kind : Symbol → Parser Symbol UnionTree
-  behind_kind t = choose (of k.assign) ((λ p. arms (Some p.0) p.1.0 (arms_of p.1.1)) <$> skip (of k.assign) (both (expect (of k.union_kind)) (both arm more_arms))) ((λ l. arms None (named_arm (shown.Word t)) (arms_of l)) <$> more_arms)
+  behind_kind t = choose (of k.assign) ((λ p. arms (Some p.0) p.1.0 (arms_of p.1.1)) <$> skip (of k.assign) (both (expect (of k.union_kind)) all_arms)) ((λ l. arms None (named_arm (shown.Word t)) (arms_of l)) <$> more_arms)
 
   unfoldable pub kind_union : Parser Symbol UnionTree
   kind_union = (λ p. p.1) <$> bind (expect (of (k.clause w.Kind))) behind_kind
@@ -91,7 +112,7 @@ module _ (rec : Parser Symbol TabularTree) (n : ℕ) where
   source = choose (of k.open_parenthesis) ((λ p. nested p.0 p.1) <$> nesting) (choose (of any_source_word) ((λ p. worded p.0 p.1) <$> keyed source_of from) (table <$> table_name))
 
   unfoldable pub join : Parser Symbol BodyTree
-  join = (λ p. join_tree p.0 p.1.0.1 p.1.1.0 p.1.1.1) <$> both maybe_kind (both nesting (skip (of (k.clause w.On)) (join_keys n)))
+  join = (λ p. join_tree p.0 p.1.0.1 p.1.1.0 p.1.1.1) <$> both maybe_kind (both nesting (keys_on n))
 
   abbrev pub body : OperatorKey → Parser Symbol BodyTree
   body o.Where = filter <$> expression n
@@ -112,8 +133,11 @@ module _ (rec : Parser Symbol TabularTree) (n : ℕ) where
   unfoldable pub operator : Parser Symbol (Symbol × BodyTree)
   operator = keyed operator_of body
 
+  abbrev pub operators : Parser Symbol (List (Symbol × BodyTree))
+  operators = many (of k.pipe) (skip (of k.pipe) operator) n
+
   unfoldable pub pipeline : Parser Symbol TabularTree
-  pipeline = (λ p. pipeline_tree p.0 (operators_of p.1)) <$> both source (many (of k.pipe) (skip (of k.pipe) operator) n)
+  pipeline = (λ p. pipeline_tree p.0 (operators_of p.1)) <$> both source operators
 
 -- The number is at least that of the symbols.
 unfoldable pub tabular : ℕ → Parser Symbol TabularTree

@@ -2,7 +2,7 @@
 ghost use Rattle.std.specs.Prelude.{◌≡◌, length, MatchResult};
 ghost use Rattle.kq_grammar.specs.TabularViews.{query_of};
 ghost use Rattle.kq_grammar.specs.Tabulars.{query_text};
-ghost use Rattle.kq_parse.specs.Places.{Answers, IsRefusal, RefusesAt};
+ghost use Rattle.kq_parse.specs.Places.{Answers, IsRefusal, IsWhole, RefusesAt};
 
 use crate::depth::too_deep;
 use crate::lets::read_query;
@@ -21,7 +21,7 @@ pub enum ParseFault {
 }
 
 /// The refusal where the cursor stands, in a text that ends at `end`.
-pub fn refusal(cursor: &mut Cursor<'_>, end: usize) -> ParseFault
+fn refusal(cursor: &mut Cursor<'_>, end: usize) -> ParseFault
     ensures { IsRefusal cursor.old end result }
 {
     match cursor.take() {
@@ -33,27 +33,38 @@ pub fn refusal(cursor: &mut Cursor<'_>, end: usize) -> ParseFault
     }
 }
 
+/// What was found up to the cursor, where no symbol is left behind it. The text ends at `end`.
+pub fn whole<T: Drop>(
+    found: Result<T, Stop>,
+    cursor: &mut Cursor<'_>,
+    end: usize,
+) -> Result<T, ParseFault>
+    ensures { IsWhole cursor.old end found result }
+{
+    match found {
+        Ok(value) => {
+            if cursor.left() == 0 {
+                Ok(value)
+            } else {
+                Err(refusal(cursor, end))
+            }
+        }
+        Err(stop) => match stop {
+            Stop::Memory => Err(ParseFault::Memory),
+            Stop::Syntax => Err(refusal(cursor, end)),
+        },
+    }
+}
+
 /// The query that has exactly these symbols of a text that ends at `end`.
-pub fn parse_query(alloc: Global, symbols: &[Symbol], end: usize) -> Result<Query, ParseFault>
+pub fn parse_query(alloc: Global, symbols: &[Symbol], end: usize) -> Result<Box<Query>, ParseFault>
     // It is the only one.
-    ensures { MatchResult result (λ q. Answers query_text symbols.now (query_of q)) (RefusesAt query_text symbols.now end) }
+    ensures { MatchResult result (λ q. Answers query_text symbols.now (query_of q.value)) (RefusesAt query_text symbols.now end) }
 {
     if let Some(at) = too_deep(symbols) {
         return Err(ParseFault::Deep { at });
     }
     let mut cursor = Cursor::new(symbols);
     let found = read_query(alloc, &mut cursor, symbols.len());
-    match found {
-        Ok(query) => {
-            if cursor.left() == 0 {
-                Ok(query)
-            } else {
-                Err(refusal(&mut cursor, end))
-            }
-        }
-        Err(stop) => match stop {
-            Stop::Memory => Err(ParseFault::Memory),
-            Stop::Syntax => Err(refusal(&mut cursor, end)),
-        },
-    }
+    whole(found, &mut cursor, end)
 }

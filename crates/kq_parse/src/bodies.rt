@@ -1,7 +1,13 @@
 // Sources and operators that have no sources inside, without their words.
 ghost use Rattle.std.specs.Prelude.{◌≡◌};
+ghost use Rattle.std.specs.Option.{option_map};
+ghost use Rattle.kq_expression.specs.Reading.{expression};
 ghost use Rattle.kq_grammar.specs.TabularViews.{body_of, from_of};
+ghost use Rattle.kq_grammar.specs.Views.{grouping_view, tree_of};
 ghost use Rattle.kq_parse.specs.Reading as spec;
+ghost use Rattle.kq_syntax.specs.Classes as k;
+ghost use Rattle.kq_syntax.specs.Classes.{of};
+ghost use Rattle.kq_syntax.specs.Forms.{skip};
 ghost use Rattle.kq_syntax.specs.Gives.{Gives};
 
 use crate::build;
@@ -11,7 +17,7 @@ use kq_clause::{
     read_names,
 };
 use kq_expression::{read_expression, read_name};
-use kq_grammar::{Name, OperatorBody, SourceBody};
+use kq_grammar::{Cell, Column, Expression, Grouping, Name, OperatorBody, SourceBody};
 use kq_syntax::{Class, ClauseWord, Cursor, ReservedWord, Stop, Symbol};
 use kq_token::{Operator, Punctuation};
 use std::alloc::Global;
@@ -37,13 +43,50 @@ pub(crate) fn read_range(
     ensures { Gives from_of (spec.range budget cursor.old) result cursor.new }
 {
     let name = read_name(cursor)?;
-    cursor.expect(Class::Clause(ClauseWord::From))?;
-    let from = read_expression(alloc, cursor, budget)?;
-    cursor.expect(Class::Clause(ClauseWord::To))?;
-    let to = read_expression(alloc, cursor, budget)?;
-    cursor.expect(Class::Clause(ClauseWord::Step))?;
-    let step = read_expression(alloc, cursor, budget)?;
+    let from = read_bound(alloc, cursor, ClauseWord::From, budget)?;
+    let to = read_bound(alloc, cursor, ClauseWord::To, budget)?;
+    let step = read_bound(alloc, cursor, ClauseWord::Step, budget)?;
     Ok(build::range(name, from, to, step))
+}
+
+/// An expression behind a word, in a box, since it is owned while others are read.
+fn read_bound(
+    alloc: Global,
+    cursor: &mut Cursor<'_>,
+    word: ClauseWord,
+    budget: usize,
+) -> Result<Box<Expression>, Stop>
+    ensures { Gives (λ b. tree_of b.value) (skip (of (k.clause word)) (expression budget) cursor.old) result cursor.new }
+{
+    cursor.expect(Class::Clause(word))?;
+    let value = read_expression(alloc, cursor, budget)?;
+    Ok(Box::new(alloc, value)?)
+}
+
+fn columns_in_parentheses(
+    alloc: Global,
+    cursor: &mut Cursor<'_>,
+    budget: usize,
+) -> Result<(Column, Vec<Column>), Stop>
+    ensures { Gives (λ p. (p.0, p.1.items)) (spec.columns_in_parentheses budget cursor.old) result cursor.new }
+{
+    cursor.expect(Class::Sign(Punctuation::OpenParenthesis))?;
+    let columns = read_columns(alloc, cursor, budget)?;
+    cursor.expect(Class::Sign(Punctuation::CloseParenthesis))?;
+    Ok(columns)
+}
+
+fn cells_in_brackets(
+    alloc: Global,
+    cursor: &mut Cursor<'_>,
+    budget: usize,
+) -> Result<Vec<Cell>, Stop>
+    ensures { Gives (λ v. v.items) (spec.cells_in_brackets budget cursor.old) result cursor.new }
+{
+    cursor.expect(Class::Sign(Punctuation::OpenBracket))?;
+    let cells = read_cells(alloc, cursor, budget)?;
+    cursor.expect(Class::Sign(Punctuation::CloseBracket))?;
+    Ok(cells)
 }
 
 /// What stands behind `datatable`.
@@ -55,12 +98,8 @@ pub(crate) fn read_datatable(
 ) -> Result<SourceBody, Stop>
     ensures { Gives from_of (spec.datatable budget cursor.old) result cursor.new }
 {
-    cursor.expect(Class::Sign(Punctuation::OpenParenthesis))?;
-    let (first, others) = read_columns(alloc, cursor, budget)?;
-    cursor.expect(Class::Sign(Punctuation::CloseParenthesis))?;
-    cursor.expect(Class::Sign(Punctuation::OpenBracket))?;
-    let cells = read_cells(alloc, cursor, budget)?;
-    cursor.expect(Class::Sign(Punctuation::CloseBracket))?;
+    let (first, others) = columns_in_parentheses(alloc, cursor, budget)?;
+    let cells = cells_in_brackets(alloc, cursor, budget)?;
     Ok(build::datatable(first, others, cells))
 }
 
@@ -87,6 +126,17 @@ fn read_element_type(cursor: &mut Cursor<'_>) -> Result<Symbol, Stop>
     let word = cursor.expect(Class::Word)?;
     cursor.expect(Class::Sign(Punctuation::CloseParenthesis))?;
     Ok(word)
+}
+
+/// The word of a type, where it is said.
+fn maybe_element_type(cursor: &mut Cursor<'_>) -> Result<Option<Symbol>, Stop>
+    ensures { Gives (λ o. o) (spec.maybe_element_type cursor.old) result cursor.new }
+{
+    if !cursor.sees(Class::Clause(ClauseWord::To)) {
+        return Ok(None);
+    }
+    let word = read_element_type(cursor)?;
+    Ok(Some(word))
 }
 
 /// `kind =` and the kind of a join.
@@ -131,6 +181,21 @@ pub(crate) fn read_distinct(
     Ok(OperatorBody::Distinct(first, others))
 }
 
+/// What rows are grouped by, where it is said.
+fn maybe_grouping(
+    alloc: Global,
+    cursor: &mut Cursor<'_>,
+    budget: usize,
+) -> Result<Option<Grouping>, Stop>
+    ensures { Gives (option_map grouping_view) (spec.maybe_grouping budget cursor.old) result cursor.new }
+{
+    if !cursor.sees(Class::Reserved(ReservedWord::By)) {
+        return Ok(None);
+    }
+    let grouping = read_grouping(alloc, cursor, budget)?;
+    Ok(Some(grouping))
+}
+
 /// What stands behind `summarize`.
 #[tactic(auto, unfolding(crate::specs::Reading::summarize))]
 pub(crate) fn read_summarize(
@@ -145,11 +210,8 @@ pub(crate) fn read_summarize(
         return Ok(OperatorBody::SummarizeBy(grouping));
     }
     let (first, others) = read_aggregates(alloc, cursor, budget)?;
-    if !cursor.sees(Class::Reserved(ReservedWord::By)) {
-        return Ok(OperatorBody::Summarize(first, others, None));
-    }
-    let grouping = read_grouping(alloc, cursor, budget)?;
-    Ok(OperatorBody::Summarize(first, others, Some(grouping)))
+    let grouping = maybe_grouping(alloc, cursor, budget)?;
+    Ok(OperatorBody::Summarize(first, others, grouping))
 }
 
 /// What stands behind `mv-expand`.
@@ -162,9 +224,6 @@ pub(crate) fn read_expansion(
     ensures { Gives body_of (spec.expansion budget cursor.old) result cursor.new }
 {
     let item = read_item(alloc, cursor, budget)?;
-    if !cursor.sees(Class::Clause(ClauseWord::To)) {
-        return Ok(OperatorBody::MvExpand(item, None));
-    }
-    let word = read_element_type(cursor)?;
-    Ok(OperatorBody::MvExpand(item, Some(word)))
+    let word = maybe_element_type(cursor)?;
+    Ok(OperatorBody::MvExpand(item, word))
 }

@@ -1,5 +1,5 @@
 // Trees made of their parts.
-ghost use Rattle.std.specs.Prelude.{◌≡◌, IfOk, map};
+ghost use Rattle.std.specs.Prelude.{◌≡◌, map};
 ghost use Rattle.kq_grammar.specs.Trees as tree;
 ghost use Rattle.kq_grammar.specs.TabularViews.{arm_of, arms_of, body_of, from_of, operator_of, operators_of, source_of, tabular_of, union_of};
 ghost use Rattle.kq_grammar.specs.Views.{item_view, tree_of};
@@ -9,10 +9,9 @@ use kq_grammar::{
     SourceBody, Tabular, Union,
 };
 use kq_syntax::Symbol;
-use std::alloc::{AllocError, Global};
 
-pub(crate) fn tabular(source: Source, operators: Vec<Operator>) -> Tabular
-    ensures { tabular_of result ≡ tree.pipeline (source_of source) (operators_of (map operator_of operators.items)) }
+pub(crate) fn tabular(source: Box<Source>, operators: Vec<Operator>) -> Tabular
+    ensures { tabular_of result ≡ tree.pipeline (source_of source.value) (operators_of (map operator_of operators.items)) }
 {
     Tabular { source, operators }
 }
@@ -23,10 +22,10 @@ pub(crate) fn table(name: Name) -> Source
     Source::Table(name)
 }
 
-pub(crate) fn nested(alloc: Global, paren: Symbol, inner: Tabular) -> Result<Source, AllocError>
-    ensures { IfOk result (λ s. source_of s ≡ tree.nested paren (tabular_of inner)) }
+pub(crate) fn nested(paren: Symbol, inner: Box<Tabular>) -> Source
+    ensures { source_of result ≡ tree.nested paren (tabular_of inner.value) }
 {
-    Ok(Source::Nested(paren, Box::new(alloc, inner)?))
+    Source::Nested(paren, inner)
 }
 
 pub(crate) fn worded(word: Symbol, body: SourceBody) -> Source
@@ -47,8 +46,13 @@ pub(crate) fn print(first: Item, others: Vec<Item>) -> SourceBody
     SourceBody::Print(first, others)
 }
 
-pub(crate) fn range(name: Name, from: Expression, to: Expression, step: Expression) -> SourceBody
-    ensures { from_of result ≡ tree.range name (tree_of from) (tree_of to) (tree_of step) }
+pub(crate) fn range(
+    name: Name,
+    from: Box<Expression>,
+    to: Box<Expression>,
+    step: Box<Expression>,
+) -> SourceBody
+    ensures { from_of result ≡ tree.range name (tree_of from.value) (tree_of to.value) (tree_of step.value) }
 {
     SourceBody::Range {
         name,
@@ -90,10 +94,10 @@ pub(crate) fn named(name: Name) -> Arm
     Arm::Named(name)
 }
 
-pub(crate) fn grouped(alloc: Global, paren: Symbol, inner: Tabular) -> Result<Arm, AllocError>
-    ensures { IfOk result (λ a. arm_of a ≡ tree.nested_arm paren (tabular_of inner)) }
+pub(crate) fn grouped(paren: Symbol, inner: Box<Tabular>) -> Arm
+    ensures { arm_of result ≡ tree.nested_arm paren (tabular_of inner.value) }
 {
-    Ok(Arm::Grouped(paren, Box::new(alloc, inner)?))
+    Arm::Grouped(paren, inner)
 }
 
 pub(crate) fn operator(word: Symbol, body: OperatorBody) -> Operator
@@ -103,21 +107,19 @@ pub(crate) fn operator(word: Symbol, body: OperatorBody) -> Operator
 }
 
 pub(crate) fn join(
-    alloc: Global,
     kind: Option<Name>,
-    right: Tabular,
+    right: Box<Tabular>,
     first: JoinKey,
     others: Vec<JoinKey>,
-) -> Result<OperatorBody, AllocError>
-    ensures { IfOk result (λ b. body_of b ≡ tree.join kind (tabular_of right) first others.items) }
+) -> OperatorBody
+    ensures { body_of result ≡ tree.join kind (tabular_of right.value) first others.items }
 {
-    let join = Join {
+    OperatorBody::Join(Join {
         kind,
         right,
         first,
         others,
-    };
-    Ok(OperatorBody::Join(Box::new(alloc, join)?))
+    })
 }
 
 pub(crate) fn unite(union: Union) -> OperatorBody

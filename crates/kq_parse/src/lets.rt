@@ -7,13 +7,13 @@ ghost use Rattle.kq_grammar.specs.Views.{tree_of};
 ghost use Rattle.kq_parse.specs.Reading as spec;
 ghost use Rattle.kq_syntax.specs.Classes as k;
 ghost use Rattle.kq_syntax.specs.Classes.{of};
-ghost use Rattle.kq_syntax.specs.Forms.{closed, many, with_front};
+ghost use Rattle.kq_syntax.specs.Forms.{closed, expect, many, maybe, with_front};
 ghost use Rattle.kq_syntax.specs.Gives.{Gives};
 
 use crate::pipes::read_tabular;
 use kq_expression::{read_expression, read_name};
 use kq_grammar::{Expression, Let, LetRight, Query, Tabular};
-use kq_syntax::{Class, Cursor, Part, ReservedWord, Stop, more};
+use kq_syntax::{Class, Cursor, Part, ReservedWord, Stop, Symbol, more};
 use kq_token::{Operator, Punctuation};
 use std::alloc::Global;
 
@@ -22,17 +22,22 @@ fn closed_expression(
     alloc: Global,
     cursor: &mut Cursor<'_>,
     budget: usize,
-) -> Result<Expression, Stop>
-    ensures { Gives tree_of (closed (expression budget) (of k.semicolon) cursor.old) result cursor.new }
+) -> Result<Box<Expression>, Stop>
+    ensures { Gives (λ b. tree_of b.value) (closed (expression budget) (of k.semicolon) cursor.old) result cursor.new }
 {
     let value = read_expression(alloc, cursor, budget)?;
+    let value = Box::new(alloc, value)?;
     cursor.expect(Class::Sign(Punctuation::Semicolon))?;
     Ok(value)
 }
 
 /// A source with its operators, up to its semicolon.
-fn closed_tabular(alloc: Global, cursor: &mut Cursor<'_>, budget: usize) -> Result<Tabular, Stop>
-    ensures { Gives tabular_of (closed (spec.tabular budget) (of k.semicolon) cursor.old) result cursor.new }
+fn closed_tabular(
+    alloc: Global,
+    cursor: &mut Cursor<'_>,
+    budget: usize,
+) -> Result<Box<Tabular>, Stop>
+    ensures { Gives (λ b. tabular_of b.value) (closed (spec.tabular budget) (of k.semicolon) cursor.old) result cursor.new }
 {
     let rows = read_tabular(alloc, cursor, budget)?;
     cursor.expect(Class::Sign(Punctuation::Semicolon))?;
@@ -106,10 +111,21 @@ impl Part for ALet {
     }
 }
 
+/// The semicolon that may end a query.
+fn maybe_semicolon(cursor: &mut Cursor<'_>) -> Result<Option<Symbol>, Stop>
+    ensures { Gives (λ o. o) (maybe (of k.semicolon) (expect (of k.semicolon)) cursor.old) result cursor.new }
+{
+    if !cursor.sees(Class::Sign(Punctuation::Semicolon)) {
+        return Ok(None);
+    }
+    let semicolon = cursor.expect(Class::Sign(Punctuation::Semicolon))?;
+    Ok(Some(semicolon))
+}
+
 /// The query that comes next. The budget is at least the number of symbols that are left.
 #[tactic(auto, unfolding(crate::specs::Reading::query))]
-pub fn read_query(alloc: Global, cursor: &mut Cursor<'_>, budget: usize) -> Result<Query, Stop>
-    ensures { Gives query_of (spec.query budget cursor.old) result cursor.new }
+pub fn read_query(alloc: Global, cursor: &mut Cursor<'_>, budget: usize) -> Result<Box<Query>, Stop>
+    ensures { Gives (λ b. query_of b.value) (spec.query budget cursor.old) result cursor.new }
 {
     let a_let = ALet { alloc, budget };
     let lets = more(
@@ -120,8 +136,6 @@ pub fn read_query(alloc: Global, cursor: &mut Cursor<'_>, budget: usize) -> Resu
         Vec::new(alloc),
     )?;
     let tabular = read_tabular(alloc, cursor, budget)?;
-    if cursor.sees(Class::Sign(Punctuation::Semicolon)) {
-        cursor.expect(Class::Sign(Punctuation::Semicolon))?;
-    }
-    Ok(Query { lets, tabular })
+    let _semicolon = maybe_semicolon(cursor)?;
+    Ok(Box::new(alloc, Query { lets, tabular })?)
 }

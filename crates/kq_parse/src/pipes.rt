@@ -18,7 +18,7 @@ use crate::words::{expect_operator_word, expect_source_word, sees_source_word};
 use kq_clause::{read_items, read_join_keys, read_keys, read_names, read_renamings};
 use kq_expression::{read_expression, read_name};
 use kq_grammar::{
-    Arm, Name, Operator, OperatorBody, OperatorKey, Source, SourceBody, Tabular, Union,
+    Arm, JoinKey, Name, Operator, OperatorBody, OperatorKey, Source, SourceBody, Tabular, Union,
 };
 use kq_syntax::{
     Behind, Class, ClauseWord, Cursor, Part, ReservedWord, SourceWord, Stop, Symbol, more,
@@ -35,11 +35,11 @@ pub struct Reader<F> {
     tabular: F,
 }
 
-impl<F: Fn(Global, &mut Cursor<'_>, usize) -> Result<Tabular, Stop>> Reader<F> {
+impl<F: Fn(Global, &mut Cursor<'_>, usize) -> Result<Box<Tabular>, Stop>> Reader<F> {
     #[tactic(auto, unfolding(crate::specs::Reading::nesting))]
-    fn nesting(&self, cursor: &mut Cursor<'_>) -> Result<(Symbol, Tabular), Stop>
+    fn nesting(&self, cursor: &mut Cursor<'_>) -> Result<(Symbol, Box<Tabular>), Stop>
         requires { Nests self.now.budget (F.pre self.now.tabular) (F.post self.now.tabular) }
-        ensures { Gives (λ p. (p.0, tabular_of p.1)) (spec.nesting (spec.tabular self.now.budget) self.now.turns cursor.old) result cursor.new }
+        ensures { Gives (λ p. (p.0, tabular_of p.1.value)) (spec.nesting (spec.tabular self.now.budget) self.now.turns cursor.old) result cursor.new }
     {
         let paren = cursor.expect(Class::Sign(Punctuation::OpenParenthesis))?;
         let inner = (self.tabular)(self.alloc, cursor, self.budget)?;
@@ -54,7 +54,7 @@ impl<F: Fn(Global, &mut Cursor<'_>, usize) -> Result<Tabular, Stop>> Reader<F> {
     {
         if cursor.sees(Class::Sign(Punctuation::OpenParenthesis)) {
             let (paren, inner) = self.nesting(cursor)?;
-            return Ok(build::grouped(self.alloc, paren, inner)?);
+            return Ok(build::grouped(paren, inner));
         }
         let name = read_name(cursor)?;
         Ok(build::named(name))
@@ -79,13 +79,22 @@ impl<F: Fn(Global, &mut Cursor<'_>, usize) -> Result<Tabular, Stop>> Reader<F> {
         )
     }
 
+    /// One arm or more.
+    fn arms(&self, cursor: &mut Cursor<'_>) -> Result<(Arm, Vec<Arm>), Stop>
+        requires { Nests self.now.budget (F.pre self.now.tabular) (F.post self.now.tabular) }
+        ensures { Gives (λ p. (arm_of p.0, map arm_of p.1.items)) (spec.all_arms (spec.tabular self.now.budget) self.now.turns cursor.old) result cursor.new }
+    {
+        let first = self.arm(cursor)?;
+        let others = self.more_arms(cursor)?;
+        Ok((first, others))
+    }
+
     #[tactic(auto, unfolding(crate::specs::Reading::plain_union))]
     fn plain_union(&self, cursor: &mut Cursor<'_>) -> Result<Union, Stop>
         requires { Nests self.now.budget (F.pre self.now.tabular) (F.post self.now.tabular) }
         ensures { Gives union_of (spec.plain_union (spec.tabular self.now.budget) self.now.turns cursor.old) result cursor.new }
     {
-        let first = self.arm(cursor)?;
-        let others = self.more_arms(cursor)?;
+        let (first, others) = self.arms(cursor)?;
         Ok(build::union(None, first, others))
     }
 
@@ -101,8 +110,7 @@ impl<F: Fn(Global, &mut Cursor<'_>, usize) -> Result<Tabular, Stop>> Reader<F> {
         }
         cursor.expect(Class::Operator(Sign::Assign))?;
         let kind = cursor.expect(Class::UnionKind)?;
-        let first = self.arm(cursor)?;
-        let others = self.more_arms(cursor)?;
+        let (first, others) = self.arms(cursor)?;
         Ok(build::union(Some(kind), first, others))
     }
 
@@ -142,7 +150,7 @@ impl<F: Fn(Global, &mut Cursor<'_>, usize) -> Result<Tabular, Stop>> Reader<F> {
     {
         if cursor.sees(Class::Sign(Punctuation::OpenParenthesis)) {
             let (paren, inner) = self.nesting(cursor)?;
-            return Ok(build::nested(self.alloc, paren, inner)?);
+            return Ok(build::nested(paren, inner));
         }
         if sees_source_word(cursor) {
             let (symbol, word) = expect_source_word(cursor)?;
@@ -159,9 +167,8 @@ impl<F: Fn(Global, &mut Cursor<'_>, usize) -> Result<Tabular, Stop>> Reader<F> {
     {
         let kind = maybe_kind(cursor)?;
         let (_paren, right) = self.nesting(cursor)?;
-        cursor.expect(Class::Clause(ClauseWord::On))?;
-        let (first, others) = read_join_keys(self.alloc, cursor, self.turns)?;
-        Ok(build::join(self.alloc, kind, right, first, others)?)
+        let (first, others) = keys_on(self.alloc, cursor, self.turns)?;
+        Ok(build::join(kind, right, first, others))
     }
 
     /// What stands behind the word of an operator that has rows inside or a list of parts.
@@ -215,26 +222,54 @@ impl<F: Fn(Global, &mut Cursor<'_>, usize) -> Result<Tabular, Stop>> Reader<F> {
         Ok(build::operator(word, body))
     }
 
-    #[tactic(auto, unfolding(crate::specs::Reading::pipeline))]
-    fn pipeline(&self, cursor: &mut Cursor<'_>) -> Result<Tabular, Stop>
+    /// The source in a box, since it is owned while the operators are read.
+    fn boxed_source(&self, cursor: &mut Cursor<'_>) -> Result<Box<Source>, Stop>
         requires { Nests self.now.budget (F.pre self.now.tabular) (F.post self.now.tabular) }
-        ensures { Gives tabular_of (spec.pipeline (spec.tabular self.now.budget) self.now.turns cursor.old) result cursor.new }
+        ensures { Gives (λ b. source_of b.value) (spec.source (spec.tabular self.now.budget) self.now.turns cursor.old) result cursor.new }
     {
         let source = self.source(cursor)?;
+        Ok(Box::new(self.alloc, source)?)
+    }
+
+    fn operators(&self, cursor: &mut Cursor<'_>) -> Result<Vec<Operator>, Stop>
+        requires { Nests self.now.budget (F.pre self.now.tabular) (F.post self.now.tabular) }
+        ensures { Gives (λ v. map operator_of v.items) (spec.operators (spec.tabular self.now.budget) self.now.turns cursor.old) result cursor.new }
+    {
         let operator = AnOperator(self);
         let next = Behind {
             class: Class::Sign(Punctuation::Pipe),
             part: &operator,
         };
-        let operators = more(
+        more(
             self.turns,
             Class::Sign(Punctuation::Pipe),
             &next,
             cursor,
             Vec::new(self.alloc),
-        )?;
-        Ok(build::tabular(source, operators))
+        )
     }
+
+    #[tactic(auto, unfolding(crate::specs::Reading::pipeline))]
+    fn pipeline(&self, cursor: &mut Cursor<'_>) -> Result<Box<Tabular>, Stop>
+        requires { Nests self.now.budget (F.pre self.now.tabular) (F.post self.now.tabular) }
+        ensures { Gives (λ b. tabular_of b.value) (spec.pipeline (spec.tabular self.now.budget) self.now.turns cursor.old) result cursor.new }
+    {
+        let source = self.boxed_source(cursor)?;
+        let operators = self.operators(cursor)?;
+        Ok(Box::new(self.alloc, build::tabular(source, operators))?)
+    }
+}
+
+/// `on` and what a join matches on.
+fn keys_on(
+    alloc: Global,
+    cursor: &mut Cursor<'_>,
+    budget: usize,
+) -> Result<(JoinKey, Vec<JoinKey>), Stop>
+    ensures { Gives (λ p. (p.0, p.1.items)) (spec.keys_on budget cursor.old) result cursor.new }
+{
+    cursor.expect(Class::Clause(ClauseWord::On))?;
+    read_join_keys(alloc, cursor, budget)
 }
 
 /// The kind of a join, where it is said.
@@ -252,7 +287,8 @@ fn maybe_kind(cursor: &mut Cursor<'_>) -> Result<Option<Name>, Stop>
 #[derive(Drop)]
 pub struct AnArm<'a, F>(&'a Reader<F>);
 
-impl<'a, F: Fn(Global, &mut Cursor<'_>, usize) -> Result<Tabular, Stop>> Part for AnArm<'a, F> {
+impl<'a, F: Fn(Global, &mut Cursor<'_>, usize) -> Result<Box<Tabular>, Stop>> Part
+    for AnArm<'a, F> {
     type Value = Arm;
 
     ghost Shape = { tree.ArmTree };
@@ -271,7 +307,7 @@ impl<'a, F: Fn(Global, &mut Cursor<'_>, usize) -> Result<Tabular, Stop>> Part fo
 #[derive(Drop)]
 pub struct AnOperator<'a, F>(&'a Reader<F>);
 
-impl<'a, F: Fn(Global, &mut Cursor<'_>, usize) -> Result<Tabular, Stop>> Part
+impl<'a, F: Fn(Global, &mut Cursor<'_>, usize) -> Result<Box<Tabular>, Stop>> Part
     for AnOperator<'a, F> {
     type Value = Operator;
 
@@ -289,8 +325,12 @@ impl<'a, F: Fn(Global, &mut Cursor<'_>, usize) -> Result<Tabular, Stop>> Part
 }
 
 /// The source that comes next with the operators behind it. The budget is at least the number of symbols that are left.
-pub fn read_tabular(alloc: Global, cursor: &mut Cursor<'_>, budget: usize) -> Result<Tabular, Stop>
-    ensures { Gives tabular_of (spec.tabular budget cursor.old) result cursor.new }
+pub fn read_tabular(
+    alloc: Global,
+    cursor: &mut Cursor<'_>,
+    budget: usize,
+) -> Result<Box<Tabular>, Stop>
+    ensures { Gives (λ b. tabular_of b.value) (spec.tabular budget cursor.old) result cursor.new }
 {
     if budget == 0 {
         return Err(Stop::Syntax);

@@ -1,4 +1,4 @@
-use Rattle.std.proofs.Common.{◌≡◌, ◌<◌, length, ◌∙◌, arith}
+use Rattle.std.proofs.Common.{◌∙◌, arith}
 use Rattle.kq_token.specs.declared.kind.TokenKind.TheVariants as kind
 use Rattle.kq_control.proofs.SymbolLemmas.{one_more}
 use Rattle.kq_control.proofs.symbols.read_symbols.Goals as goal

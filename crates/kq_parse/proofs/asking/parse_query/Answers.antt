@@ -1,23 +1,13 @@
-use Rattle.std.proofs.Common.{◌≡◌, length, arith}
 use Rattle.kq_grammar.specs.Tabulars.{query_text}
+use Rattle.kq_grammar.specs.TabularViews.{query_of}
 use Rattle.kq_parse.specs.Following.{query_goes_on}
 use Rattle.kq_parse.specs.Reading as reading
 use Rattle.kq_syntax.specs.Classes.{of}
-use Rattle.kq_parse.proofs.PlaceLaws.{reads_whole, refuses_left, refuses_stuck}
+use Rattle.kq_parse.proofs.PlaceLaws.{whole_answers}
 use Rattle.kq_parse.proofs.QueryLaws.{query_exact}
 use Rattle.kq_parse.proofs.asking.parse_query.Goals as goal
 
-pub returns-then-left-eq0 : goal.returns-then-left-eq0
-returns-then-left-eq0 c =
-    let found = rw c.new-cursor.ensures at c.in-Ok.ensures in
-    (c.in_default.ensures, reads_whole query_text (of query_goes_on) reading.query query_exact c.args.symbols.now _ _ found (omega arith))
-
-pub returns-else-left-eq0 : goal.returns-else-left-eq0
-returns-else-left-eq0 c =
-    let found = rw c.new-cursor.ensures at c.in-Ok.ensures in
-    refuses_left query_text (of query_goes_on) reading.query query_exact c.args.symbols.now _ _ c.args.end c.refusal.result c.in_default.ensures found (λ z. omega arith) c.refusal.ensures
-
-pub returns-in-Syntax : goal.returns-in-Syntax
-returns-in-Syntax c =
-    let stopped = rw c.in-Syntax.is at c.in-Err.ensures in
-    refuses_stuck query_text (of query_goes_on) reading.query query_exact c.args.symbols.now _ c.args.end c.refusal-in-Syntax.result c.in_default.ensures (rw c.new-cursor.ensures at stopped) c.refusal-in-Syntax.ensures
+pub returns : goal.returns
+returns c =
+    let found = rw c.new-cursor.ensures at c.read_query-found.ensures in
+    whole_answers query_text (of query_goes_on) reading.query query_exact (λ q. query_of q.value) c.args.symbols.now _ c.args.end _ _ c.in_default.ensures found c.whole.ensures
