@@ -1,4 +1,5 @@
 mod Choice
+mod OwnParts
+mod OwnSymbols
 mod Repeats
 mod Shapes
-mod StringForms

@@ -6,9 +6,8 @@
 mod columns;
 mod command;
 mod meanings;
+mod memory;
 mod read;
-#[cfg(test)]
-mod tests;
 mod types;
 mod unsupported;
 

@@ -1,25 +1,28 @@
 // Reading a command.
-ghost use Rattle.std.specs.Prelude.{◌≡◌, ◌≤◌, ◌∷◌, IfOk, IfSome, length, map};
+ghost use Rattle.std.specs.Prelude.{◌≡◌, ◌≤◌, ◌∷◌, true, All, IfErr, IfOk, IfSome, OnErr, length, map};
 ghost use Rattle.std.specs.List.{prefix_len};
 ghost use Rattle.std.specs.Option.{option_map};
+ghost use Rattle.kq_command.specs.InText.{ColumnIn, ColumnsIn, ControlIn, StatementIn, TabularIn};
 ghost use Rattle.kq_command.specs.Meanings.{behind, column_of, columns_of};
 ghost use Rattle.kq_command.specs.Reads.{Reads, ReadsText, command_of, control_command, counted_of, counting_of, counts, plain_name, without_lets};
 ghost use Rattle.kq_command.specs.Rows.{is_white as white, rows_after as rows_from, without_white};
-ghost use Rattle.kq_control.specs.ControlViews.{control_of, statement_of};
+ghost use Rattle.kq_control.specs.Statements.{IsStatement};
+ghost use Rattle.kq_control.specs.ControlViews.{columns_of as columns_view, control_of, statement_of};
 ghost use Rattle.kq_grammar.specs.TabularViews.{operator_of, operators_of, query_of, source_of, tabular_of};
 
 use crate::columns::{Column, Columns, Identifier};
 use crate::command::{Command, CommandFault, Query};
 use crate::meanings::{identifier, piece};
+use crate::memory::Requests;
 use crate::types::ty_of;
 use crate::unsupported::unsupported;
-use kq_control::{ColumnList, Control, Statement, parse_statement};
+use kq_control::{ColumnList, Control, Statement};
 use kq_grammar::{
     Column as WrittenColumn, Name, Operator, OperatorBody, Query as WrittenQuery, Source, Tabular,
 };
 use kq_syntax::Symbol;
 use kq_value::{Bytes, Memory};
-use std::alloc::{AllocError, Global};
+use std::alloc::Global;
 
 /// The command that a block of text is.
 pub fn read_command(alloc: Global, text: &[u8]) -> Result<Command, CommandFault>
@@ -36,40 +39,63 @@ pub fn read_command(alloc: Global, text: &[u8]) -> Result<Command, CommandFault>
 fn read_text(alloc: Global, text: &str) -> Result<Command, CommandFault>
     ensures { ReadsText text.now result }
 {
-    let statement = match parse_statement(alloc, text) {
-        Ok(statement) => statement,
-        Err(fault) => return Err(fault.into()),
-    };
-    match unsupported(alloc, text, &statement)? {
+    read_in(&mut Requests::new(alloc), text)
+}
+
+fn read_in(memory: &mut Requests, text: &str) -> Result<Command, CommandFault>
+    ensures answer { ReadsText text.now result }
+    ensures refused { IfErr result (λ f. f ≡ CommandFault.Memory → memory.new.refused ≡ true) }
+{
+    match memory.statement(text) {
+        Ok(statement) => supported(memory, text, &statement),
+        Err(fault) => Err(fault.into()),
+    }
+}
+
+/// The command, unless a symbol of it isn't supported.
+fn supported(
+    memory: &mut Requests,
+    text: &str,
+    statement: &Statement,
+) -> Result<Command, CommandFault>
+    requires { IsStatement text.now (statement_of statement.now) }
+    ensures answer { ReadsText text.now result }
+    ensures refused { IfErr result (λ f. f ≡ CommandFault.Memory → memory.new.refused ≡ true) }
+{
+    match unsupported(memory, text, statement)? {
         Some(at) => Err(CommandFault::Unsupported { at }),
-        None => Ok(built(alloc, text, &statement)?),
+        None => Ok(built(memory, text, statement)?),
     }
 }
 
 /// The command of a form that is built.
-fn built(alloc: Global, text: &str, statement: &Statement) -> Result<Command, Memory>
-    ensures { IfOk result (λ c. c ≡ command_of text.now (statement_of statement.now)) }
+fn built(memory: &mut Requests, text: &str, statement: &Statement) -> Result<Command, Memory>
+    requires { StatementIn text.now (statement_of statement.now) }
+    ensures value { IfOk result (λ c. c ≡ command_of text.now (statement_of statement.now)) }
+    ensures refused { OnErr result (memory.new.refused ≡ true) }
 {
     match statement {
-        Statement::Query(query) => built_query(alloc, text, query),
-        Statement::Control(control) => built_control(alloc, text, control),
+        Statement::Query(query) => built_query(memory, text, query),
+        Statement::Control(control) => built_control(memory, text, control),
     }
 }
 
-fn built_control(alloc: Global, text: &str, control: &Control) -> Result<Command, Memory>
-    ensures { IfOk result (λ c. c ≡ control_command text.now (control_of control.now)) }
+fn built_control(memory: &mut Requests, text: &str, control: &Control) -> Result<Command, Memory>
+    requires { ControlIn text.now (control_of control.now) }
+    ensures value { IfOk result (λ c. c ≡ control_command text.now (control_of control.now)) }
+    ensures refused { OnErr result (memory.new.refused ≡ true) }
 {
     match control {
         Control::CreateTable(name, columns) => {
-            let name = identifier(alloc, text, *name)?;
-            match columns_in(alloc, text, columns)? {
+            let name = identifier(memory, text, *name)?;
+            match columns_in(memory, text, columns)? {
                 Some(columns) => Ok(Command::CreateTable { name, columns }),
                 None => Ok(Command::Unbuilt),
             }
         }
         Control::Ingest(table, None, mark) => Ok(Command::Ingest {
-            table: identifier(alloc, text, *table)?,
-            body: rows_after(alloc, text, *mark)?,
+            table: identifier(memory, text, *table)?,
+            body: memory.bytes(rows_after(text, *mark))?,
         }),
         _ => Ok(Command::Unbuilt),
     }
@@ -97,27 +123,24 @@ fn skip_white(bytes: &[u8]) -> &[u8]
 }
 
 /// The bytes behind the symbol, without the white space that they begin with.
-fn rows_after(alloc: Global, text: &str, mark: Symbol) -> Result<Bytes, Memory>
-    ensures { IfOk result (λ b. b ≡ rows_from mark.to text.now) }
+fn rows_after<'a>(text: &'a str, mark: Symbol) -> &'a [u8]
+    requires { mark.to ≤ length text.now }
+    ensures { result.now ≡ rows_from mark.to text.now }
 {
-    let bytes = text.as_bytes();
-    if mark.to > bytes.len() {
-        return Err(AllocError);
-    }
-    let mut body = Bytes::new(alloc);
-    body.extend(skip_white(&bytes[mark.to..]))?;
-    Ok(body)
+    skip_white(&text.as_bytes()[mark.to..])
 }
 
-fn built_query(alloc: Global, text: &str, query: &WrittenQuery) -> Result<Command, Memory>
-    ensures { IfOk result (λ c. c ≡ without_lets text.now (query_of query.now)) }
+fn built_query(memory: &mut Requests, text: &str, query: &WrittenQuery) -> Result<Command, Memory>
+    requires { TabularIn text.now (query_of query.now).tabular }
+    ensures value { IfOk result (λ c. c ≡ without_lets text.now (query_of query.now)) }
+    ensures refused { OnErr result (memory.new.refused ≡ true) }
 {
     if !query.lets.is_empty() {
         return Ok(Command::Unbuilt);
     }
     match counted(&query.tabular) {
         Some((name, counted)) => Ok(Command::Query(Query {
-            table: identifier(alloc, text, name)?,
+            table: identifier(memory, text, name)?,
             counted,
         })),
         None => Ok(Command::Unbuilt),
@@ -166,11 +189,17 @@ fn counted(tabular: &Tabular) -> Option<(Name, bool)>
     Some((name, counted))
 }
 
-fn column_in(alloc: Global, text: &str, column: WrittenColumn) -> Result<Option<Column>, Memory>
-    ensures { IfOk result (λ o. o ≡ column_of text.now column) }
+fn column_in(
+    memory: &mut Requests,
+    text: &str,
+    column: WrittenColumn,
+) -> Result<Option<Column>, Memory>
+    requires { ColumnIn text.now column }
+    ensures value { IfOk result (λ o. o ≡ column_of text.now column) }
+    ensures refused { OnErr result (memory.new.refused ≡ true) }
 {
-    let name = identifier(alloc, text, column.name)?;
-    match ty_of(piece(text, column.ty)?.as_bytes()) {
+    let name = identifier(memory, text, column.name)?;
+    match ty_of(piece(text, column.ty).as_bytes()) {
         Some(ty) => Ok(Some(Column { name, ty })),
         None => Ok(None),
     }
@@ -178,17 +207,19 @@ fn column_in(alloc: Global, text: &str, column: WrittenColumn) -> Result<Option<
 
 /// The columns behind those that were found, where each has a known type.
 fn more_columns(
-    alloc: Global,
+    memory: &mut Requests,
     text: &str,
     columns: &[WrittenColumn],
     mut found: Vec<Column>,
 ) -> Result<Option<Vec<Column>>, Memory>
+    requires { All (ColumnIn text.now) columns.now }
     ensures columns { IfOk result (λ o. option_map (λ v. v.items) o ≡ behind found.items (columns_of text.now columns.now)) }
     ensures some { IfOk result (λ o. IfSome o (λ v. length found.items ≤ length v.items)) }
+    ensures refused { OnErr result (memory.new.refused ≡ true) }
 {
     for column in columns {
-        match column_in(alloc, text, *column)? {
-            Some(column) => found.push(column)?,
+        match column_in(memory, text, *column)? {
+            Some(column) => memory.push(&mut found, column)?,
             None => return Ok(None),
         }
     }
@@ -196,15 +227,21 @@ fn more_columns(
 }
 
 /// The columns, where each has a known type.
-fn columns_in(alloc: Global, text: &str, list: &ColumnList) -> Result<Option<Columns>, Memory>
-    ensures { IfOk result (λ o. o ≡ columns_of text.now (list.now.first ∷ list.now.others.items)) }
+fn columns_in(
+    memory: &mut Requests,
+    text: &str,
+    list: &ColumnList,
+) -> Result<Option<Columns>, Memory>
+    requires { ColumnsIn text.now (columns_view list.now) }
+    ensures value { IfOk result (λ o. o ≡ columns_of text.now (list.now.first ∷ list.now.others.items)) }
+    ensures refused { OnErr result (memory.new.refused ≡ true) }
 {
-    let mut found = Vec::new(alloc);
-    match column_in(alloc, text, list.first)? {
-        Some(column) => found.push(column)?,
+    let mut found = memory.columns();
+    match column_in(memory, text, list.first)? {
+        Some(column) => memory.push(&mut found, column)?,
         None => return Ok(None),
     }
-    match more_columns(alloc, text, list.others.as_slice(), found)? {
+    match more_columns(memory, text, list.others.as_slice(), found)? {
         Some(columns) => Ok(Some(Columns::from_vec(columns))),
         None => Ok(None),
     }

@@ -2,4 +2,5 @@ pub mod Faults
 pub mod Longs
 pub mod Records
 pub mod RowLemmas
+mod Stops
 pub mod Taking

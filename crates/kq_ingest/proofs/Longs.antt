@@ -11,8 +11,8 @@ use Rattle.std.proofs.lemmas.Grind.{common_steps}
 use Rattle.std.proofs.lemmas.List.{reverse-append}
 use Rattle.std.proofs.lemmas.Str.{IsUtf8-from_ascii}
 use Rattle.std.proofs.lemmas.Str.Parse.{IsNumeralModel, numerals_by_value, parse_signed_minus, parse_signed_plain, tells_all_ascii_digits}
-use Rattle.kq_value.specs.Cells.{is_blank}
-use Rattle.kq_value.specs.Numerals.{begins_with_minus, if_passes, is_long, is_numeral, long_of}
+use Rattle.kq_written.specs.Cells.{is_blank}
+use Rattle.kq_written.specs.Numerals.{begins_with_minus, if_passes, is_long, is_numeral, long_of}
 use Rattle.kq_ingest.specs.Blanks.{without_leading_blanks, without_trailing_blanks}
 use mir.Syntax.{w64}
 

@@ -4,8 +4,8 @@ use Rattle.std.specs.Prelude.{option_map, unwrap_or}
 use Rattle.std.specs.List.{All}
 use Rattle.std.proofs.lemmas.List.Elements.{All-map}
 use Rattle.csv.specs.Records.{field_at}
-use Rattle.kq_value.specs.Cells.{is_blank, trimmed}
-use Rattle.kq_value.specs.Numerals.{long_of}
+use Rattle.kq_written.specs.Cells.{is_blank, trimmed}
+use Rattle.kq_written.specs.Numerals.{long_of}
 use Rattle.kq_value.specs.Typed.{HasType, HasTypes}
 use Rattle.kq_value.specs.declared.schema.Field.{Field}
 use Rattle.kq_value.specs.declared.ty.Ty.{Ty}

@@ -1,7 +1,7 @@
 -- The blanks at the ends of a text.
 use Rattle.std.specs.Prelude.{ℕ, List, drop, reverse}
 use Rattle.std.specs.List.{prefix_len}
-use Rattle.kq_value.specs.Cells.{is_blank}
+use Rattle.kq_written.specs.Cells.{is_blank}
 
 -- the text without the blanks that it begins with
 abbrev pub without_leading_blanks : List ℕ → List ℕ

@@ -2,7 +2,7 @@
 use Rattle.std.specs.Prelude.{◌≡◌, ℕ, ◌+◌, ◌≤◌, ⊤, Bool, true, false, ◌&&◌, if◌then◌else◌, nat_lt, nat_le, List, [], ◌∷◌, drop, length, map, Option, Some, None}
 use Rattle.std.specs.List.{All, position_or_len}
 use Rattle.csv.specs.Reading.{default_config, records, strip_bom}
-use Rattle.kq_value.specs.Cells.{cell_of}
+use Rattle.kq_written.specs.Cells.{cell_of}
 use Rattle.kq_value.specs.Typed.{missing_of}
 use Rattle.kq_value.specs.declared.ty.Ty.{Ty}
 use Rattle.kq_value.specs.declared.ty.Ty.TheVariants.{Long}

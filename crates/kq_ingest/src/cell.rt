@@ -1,13 +1,12 @@
 // The text of a cell, read as a value.
 ghost use Rattle.std.specs.Prelude.{◌≡◌, option_map};
-ghost use Rattle.kq_value.specs.Numerals.{long_of};
-ghost use Rattle.kq_value.specs.Cells.{cell_of, is_blank as blank, trimmed};
+ghost use Rattle.kq_written.specs.Numerals.{long_of};
+ghost use Rattle.kq_written.specs.Cells.{cell_of, is_blank as blank, trimmed};
 ghost use Rattle.kq_value.specs.declared.ty.Ty.TheVariants as types;
 ghost use Rattle.kq_ingest.specs.Blanks.{without_leading_blanks, without_trailing_blanks};
 ghost use Rattle.kq_ingest.specs.Ingestion.{cell_in};
 
 use kq_value::{Ty, Value};
-use std::alloc::Global;
 use std::str;
 
 fn is_blank(byte: u8) -> bool
@@ -65,12 +64,12 @@ fn long_cell(text: &[u8]) -> Value
 }
 
 /// The cell of a column of this type, from the text in its place, if there is one.
-pub(crate) fn read_cell(alloc: Global, ty: Ty, text: Option<&[u8]>) -> Value
+pub(crate) fn read_cell(ty: Ty, text: Option<&[u8]>) -> Value
     requires { ty ≡ types.Long }
     ensures { result ≡ cell_in ty (option_map (λ t. t.now) text.entry) }
 {
     match text {
         Some(text) => long_cell(text),
-        None => Value::missing(alloc, ty),
+        None => Value::Null(ty),
     }
 }

@@ -4,8 +4,6 @@
 mod cell;
 mod fault;
 mod rows;
-#[cfg(test)]
-mod tests;
 
 pub use fault::IngestFault;
 pub use rows::{are_longs, read_rows};

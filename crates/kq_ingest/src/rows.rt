@@ -1,13 +1,14 @@
 // The records of a body, read as rows.
-ghost use Rattle.std.specs.Prelude.{◌≡◌, ◌≢◌, ◌↔◌, IsTrue, ◌<◌, ◌^◌, [], ◌∷◌, ◌++◌, false, length, Some, None, IfOk, IfErr, OnOk};
+ghost use Rattle.std.specs.Prelude.{◌≡◌, ◌≢◌, ◌↔◌, IsTrue, ◌<◌, ◌^◌, [], ◌∷◌, ◌++◌, true, false, length, Some, None, IfOk, IfErr, OnOk};
 ghost use Rattle.std.specs.List.{All};
+ghost use Rattle.csv.specs.Reading.{error_kind, stops_reader};
 ghost use Rattle.csv.specs.Records.{fields_of};
 ghost use Rattle.kq_value.specs.Typed.{HasTypes};
 ghost use Rattle.kq_ingest.specs.Ingestion.{AreLongs, IsFaultAt, first_fault, is_wide, row_of, rows_of};
 
 use crate::cell::read_cell;
 use crate::fault::IngestFault;
-use csv::{ByteRecord, ReaderBuilder};
+use csv::{ByteRecord, Error, ErrorKind, ReaderBuilder};
 use kq_value::{Memory, Row, Rows, Schema, Ty};
 use std::alloc::Global;
 
@@ -30,7 +31,7 @@ fn read_row(alloc: Global, cells: &ByteRecord, schema: &Schema) -> Result<Row, M
     let fields = schema.as_slice();
     let mut row = Row::from_vec(Vec::with_capacity(alloc, fields.len())?);
     for i in 0..fields.len() {
-        row.push(read_cell(alloc, fields[i].ty, cells.get(i)))?;
+        row.push(read_cell(fields[i].ty, cells.get(i)))?;
     }
     Ok(row)
 }
@@ -63,6 +64,18 @@ fn add_row(
     Ok(())
 }
 
+// Records of any number of cells, as bytes, are refused for want of memory alone. A slice has no error of its own to give, but
+// the contract of the reader of CSV doesn't say so.
+fn reading_fault(error: &Error) -> IngestFault
+    requires { stops_reader (error_kind error.now) ≡ true }
+    ensures { result ≡ IngestFault.Memory }
+{
+    match error.kind() {
+        ErrorKind::Io(_) | ErrorKind::OutOfMemory => IngestFault::Memory,
+        _ => unreachable!(),
+    }
+}
+
 /// Reads the rows of a body of CSV as RFC 4180 has it, with any number of cells in a record. Where `skip_first` is set,
 /// the first record is no row, whatever it holds, but it counts in the number of a row that is too wide.
 ///
@@ -87,8 +100,9 @@ pub fn read_rows(
     let mut rows = Rows::new(alloc);
     let mut skip = skip_first;
     for cells in reader.into_byte_records() {
-        let Ok(cells) = cells else {
-            return Err(IngestFault::Memory);
+        let cells = match cells {
+            Ok(cells) => cells,
+            Err(error) => return Err(reading_fault(&error)),
         };
         if skip {
             skip = false;

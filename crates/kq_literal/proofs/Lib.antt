@@ -1,3 +1,4 @@
+pub mod Cuts
 pub mod RunLemmas
 pub mod StringLemmas
 pub mod NumberLemmas
@@ -5,3 +6,4 @@ pub mod TimespanLemmas
 pub mod RawLemmas
 pub mod StandsForLemmas
 pub mod TokenForms
+pub mod Utf8Lemmas

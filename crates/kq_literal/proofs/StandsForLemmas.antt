@@ -184,7 +184,7 @@ take_front : (front rest : List ℕ) → take (length front) (front ++ rest) ≡
 take_front [] rest = refl
 take_front (a ∷ front) rest = ap (λ l. a ∷ l) (take_front front rest)
 
-long_stands : (bytes : List ℕ) → is_long_string bytes ≡ true → StandsFor kind.LongString bytes (long_text_of bytes)
+pub long_stands : (bytes : List ℕ) → is_long_string bytes ≡ true → StandsFor kind.LongString bytes (long_text_of bytes)
 long_stands bytes h =
     let p = both_true (begins_with ticks bytes) (closes step Ticked (drop 3 bytes)) h in
     let begun : ticks ≡ take 3 bytes = same_text ticks (take 3 bytes) p.0 in

@@ -124,7 +124,7 @@ pub record IsCode (digits : List ℕ) : Type 0 where
   pub numeral : IsNumeral 16 digits
   pub scalar : InScalarRange (digits_value 16 digits)
 
-code_is : (quote : ℕ) (bs : List ℕ) → Code quote bs → IsCode (take 4 bs)
+pub code_is : (quote : ℕ) (bs : List ℕ) → Code quote bs → IsCode (take 4 bs)
 code_is quote bs p =
     subst (λ l. IsCode (take 4 l)) (sym p.is) (record {
       numeral = (omega arith, (p.first_is, (p.second_is, (p.third_is, (p.fourth_is, tt)))));

@@ -8,8 +8,8 @@ use Rattle.kq_token.specs.Bytes.{is_digit, is_text, run_then}
 use Rattle.kq_token.specs.Numbers.{fraction, is_timespan, is_unit, units}
 use Rattle.kq_token.proofs.TestLemmas.{both_true, and_true, either_true}
 use Rattle.kq_token.proofs.TableLemmas.{all_in, any_in}
-use Rattle.kq_value.specs.Numerals.{begins_with_minus, numeral_of}
-use Rattle.kq_value.specs.Timespans.{clock_parts_ticks, pieces, timespan_of}
+use Rattle.kq_written.specs.Numerals.{begins_with_minus, numeral_of}
+use Rattle.kq_written.specs.Timespans.{clock_parts_ticks, pieces, timespan_of}
 use Rattle.kq_time.proofs.PartLemmas.{cut_none}
 use Rattle.kq_literal.specs.Numbers.{timespan_ticks_of}
 use Rattle.kq_literal.proofs.RunLemmas.{all_ascii}

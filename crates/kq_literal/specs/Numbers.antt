@@ -2,8 +2,8 @@
 use Rattle.std.specs.Prelude.{ℕ, ℤ, pos, List, drop, codes, nat_le, if◌then◌else◌, Option, Some, None, option_map, option_and_then}
 use Rattle.std.specs.Str.Parse.{digits_value}
 use Rattle.kq_token.specs.Bytes.{begins_with}
-use Rattle.kq_value.specs.Numerals.{if_passes, is_long}
-use Rattle.kq_value.specs.Timespans.{token_ticks}
+use Rattle.kq_written.specs.Numerals.{if_passes, is_long}
+use Rattle.kq_written.specs.Timespans.{token_ticks}
 
 -- the number as a long, where it is one
 abbrev pub long_of_number : ℕ → Option ℤ

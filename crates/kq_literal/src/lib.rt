@@ -5,8 +5,6 @@ mod ascii;
 mod numbers;
 mod raw;
 mod strings;
-#[cfg(test)]
-mod tests;
 mod timespans;
 
 pub use numbers::whole_number;

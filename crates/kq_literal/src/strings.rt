@@ -1,6 +1,7 @@
 // Strings.
 ghost use Rattle.std.specs.Prelude.{◌≡◌, ◌≤◌, ◌++◌, true, false, drop, length, take, IfOk, OnOk};
 ghost use Rattle.std.specs.Char.{InScalarRange, encode_utf8};
+ghost use Rattle.std.specs.Str.{IsUtf8};
 ghost use Rattle.std.specs.Str.Parse.{IsNumeral, digits_value};
 ghost use Rattle.kq_token.specs.declared.delimited.Within.TheVariants.{Quoted, Escape};
 ghost use Rattle.kq_token.specs.Delimited.{closes, step};
@@ -9,12 +10,13 @@ ghost use Rattle.kq_literal.specs.Strings.{StandsFor, escape_len, escape_of, is_
 use crate::ascii::ascii_text;
 use kq_token::TokenKind;
 use kq_value::{Memory, Text};
-use std::alloc::{AllocError, Global};
+use std::alloc::Global;
 
-/// The text that a string's token of this kind stands for. The bytes of a text's token are UTF-8; others are answered as want of memory.
+/// The text that a string's token of this kind stands for.
 #[tactic(auto, unfolding(crate::specs::Strings::string_text_of))]
 pub fn string_text(alloc: Global, kind: TokenKind, bytes: &[u8]) -> Result<Text, Memory>
-    requires { is_string_token kind bytes.now ≡ true }
+    requires form { is_string_token kind bytes.now ≡ true }
+    requires utf8 { IsUtf8 bytes.now }
     ensures value { IfOk result (λ t. t ≡ string_text_of kind bytes.now) }
     ensures stands_for { IfOk result (λ t. StandsFor kind bytes.now t) }
 {
@@ -27,41 +29,51 @@ pub fn string_text(alloc: Global, kind: TokenKind, bytes: &[u8]) -> Result<Text,
 }
 
 fn quoted_text(alloc: Global, bytes: &[u8]) -> Result<Text, Memory>
-    requires { is_string_token TokenKind.String bytes.now ≡ true }
+    requires form { is_string_token TokenKind.String bytes.now ≡ true }
+    requires utf8 { IsUtf8 bytes.now }
     ensures { IfOk result (λ t. t ≡ quoted_text_of bytes.now) }
 {
     match bytes {
-        [quote, behind @ ..] => text_of(unescape(alloc, *quote, behind)?),
+        [quote, behind @ ..] => {
+            let text = unescape(alloc, *quote, behind)?;
+            text_of(alloc, text)
+        }
         [] => unreachable!(),
     }
 }
 
 fn verbatim_text(alloc: Global, bytes: &[u8]) -> Result<Text, Memory>
-    requires { is_string_token TokenKind.VerbatimString bytes.now ≡ true }
+    requires form { is_string_token TokenKind.VerbatimString bytes.now ≡ true }
+    requires utf8 { IsUtf8 bytes.now }
     ensures { IfOk result (λ t. t ≡ verbatim_text_of bytes.now) }
 {
     match bytes {
-        [_, quote, behind @ ..] => text_of(undouble(alloc, *quote, behind)?),
+        [_, quote, behind @ ..] => {
+            let text = undouble(alloc, *quote, behind)?;
+            text_of(alloc, text)
+        }
         _ => unreachable!(),
     }
 }
 
 fn long_text(alloc: Global, bytes: &[u8]) -> Result<Text, Memory>
-    requires { is_string_token TokenKind.LongString bytes.now ≡ true }
+    requires form { is_string_token TokenKind.LongString bytes.now ≡ true }
+    requires utf8 { IsUtf8 bytes.now }
     ensures { IfOk result (λ t. t ≡ long_text_of bytes.now) }
 {
     match str::from_utf8(&bytes[3..bytes.len() - 3]) {
         Ok(text) => Text::from_str(alloc, text),
-        Err(_) => Err(AllocError),
+        Err(_) => unreachable!(),
     }
 }
 
-fn text_of(bytes: Vec<u8>) -> Result<Text, Memory>
+fn text_of(alloc: Global, bytes: Vec<u8>) -> Result<Text, Memory>
+    requires { IsUtf8 bytes.items }
     ensures { IfOk result (λ t. t ≡ bytes.items) }
 {
     match String::from_utf8(bytes) {
-        Ok(text) => Ok(Text::from_string(text)),
-        Err(_) => Err(AllocError),
+        Ok(text) => Text::from_string(alloc, text),
+        Err(_) => unreachable!(),
     }
 }
 

@@ -1,5 +1,5 @@
 use Rattle.std.proofs.Common.{◌∙◌, ap}
-use Rattle.kq_value.specs.Timespans.{timespan_of}
+use Rattle.kq_written.specs.Timespans.{timespan_of}
 use Rattle.kq_literal.proofs.TimespanLemmas.{IsAscii-timespan, timespan_of-token}
 use Rattle.kq_literal.proofs.timespans.timespan_ticks.Goals as goal
 
