@@ -32,7 +32,9 @@ use Rattle.kq_model.proofs.Records.{records-push, extents-push, made_in-push, gi
 use Rattle.kq_catalog.specs.declared.change.Change.{Change}
 use Rattle.kq_catalog.specs.declared.change.Placed.{Placed}
 use Rattle.kq_catalog.specs.declared.header.Header.{Header}
-use Rattle.kq_catalog.specs.Headers.{told_by, history_of}
+use Rattle.kq_catalog.specs.declared.header.Inserted.{Inserted}
+use Rattle.std.specs.Arc.{arc_value}
+use Rattle.kq_catalog.specs.Headers.{commit_of, told_by, history_of, inserted_from, IsKept, AreKept}
 use Rattle.kq_catalog.specs.Held.{records_in, item_by, extents_in, extents_at}
 use Rattle.kq_catalog.specs.Seen.{Holds}
 use Rattle.kq_catalog.specs.Staged.{IsStaged, IsTyped, ArePlaced, event_of, create_event, ingest_event, fault_by, to_table, tables_made, extents_made}
@@ -207,8 +209,8 @@ Holds-push limits h change made held next cursor count holds staged long put =
 -- a new table that nothing bars is staged
 pub IsStaged-create : (limits : Limits) (h : History) (by : By) (name : List ℕ) (schema : List Field) (change : Change) (table : Table) → event_of change ≡ create_event by name schema
     → tables_made change.makes ≡ table ∷ [] → extents_made change.makes ≡ [] → table ≡ record { name = name; schema = schema; made = cursor_of h + 1 }
-    → 0 < length schema → repeat_of (names_of schema) ≡ None → bar_to_table limits (log h) name schema ≡ None → IsStaged limits h change
-IsStaged-create limits h by name schema change table event makes none is some different bar = record {
+    → 0 < length schema → repeat_of (names_of schema) ≡ None → bar_to_table limits (log h) name schema ≡ None → IsKept (1 + made_in (log h)) (arc_value change.header).entry → IsStaged limits h change
+IsStaged-create limits h by name schema change table event makes none is some different bar kept = record {
   lawful = subst (λ (e : Event). Lawful limits h e) (sym event) (record { operation = (some, different, bar) });
   commit = CreateTable name schema;
   is_commit = ap (λ (e : Event). e.operation) event;
@@ -217,6 +219,7 @@ IsStaged-create limits h by name schema change table event makes none is some di
   items = λ t. ap (λ (ps : List Placed). map item_by (to_table t ps)) none;
   count = ap length none;
   within = subst (All (λ (p : Placed). p.table < length (tables (log h)))) (sym none) (All-nil (λ (p : Placed). p.table < length (tables (log h))));
+  kept = kept;
 }
 
 -- the batch of an ingestion goes into a table
@@ -228,8 +231,8 @@ own_typed l batches failures ingestion =
 -- an ingestion that nothing bars is staged
 pub IsStaged-ingest : (limits : Limits) (h : History) (by : By) (batches : List Batch) (failures : List Failure) (change : Change) (placed : List Placed) → event_of change ≡ ingest_event by batches failures
     → tables_made change.makes ≡ [] → extents_made change.makes ≡ placed → IsIngestion (log h) batches failures → bar_to_batch limits (log h) (own_rows batches) ≡ None
-    → ArePlaced (cursor_of h + 1) (1 + made_in (log h)) batches placed → IsStaged limits h change
-IsStaged-ingest limits h by batches failures change placed event none makes ingestion bar are = record {
+    → ArePlaced (cursor_of h + 1) (1 + made_in (log h)) batches placed → IsKept (1 + made_in (log h)) (arc_value change.header).entry → IsStaged limits h change
+IsStaged-ingest limits h by batches failures change placed event none makes ingestion bar are kept = record {
   lawful = subst (λ (e : Event). Lawful limits h e) (sym event) (record { operation = (ingestion, bar) });
   commit = Ingest batches failures;
   is_commit = ap (λ (e : Event). e.operation) event;
@@ -240,6 +243,7 @@ IsStaged-ingest limits h by batches failures change placed event none makes inge
   within = subst (All (λ (p : Placed). p.table < length (tables (log h)))) (sym makes)
       (placed_within (length (tables (log h))) (cursor_of h + 1) (1 + made_in (log h)) batches placed are
       (All-weaker (IsTyped (tables (log h))) (λ (b : Batch). b.table < length (tables (log h))) (λ b typed. stands_within (tables (log h)) b.table typed.table typed.stands) batches (own_typed (log h) batches failures ingestion)));
+  kept = kept;
 }
 
 pub no_bar : (limits : Limits) (bar : Option Bar) → option_map (fault_by limits) bar ≡ None → bar ≡ None
@@ -276,3 +280,24 @@ after_extents f limits js x made_tables lists next placed cursor made change hol
     let pushed = Holds-push limits h change made_tables (extents_in lists) (extents_in next) cursor made holds staged long puts in
     rw told (subst (λ (ts : List Table). Holds limits (h ++ event_of change ∷ []) ts (extents_in next) (cursor + 1) (made + length placed)) listed
     (subst (λ (ps : List Placed). Holds limits (h ++ event_of change ∷ []) (made_tables ++ tables_made change.makes) (extents_in next) (cursor + 1) (made + length ps)) makes pushed))
+
+-- one header more
+pub AreKept-push : (id : ℕ) (hs : List Header) (h : Header) → AreKept id hs → IsKept (id + made_in (log (history_of hs))) h.entry → AreKept id (hs ++ h ∷ [])
+AreKept-push id [] h all last = (subst (λ (n : ℕ). IsKept n h.entry) (add-zero id) last, tt)
+AreKept-push id (x ∷ hs) h all last =
+    let c = commit_of x.entry in
+    let same : id + made_in (log (history_of (x ∷ hs))) ≡ id + made_by c + made_in (log (history_of hs)) = omega arith in
+    (all.0, AreKept-push (id + made_by c) hs h all.1 (subst (λ (n : ℕ). IsKept n h.entry) same last))
+
+-- the change's header was put in
+pub after_header : {X : Type 0} (f : X → Header) (js : List X) (x : X) → AreKept 1 (map f js) → IsKept (1 + made_in (log (history_of (map f js)))) (f x).entry → AreKept 1 (map f (js ++ x ∷ []))
+after_header f js x all last = subst (AreKept 1) (sym (map_push f js x)) (AreKept-push 1 (map f js) (f x) all last)
+
+-- one batch more is kept
+pub inserted_from-push : (id : ℕ) (bs : List Batch) (b : Batch) → inserted_from id (bs ++ b ∷ []) ≡ inserted_from id bs ++ record { table = b.table; extent = id + length bs; rows = length b.rows; tags = b.tags } ∷ []
+inserted_from-push id [] b = ap (λ (n : ℕ). let one : Inserted = record { table = b.table; extent = n; rows = length b.rows; tags = b.tags } in one ∷ []) (sym (add-zero id))
+inserted_from-push id (x ∷ bs) b =
+    let same : id + 1 + length bs ≡ id + length (x ∷ bs) = omega arith in
+    let first : Inserted = record { table = x.table; extent = id; rows = length x.rows; tags = x.tags } in
+    ap (λ (is : List Inserted). first ∷ is) (inserted_from-push (id + 1) bs b)
+    ∙ ap (λ (n : ℕ). let one : Inserted = record { table = b.table; extent = n; rows = length b.rows; tags = b.tags } in first ∷ inserted_from (id + 1) bs ++ one ∷ []) same

@@ -33,10 +33,10 @@ dynamic_sync : IsSync dynamic.the_row
 dynamic_sync = search (knot.crosses, crosses, sendable) depth 60 fits 20000
 
 boxed_send : IsSend boxed.the_row
-boxed_send = search (dynamic_send, sendable, crosses) depth 40 fits 5000
+boxed_send = search (dynamic_send, dynamic_sync, sendable, crosses) depth 40 fits 5000
 
 boxed_sync : IsSync boxed.the_row
-boxed_sync = search (dynamic_sync, sendable, crosses) depth 40 fits 5000
+boxed_sync = search (dynamic_send, dynamic_sync, sendable, crosses) depth 40 fits 5000
 
 value_send : IsSend value.the_row
 value_send = search (text_send, boxed_send, sendable, crosses) depth 40 fits 5000
@@ -66,10 +66,10 @@ list_send : IsSend list.the_row
 list_send = search (extent_send, extent_sync, sendable, crosses) depth 40 fits 5000
 
 header_send : IsSend header.the_row
-header_send = search (text_send, sendable, crosses) depth 40 fits 5000
+header_send = search (text_send, tags_send, sendable, crosses) depth 40 fits 5000
 
 header_sync : IsSync header.the_row
-header_sync = search (text_sync, sendable, crosses) depth 40 fits 5000
+header_sync = search (text_sync, tags_sync, sendable, crosses) depth 40 fits 5000
 
 pub catalog_send : IsSend catalog.the_row
 catalog_send = search (header_send, header_sync, list_send, sendable, crosses) depth 40 fits 5000

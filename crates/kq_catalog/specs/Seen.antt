@@ -10,6 +10,8 @@ use Rattle.kq_model.specs.declared.table.Table.{Table}
 use Rattle.kq_model.specs.History.{History, log, cursor as cursor_of, tables as tables_of}
 use Rattle.kq_model.specs.Lawful.{AreLawful}
 use Rattle.kq_model.specs.Records.{records, rows_in, extents, made_in}
+use Rattle.kq_catalog.specs.declared.header.Header.{Header}
+use Rattle.kq_catalog.specs.Headers.{AreKept, history_of}
 use Rattle.kq_catalog.specs.Held.{records_in, item_by, extents_in, extents_at}
 
 pub record SnapshotView : Type 0 where
@@ -52,3 +54,8 @@ pub record Holds (limits : Limits) (history : List Event) (tables : List Table) 
   pub few_records : (t : ℕ) → length (records (log history) t) ≤ cursor * 1048576
   pub made_count : made ≡ made_in (log history)
   pub few_made : made ≤ cursor
+
+-- and the journal that tells the history keeps of each ingestion its batches but for their rows, with the ids of its extents
+pub record HoldsJournal (limits : Limits) (journal : List Header) (tables : List Table) (held : List (List ExtentView)) (cursor made : ℕ) : Type 0 where
+  pub holds : Holds limits (history_of journal) tables held cursor made
+  pub kept : AreKept 1 journal

@@ -24,7 +24,7 @@ use Rattle.kq_catalog.specs.declared.change.CatalogFault.TheVariants as fault
 use Rattle.kq_catalog.specs.declared.change.Makes.{Makes}
 use Rattle.kq_catalog.specs.declared.change.Makes.TheVariants as makes
 use Rattle.kq_catalog.specs.declared.change.Placed.{Placed}
-use Rattle.kq_catalog.specs.Headers.{told_by}
+use Rattle.kq_catalog.specs.Headers.{told_by, IsKept}
 use Rattle.kq_catalog.specs.Held.{records_in, item_by}
 use Rattle.kq_catalog.specs.Seen.{CatalogView}
 
@@ -65,7 +65,7 @@ pub record IsTyped (made : List Table) (b : Batch) : Type 0 where
   pub stands : slice_get made b.table ≡ Some table
   pub typed : All (HasTypes table.schema) b.rows
 
--- the change may be committed after this history: its event is a lawful commit, and it makes the tables and the extents that the commit makes
+-- the change may be committed after this history: its event is a lawful commit, it makes the tables and the extents that the commit makes, and its header keeps what they are
 pub record IsStaged (limits : Limits) (history : History) (change : Change) : Type 0 where
   pub lawful : Lawful limits history (event_of change)
   pub commit : Commit
@@ -75,6 +75,7 @@ pub record IsStaged (limits : Limits) (history : History) (change : Change) : Ty
   pub items : (t : ℕ) → map item_by (to_table t (extents_made change.makes)) ≡ items t (cursor history + 1) (1 + made_in (log history)) commit
   pub count : length (extents_made change.makes) ≡ made_by commit
   pub within : All (λ (p : Placed). p.table < length (tables (log history))) (extents_made change.makes)
+  pub kept : IsKept (1 + made_in (log history)) (arc_value change.header).entry
 
 abbrev pub room_at : List ListView → ℕ → ℕ
 room_at lists t = (slice_index_or lists t (record { extents = []; room = 0 })).room

@@ -9,7 +9,7 @@ ghost use Rattle.kq_catalog.specs.Staged.{IsStaged, HasRoom, FaultsBy, fault_by,
 
 use crate::change::{CatalogFault, Change, Makes};
 use crate::handles::shared;
-use crate::header::{Entry, Header};
+use crate::header::{Entry, Header, keep};
 use crate::lists::{put_extents, reserve_lists, share_lists};
 use crate::placing::place;
 use crate::snapshot::Snapshot;
@@ -39,7 +39,7 @@ impl Model for Catalog {
     ghost use Rattle.std.specs.Arc.{arc_value};
     ghost use Rattle.kq_catalog.specs.Headers.{history_of};
     ghost use Rattle.kq_catalog.specs.Held.{extents_in};
-    ghost use Rattle.kq_catalog.specs.Seen.{CatalogView, Holds};
+    ghost use Rattle.kq_catalog.specs.Seen.{CatalogView, HoldsJournal};
     ghost use Rattle.std.specs.Coded.{codes};
     ghost use Rattle.kq_value.specs.contracts.value.Value as cell;
 
@@ -49,7 +49,7 @@ impl Model for Catalog {
 
     ghost view = { λ c. record { limits = c.limits; history = history_of (map arc_value c.journal.items); lists = c.lists.items; room = min (vec_capacity c.journal - vec_len c.journal) (min (vec_capacity c.tables - vec_len c.tables) (vec_capacity c.lists - vec_len c.lists)) } };
 
-    ghost invariant = { λ c. Holds c.limits (history_of (map arc_value c.journal.items)) (map arc_value c.tables.items) (extents_in c.lists.items) c.cursor c.made };
+    ghost invariant = { λ c. HoldsJournal c.limits (map arc_value c.journal.items) (map arc_value c.tables.items) (extents_in c.lists.items) c.cursor c.made };
 }
 
 impl Catalog {
@@ -202,6 +202,7 @@ impl Catalog {
             return Err(fault);
         }
         let given = Seen::of(&batches);
+        let inserted = keep(self.alloc, self.made + 1, &batches)?;
         let placed = place(
             self.alloc,
             self.tables.as_slice(),
@@ -209,7 +210,11 @@ impl Catalog {
             self.made + 1,
             batches,
         )?;
-        let entry = Entry::Ingest { given, failures };
+        let entry = Entry::Ingest {
+            given,
+            inserted,
+            failures,
+        };
         Ok(Change {
             header: Arc::new(self.alloc, Header { by, entry })?,
             makes: Makes::Extents(placed),

@@ -17,5 +17,5 @@ mod tables;
 
 pub use catalog::Catalog;
 pub use change::{CatalogFault, Change, Makes, Placed};
-pub use header::{Entry, Header};
+pub use header::{Entry, Header, Inserted};
 pub use snapshot::Snapshot;

@@ -6,6 +6,8 @@ ghost use Rattle.kq_model.specs.Records.{records, rows_in, extents};
 ghost use Rattle.kq_model.specs.declared.table.Table.{Table as Described};
 ghost use Rattle.kq_value.specs.Typed.{HasTypes};
 ghost use Rattle.std.specs.List.{slice_get};
+ghost use Rattle.std.specs.Arc.{arc_value};
+ghost use Rattle.kq_catalog.specs.Headers.{AreKept, history_of};
 ghost use Rattle.kq_catalog.specs.Held.{records_in, item_by};
 
 use crate::header::Header;
@@ -34,7 +36,7 @@ impl Model for Snapshot {
     ghost use Rattle.std.specs.Arc.{arc_value};
     ghost use Rattle.kq_catalog.specs.Headers.{history_of};
     ghost use Rattle.kq_catalog.specs.Held.{extents_in};
-    ghost use Rattle.kq_catalog.specs.Seen.{SnapshotView, Holds};
+    ghost use Rattle.kq_catalog.specs.Seen.{SnapshotView, HoldsJournal};
     ghost use Rattle.std.specs.Coded.{codes};
     ghost use Rattle.kq_value.specs.contracts.value.Value as cell;
 
@@ -44,7 +46,7 @@ impl Model for Snapshot {
 
     ghost view = { λ s. record { limits = s.limits; history = history_of (map arc_value s.journal.items) } };
 
-    ghost invariant = { λ s. Holds s.limits (history_of (map arc_value s.journal.items)) (map arc_value s.tables.items) (extents_in s.lists.items) s.cursor s.made };
+    ghost invariant = { λ s. HoldsJournal s.limits (map arc_value s.journal.items) (map arc_value s.tables.items) (extents_in s.lists.items) s.cursor s.made };
 }
 
 impl Snapshot {
@@ -78,6 +80,14 @@ impl Snapshot {
         ensures { MatchOption result (table_numbered name.now (tables (log self.now.history)) ≡ None) (λ p. table_numbered name.now (tables (log self.now.history)) ≡ Some (record { number = p.0; table = p.1.now })) }
     {
         table_in(self.tables.as_slice(), name)
+    }
+
+    /// The headers in order. Each ingestion's tell its batches but for their rows, with the ids of their extents.
+    pub fn journal(&self) -> &[Arc<Header, Global>]
+        ensures history { history_of (map arc_value result.now) ≡ self.now.history }
+        ensures kept { AreKept 1 (map arc_value result.now) }
+    {
+        self.journal.as_slice()
     }
 
     /// The extents of a table by its number: each record of the table stands once in them, and nothing else does.

@@ -1,15 +1,15 @@
 -- A run goes on by one step.
-use Rattle.std.proofs.Common.{All, append_assoc, length-append, ◌≡◌, ◌≤◌, ◌<◌, ◌+◌, ℕ, Bool, true, false, cond, List, [], ◌∷◌, ◌++◌, length, take, drop, Option, Some, None, ap, sym, ◌∙◌, subst, refl, arith, max, ◌⊎◌, inl, inr, count_by, slice_index_or, length-take, append-nil, suc}
+use Rattle.std.proofs.Common.{All, ◌≡◌, ◌≤◌, ◌<◌, ◌+◌, ℕ, Bool, true, false, cond, List, [], ◌∷◌, ◌++◌, length, take, drop, Option, Some, None, ap, sym, ◌∙◌, subst, refl, arith, max, ◌⊎◌, inl, inr, count_by, slice_index_or, length-take, append-nil, suc}
 use Rattle.std.specs.List.{remove}
-use Rattle.std.proofs.lemmas.List.{take-append-le, take_all, flat_map_more}
-use Rattle.std.proofs.lemmas.List.Elements.{All-push, All-weaker, All-append, All-take, All-drop}
+use Rattle.std.proofs.lemmas.List.{take-append-le, take_all, flat_map_more, length_push}
+use Rattle.std.proofs.lemmas.List.Elements.{All-nil, All-push, All-weaker, All-append, All-take, All-drop}
 use Rattle.std.proofs.lemmas.List.Sums.{sum_by-remove, sum_by_push}
 use Rattle.kq_model.specs.declared.event.By.{By}
+use Rattle.kq_model.specs.declared.event.Operation.{Operation}
 use Rattle.kq_model.specs.declared.limits.Limits.{Limits}
 use Rattle.kq_model.specs.History.{History, commits_at}
-use Rattle.kq_model.specs.Lawful.{AreLawful}
 use Rattle.kq_model.specs.Marks.{same_by}
-use Rattle.kq_catalog.specs.Seen.{CatalogView}
+use Rattle.kq_catalog.specs.Seen.{CatalogView, Sound}
 use Rattle.kq_engine.specs.declared.run.Step.{Step}
 use Rattle.kq_engine.specs.declared.run.Step.TheVariants.{Begin, Finish}
 use Rattle.kq_engine.specs.declared.run.Told.{Told}
@@ -17,72 +17,88 @@ use Rattle.kq_engine.specs.declared.work.Outcome.{Outcome}
 use Rattle.kq_engine.specs.declared.work.Prepared.{Prepared}
 use Rattle.kq_reply.specs.declared.reply.Reply.{Reply}
 use Rattle.kq_engine.specs.declared.work.Work.{Work}
-use Rattle.kq_engine.specs.Fits.{Fits, FitsNow, IsPrepared, Advances, own_commit}
-use Rattle.kq_engine.specs.Steps.{work_of, is_finished, opens, tells, commits_told, Tells, IsOpen, IsRun, IsTrace, BeganAt, IsAt, one_if_some, AreWaiting}
+use Rattle.kq_engine.specs.declared.work.Ready.{Ready}
+use Rattle.kq_engine.specs.declared.work.Ready.TheVariants as readies
+use Rattle.kq_engine.specs.Fits.{Fits, FitsNow, IsPrepared, IsRead, IsReady, Advances, MayWantMemory, TakesMemory, TakesRows, TakesToFinish, event_by, own_commit}
+use Rattle.kq_model.specs.declared.batch.Batch.{Batch}
+use Rattle.kq_command.specs.declared.command.Command.{Command}
+use Rattle.kq_command.specs.declared.command.Command.TheVariants.{CreateTable, Ingest, Query, Unbuilt}
+use Rattle.kq_reply.specs.declared.refusal.Refusal.{Refusal}
+use Rattle.kq_reply.specs.declared.refusal.Refusal.TheVariants as refusals
+use Rattle.kq_reply.specs.declared.reply.Reply.TheVariants as replies
+use Rattle.kq_engine.specs.Steps.{work_of, place_of, is_finished, mark_of, opens, tells, commits_told, Moment, start, IsBare, Tells, Accounts, ByStep, Leads, Runs, IsOpen, IsRun, IsTrace, IsAt, one_if_some, AreWaiting}
 use Rattle.kq_engine.proofs.Advancing.{Fits-append, Fits-end}
-use Rattle.kq_engine.proofs.Stepping.{same_by-true, same_by-itself, work_of-append, work_of-new, one-begin, one-finish, is_finished-begin, is_finished-finish, is_finished-begun}
+use Rattle.kq_engine.proofs.Stepping.{same_by-true, same_by-itself, work_of-append, work_of-new, place_of-append, place_of-new, one-begin, one-finish, is_finished-begin, is_finished-finish, is_finished-begun, is_finished-append, is_finished-now}
+
+abbrev moment : List Step → List ℕ → History → List Told → Moment
+moment steps found h outcomes = record { steps = steps; found = found; history = h; outcomes = outcomes }
+
+still_bare : (b : By) (xs ys : List Step) (t : Told) → (is_finished b xs ≡ true) ⊎ IsBare t → (is_finished b (xs ++ ys) ≡ true) ⊎ IsBare t
+still_bare b xs ys t (inl e) = inl (is_finished-append b xs ys e)
+still_bare b xs ys t (inr bare) = inr bare
 
 -- more steps and more events leave an outcome as it is
-Tells-later : (limits : Limits) (xs ys : List Step) (h new more : History) → new ≡ h ++ more → (t : Told) → Tells limits xs h t → Tells limits (xs ++ ys) new t
-Tells-later limits xs ys h new more is t told = record {
+Tells-later : (limits : Limits) (xs ys : List Step) (found more : List ℕ) (h new made : History) (os all : List Told) → new ≡ h ++ made → (t : Told) → Tells limits (moment xs found h os) t → Tells limits (moment (xs ++ ys) (found ++ more) new all) t
+Tells-later limits xs ys found more h new made os all is t told = record {
   work = told.work;
   asked = work_of-append t.by xs ys told.work told.asked;
-  fits = subst (λ (n : History). Fits limits n t.by told.work.command told.work.now t.outcome.place t.outcome.own t.outcome.reply) (sym is) (Fits-append limits h more t.by told.work.command told.work.now t.outcome.place t.outcome.own t.outcome.reply told.fits);
+  found = place_of-append t.by xs ys found more t.began told.found;
+  fits = subst (λ (n : History). Fits limits n t.by told.work.command told.work.now t.outcome.place t.outcome.own t.outcome.reply) (sym is) (Fits-append limits h made t.by told.work.command told.work.now t.outcome.place t.outcome.own t.outcome.reply told.fits);
   since = told.since;
+  memory = λ wants. subst (λ (n : History). MayWantMemory n told.work.command) (sym (ap (take t.began) is ∙ take-append-le t.began h made (omega (arith, told.since, told.fits.within)))) (told.memory wants);
+  finished = still_bare t.by xs ys t told.finished;
 }
 
-IsOpen-later : (limits : Limits) (xs ys : List Step) (h new more : History) → new ≡ h ++ more → (p : Prepared) → IsOpen limits xs h p → IsOpen limits (xs ++ ys) new p
-IsOpen-later limits xs ys h new more is p open_one =
+IsOpen-later : (limits : Limits) (xs ys : List Step) (found more : List ℕ) (h new made : History) (os all : List Told) → new ≡ h ++ made → (p : Prepared) → IsOpen limits (moment xs found h os) p → IsOpen limits (moment (xs ++ ys) (found ++ more) new all) p
+IsOpen-later limits xs ys found more h new made os all is p open_one =
     let within : p.place ≤ length h = omega (arith, open_one.prepared.at, length-take p.place h) in
-    let same : take p.place new ≡ take p.place h = ap (take p.place) is ∙ take-append-le p.place h more within in
+    let same : take p.place new ≡ take p.place h = ap (take p.place) is ∙ take-append-le p.place h made within in
     record {
       prepared = subst (λ (n : History). IsPrepared limits n p) (sym same) open_one.prepared;
       asked = work_of-append p.work.by xs ys p.work open_one.asked;
+      found = place_of-append p.work.by xs ys found more p.place open_one.found;
     }
 
-abbrev OpenAt : List Step → List Told → Prepared → Type 0
-OpenAt steps outcomes p = BeganAt steps outcomes p.work.by p.place
+Runs-push : (limits : Limits) (old : Moment) (xs : List Step) (m : Moment) (s : Step) (next : Moment) → Runs limits old xs m → Leads m s next → Accounts limits next → Runs limits old (xs ++ s ∷ []) next
+Runs-push limits old [] m s next runs leads accounts = (next, subst (λ (from : Moment). Leads from s next) (sym runs) leads, accounts, refl)
+Runs-push limits old (x ∷ xs) m s next runs leads accounts = (runs.0, runs.1, runs.2, Runs-push limits runs.0 xs m s next runs.3 leads accounts)
 
-abbrev ToldAt : List Step → List Told → Told → Type 0
-ToldAt steps outcomes t = BeganAt steps outcomes t.by t.began
+few : (m : Option Work) (o t : ℕ) → o + t ≡ one_if_some m → t ≤ 1
+few None o t e = omega arith
+few (Some w) o t e = omega arith
 
-BeganAt-later : (xs ys : List Step) (os ts : List Told) (b : By) (n : ℕ) → BeganAt xs os b n → BeganAt (xs ++ ys) (os ++ ts) b n
-BeganAt-later xs ys os ts b n at =
-    let same = take-append-le at.given os ts at.within in
+all_told : (o t k : ℕ) → o + t ≡ k → o ≡ 0 → k ≡ 1 → t ≡ 1
+all_told o t k e z one = omega arith
+
+-- one more step
+go_on : (limits : Limits) (xs : List Step) (s : Step) (old new : CatalogView) (open_ones left : List Prepared) (outcomes all : List Told) (made : Option Operation) (gave : List Told) (run : IsRun limits xs old open_ones outcomes) → new.limits ≡ old.limits → new.history ≡ old.history ++ event_by (mark_of s) made → all ≡ outcomes ++ gave
+    → length gave ≤ 1 → All (λ (t : Told). t.by ≡ mark_of s) gave → (gave ≡ [] → made ≡ None) → ByStep xs s made gave
+    → All (IsOpen limits (moment (xs ++ s ∷ []) (run.found ++ length old.history ∷ []) new.history all)) left
+    → All (Tells limits (moment (xs ++ s ∷ []) (run.found ++ length old.history ∷ []) new.history all)) all
+    → commits_at new.history ≡ commits_told all
+    → ((b : By) → count_by (opens b) left + count_by (tells b) all ≡ one_if_some (work_of b (xs ++ s ∷ [])))
+    → ((b : By) → is_finished b (xs ++ s ∷ []) ≡ true → count_by (opens b) left ≡ 0)
+    → IsRun limits (xs ++ s ∷ []) new left all
+go_on limits xs s old new open_ones left outcomes all made gave run kept more told one marked no_more by_step waiting each commits once gone =
+    let m : Moment = moment xs run.found old.history outcomes in
+    let next : Moment = moment (xs ++ s ∷ []) (run.found ++ length old.history ∷ []) new.history all in
+    let leads : Leads m s next = record { steps = refl; found = refl; made = made; history = more; gave = gave; outcomes = told; one = one; marked = marked; no_more = no_more; by_step = by_step } in
+    let accounts : Accounts limits next = record {
+      each = each;
+      commits = commits;
+      at_most_once = λ b. few (work_of b (xs ++ s ∷ [])) (count_by (opens b) left) (count_by (tells b) all) (once b);
+      finished = λ b f. all_told (count_by (opens b) left) (count_by (tells b) all) _ (once b) (gone b f) (is_finished-begun b (xs ++ s ∷ []) f);
+    } in
     record {
-      before = at.before;
-      rest = at.rest ++ ys;
-      work = at.work;
-      splits = ap (λ (l : List Step). l ++ ys) at.splits ∙ append_assoc at.before (Begin at.work ∷ at.rest) ys;
-      mark = at.mark;
-      first = at.first;
-      given = at.given;
-      within = omega (arith, at.within, length-append os ts);
-      all_given = λ c f. subst (λ (l : List Told). count_by (tells c) l ≡ 1) (sym same) (at.all_given c f);
-      at_most = subst (All (λ (t : Told). t.outcome.place ≤ n)) (sym same) at.at_most;
-    }
-
-BeganAt-step : (xs : List Step) (s : Step) (os : List Told) (b : By) (n : ℕ) → BeganAt xs os b n → BeganAt (xs ++ s ∷ []) os b n
-BeganAt-step xs s os b n at = subst (λ (l : List Told). BeganAt (xs ++ s ∷ []) l b n) (append-nil os) (BeganAt-later xs (s ∷ []) os [] b n at)
-
-counted : (o t k : ℕ) → o + t ≡ k → o ≡ 0 → k ≡ 1 → t ≡ 1
-counted o t k e z one = omega arith
-
--- the Begin that comes now
-BeganAt-now : (limits : Limits) (xs : List Step) (w : Work) (catalog : CatalogView) (open_ones : List Prepared) (outcomes : List Told) (n : ℕ) → IsRun limits xs catalog open_ones outcomes → n ≡ length catalog.history → work_of w.by xs ≡ None → BeganAt (xs ++ Begin w ∷ []) outcomes w.by n
-BeganAt-now limits xs w catalog open_ones outcomes n run at_end new =
-    let all : take (length outcomes) outcomes ≡ outcomes = take_all (length outcomes) outcomes (omega arith) in
-    record {
-      before = xs;
-      rest = [];
-      work = w;
-      splits = refl;
-      mark = refl;
-      first = new;
-      given = length outcomes;
-      within = omega arith;
-      all_given = λ c f. subst (λ (l : List Told). count_by (tells c) l ≡ 1) (sym all) (counted (count_by (opens c) open_ones) (count_by (tells c) outcomes) (one_if_some (work_of c xs)) (run.once c) (run.gone c f) (is_finished-begun c xs f));
-      at_most = subst (All (λ (t : Told). t.outcome.place ≤ n)) (sym all) (All-weaker (Tells limits xs catalog.history) (λ (t : Told). t.outcome.place ≤ n) (λ t told. let low = told.fits.within in omega arith) outcomes run.each);
+      same_limits = kept ∙ run.same_limits;
+      found = run.found ++ length old.history ∷ [];
+      counted = length_push run.found (length old.history) ∙ ap (λ (n : ℕ). n + 1) run.counted ∙ sym (length_push xs s);
+      runs = Runs-push limits start xs m s next run.runs leads accounts;
+      waiting = waiting;
+      each = each;
+      commits = commits;
+      once = once;
+      gone = gone;
     }
 
 nothing_yet : (m : Option Work) → one_if_some m ≡ 0 → m ≡ None
@@ -90,17 +106,14 @@ nothing_yet None e = refl
 nothing_yet (Some v) e = absurd (omega arith)
 
 -- a step that does nothing
-skip : (limits : Limits) (xs : List Step) (s : Step) (catalog : CatalogView) (open_ones : List Prepared) (outcomes : List Told) → IsRun limits xs catalog open_ones outcomes → ((b : By) → one_if_some (work_of b (xs ++ s ∷ [])) ≡ one_if_some (work_of b xs)) → ((b : By) → is_finished b (xs ++ s ∷ []) ≡ true → count_by (opens b) open_ones ≡ 0) → IsRun limits (xs ++ s ∷ []) catalog open_ones outcomes
-skip limits xs s catalog open_ones outcomes run same none = record {
-  same_limits = run.same_limits;
-  waiting = All-weaker _ _ (IsOpen-later limits xs (s ∷ []) catalog.history catalog.history [] (sym (append-nil catalog.history))) open_ones run.waiting;
-  each = All-weaker _ _ (Tells-later limits xs (s ∷ []) catalog.history catalog.history [] (sym (append-nil catalog.history))) outcomes run.each;
-  commits = run.commits;
-  begun = All-weaker (OpenAt xs outcomes) (OpenAt (xs ++ s ∷ []) outcomes) (λ q at. BeganAt-step xs s outcomes q.work.by q.place at) open_ones run.begun;
-  began = All-weaker (ToldAt xs outcomes) (ToldAt (xs ++ s ∷ []) outcomes) (λ u at. BeganAt-step xs s outcomes u.by u.began at) outcomes run.began;
-  once = λ b. run.once b ∙ sym (same b);
-  gone = none;
-}
+skip : (limits : Limits) (xs : List Step) (s : Step) (catalog : CatalogView) (open_ones : List Prepared) (outcomes : List Told) → IsRun limits xs catalog open_ones outcomes → ByStep xs s None [] → ((b : By) → one_if_some (work_of b (xs ++ s ∷ [])) ≡ one_if_some (work_of b xs)) → ((b : By) → is_finished b (xs ++ s ∷ []) ≡ true → count_by (opens b) open_ones ≡ 0) → IsRun limits (xs ++ s ∷ []) catalog open_ones outcomes
+skip limits xs s catalog open_ones outcomes run by_step same none =
+    let stays : catalog.history ≡ catalog.history ++ [] = sym (append-nil catalog.history) in
+    go_on limits xs s catalog catalog open_ones open_ones outcomes outcomes None [] run refl stays (sym (append-nil outcomes))
+    (omega arith) (All-nil (λ (t : Told). t.by ≡ mark_of s)) (λ e. refl) by_step
+    (All-weaker _ _ (IsOpen-later limits xs (s ∷ []) run.found (length catalog.history ∷ []) catalog.history catalog.history [] outcomes outcomes stays) open_ones run.waiting)
+    (All-weaker _ _ (Tells-later limits xs (s ∷ []) run.found (length catalog.history ∷ []) catalog.history catalog.history [] outcomes outcomes stays) outcomes run.each)
+    run.commits (λ b. run.once b ∙ sym (same b)) none
 
 begun_one : (s : Bool) (k n : ℕ) → n ≡ max k (cond s 1 0) → (s ≡ true → k ≡ 1) → n ≡ k
 begun_one true k n is one = let k1 : k ≡ 1 = one refl in omega arith
@@ -109,7 +122,7 @@ begun_one false k n is one = omega arith
 -- a mark that was begun before
 pub skip_begin : (limits : Limits) (xs : List Step) (w : Work) (catalog : CatalogView) (open_ones : List Prepared) (outcomes : List Told) → 0 < count_by (opens w.by) open_ones + count_by (tells w.by) outcomes → IsRun limits xs catalog open_ones outcomes → IsRun limits (xs ++ Begin w ∷ []) catalog open_ones outcomes
 skip_begin limits xs w catalog open_ones outcomes some run =
-    skip limits xs (Begin w) catalog open_ones outcomes run
+    skip limits xs (Begin w) catalog open_ones outcomes run (refl, λ first asked. refl)
     (λ b. begun_one (same_by w.by b) (one_if_some (work_of b xs)) _ (one-begin b xs w) (λ t. subst (λ (m : By). one_if_some (work_of m xs) ≡ 1) (same_by-true w.by b t) (just_one (work_of w.by xs) (subst (λ (n : ℕ). 0 < n) (run.once w.by) some))))
     (λ b f. run.gone b (sym (is_finished-begin b xs w) ∙ f))
   where
@@ -120,7 +133,7 @@ skip_begin limits xs w catalog open_ones outcomes some run =
 -- a mark that is not open
 pub skip_finish : (limits : Limits) (xs : List Step) (c : By) (catalog : CatalogView) (open_ones : List Prepared) (outcomes : List Told) → count_by (opens c) open_ones ≡ 0 → IsRun limits xs catalog open_ones outcomes → IsRun limits (xs ++ Finish c ∷ []) catalog open_ones outcomes
 skip_finish limits xs c catalog open_ones outcomes none run =
-    skip limits xs (Finish c) catalog open_ones outcomes run
+    skip limits xs (Finish c) catalog open_ones outcomes run tt
     (λ b. one-finish b c xs)
     (λ b f. elim (is_finished-finish b c xs f) [ inl p ↦ run.gone b p | inr p ↦ subst (λ (m : By). count_by (opens m) open_ones ≡ 0) (same_by-true c b p.0) none ])
 
@@ -147,54 +160,63 @@ none_at open_ones outcomes a b none_open none_told t = subst (λ (m : By). count
 
 -- new work that was prepared
 pub begin_open : (limits : Limits) (xs : List Step) (w : Work) (catalog : CatalogView) (open_ones : List Prepared) (outcomes : List Told) (p : Prepared) → count_by (opens w.by) open_ones ≡ 0 → count_by (tells w.by) outcomes ≡ 0 → p.work ≡ w → IsPrepared catalog.limits catalog.history p → IsRun limits xs catalog open_ones outcomes → IsRun limits (xs ++ Begin w ∷ []) catalog (open_ones ++ p ∷ []) outcomes
-begin_open limits xs w catalog open_ones outcomes p none_open none_told same prepared run = record {
-  same_limits = run.same_limits;
-  waiting = All-push (IsOpen limits (xs ++ Begin w ∷ []) catalog.history) open_ones p
-      (All-weaker _ _ (IsOpen-later limits xs (Begin w ∷ []) catalog.history catalog.history [] (sym (append-nil catalog.history))) open_ones run.waiting)
-      (record {
-        prepared = subst (λ (n : History). IsPrepared limits n p) (sym (take_all p.place catalog.history (omega (arith, prepared.at)))) (subst (λ (l : Limits). IsPrepared l catalog.history p) run.same_limits prepared);
-        asked = subst (λ (v : Work). work_of v.by (xs ++ Begin w ∷ []) ≡ Some v) (sym same) (work_new w.by xs w zero (same_by-itself w.by));
-      });
-  each = All-weaker _ _ (Tells-later limits xs (Begin w ∷ []) catalog.history catalog.history [] (sym (append-nil catalog.history))) outcomes run.each;
-  commits = run.commits;
-  begun = All-push (OpenAt (xs ++ Begin w ∷ []) outcomes) open_ones p (All-weaker (OpenAt xs outcomes) (OpenAt (xs ++ Begin w ∷ []) outcomes) (λ q at. BeganAt-step xs (Begin w) outcomes q.work.by q.place at) open_ones run.begun)
-      (subst (λ (v : Work). BeganAt (xs ++ Begin w ∷ []) outcomes v.by p.place) (sym same) (BeganAt-now limits xs w catalog open_ones outcomes p.place run prepared.at (nothing_yet (work_of w.by xs) zero)));
-  began = All-weaker (ToldAt xs outcomes) (ToldAt (xs ++ Begin w ∷ []) outcomes) (λ u at. BeganAt-step xs (Begin w) outcomes u.by u.began at) outcomes run.began;
-  once = λ b. ap (λ (n : ℕ). n + count_by (tells b) outcomes) (pushed b) ∙ new_once (same_by w.by b) (count_by (opens b) open_ones) (count_by (tells b) outcomes) (one_if_some (work_of b xs)) _ (run.once b) (none_at open_ones outcomes w.by b none_open none_told) (one-begin b xs w);
-  gone = λ b f.
-      let g = sym (is_finished-begin b xs w) ∙ f in
-      pushed b ∙ gone_new (same_by w.by b) (count_by (opens b) open_ones) (count_by (tells b) outcomes) (one_if_some (work_of b xs)) (run.gone b g) (run.once b) (is_finished-begun b xs g) (none_at open_ones outcomes w.by b none_open none_told);
-}
+begin_open limits xs w catalog open_ones outcomes p none_open none_told same prepared run =
+    let found = run.found ++ length catalog.history ∷ [] in
+    let next : Moment = moment (xs ++ Begin w ∷ []) found catalog.history outcomes in
+    go_on limits xs (Begin w) catalog catalog open_ones (open_ones ++ p ∷ []) outcomes outcomes None [] run refl stays (sym (append-nil outcomes))
+    (omega arith) (All-nil (λ (t : Told). t.by ≡ w.by)) (λ e. refl) (refl, λ first asked. refl)
+    (All-push (IsOpen limits next) open_ones p
+    (All-weaker _ _ (IsOpen-later limits xs (Begin w ∷ []) run.found (length catalog.history ∷ []) catalog.history catalog.history [] outcomes outcomes stays) open_ones run.waiting)
+    (record {
+      prepared = subst (λ (n : History). IsPrepared limits n p) (sym (take_all p.place catalog.history (omega (arith, prepared.at)))) (subst (λ (l : Limits). IsPrepared l catalog.history p) run.same_limits prepared);
+      asked = subst (λ (v : Work). work_of v.by (xs ++ Begin w ∷ []) ≡ Some v) (sym same) (work_new w.by xs w zero (same_by-itself w.by));
+      found = subst (λ (v : Work). place_of v.by (xs ++ Begin w ∷ []) found ≡ Some p.place) (sym same) (subst (λ (n : ℕ). place_of w.by (xs ++ Begin w ∷ []) found ≡ Some n) (sym prepared.at) (place_of-new w.by xs run.found w (length catalog.history) run.counted (nothing_yet (work_of w.by xs) zero) (same_by-itself w.by)));
+    }))
+    (All-weaker _ _ (Tells-later limits xs (Begin w ∷ []) run.found (length catalog.history ∷ []) catalog.history catalog.history [] outcomes outcomes stays) outcomes run.each)
+    run.commits
+    (λ b. ap (λ (n : ℕ). n + count_by (tells b) outcomes) (pushed b) ∙ new_once (same_by w.by b) (count_by (opens b) open_ones) (count_by (tells b) outcomes) (one_if_some (work_of b xs)) _ (run.once b) (none_at open_ones outcomes w.by b none_open none_told) (one-begin b xs w))
+    (λ b f.
+    let g = sym (is_finished-begin b xs w) ∙ f in
+    pushed b ∙ gone_new (same_by w.by b) (count_by (opens b) open_ones) (count_by (tells b) outcomes) (one_if_some (work_of b xs)) (run.gone b g) (run.once b) (is_finished-begun b xs g) (none_at open_ones outcomes w.by b none_open none_told))
   where
+    stays : catalog.history ≡ catalog.history ++ []
+    stays = sym (append-nil catalog.history)
+
     zero : one_if_some (work_of w.by xs) ≡ 0
     zero = sym (run.once w.by) ∙ omega (arith, none_open, none_told)
 
     pushed : (b : By) → count_by (opens b) (open_ones ++ p ∷ []) ≡ count_by (opens b) open_ones + cond (same_by w.by b) 1 0
     pushed b = sum_by_push (λ (x : Prepared). cond (opens b x) 1 0) open_ones p ∙ ap (λ (v : Work). count_by (opens b) open_ones + cond (same_by v.by b) 1 0) same
 
+not_begun : (m : Option Work) (gave : List Told) → one_if_some m ≡ 0 → (first : Work) → m ≡ Some first → gave ≡ []
+not_begun m gave none first asked = let one : one_if_some m ≡ 1 = ap one_if_some asked in absurd (omega arith)
+
 -- new work that was refused on a snapshot
-pub begin_refused : (limits : Limits) (xs : List Step) (w : Work) (catalog : CatalogView) (open_ones : List Prepared) (outcomes : List Told) (place : ℕ) (reply : Reply) → count_by (opens w.by) open_ones ≡ 0 → count_by (tells w.by) outcomes ≡ 0 → place ≡ length catalog.history → FitsNow catalog.limits catalog.history w.by w.command w.now false reply → IsRun limits xs catalog open_ones outcomes → IsRun limits (xs ++ Begin w ∷ []) catalog open_ones (outcomes ++ record { by = w.by; began = place; outcome = record { place = place; own = false; reply = reply } } ∷ [])
-begin_refused limits xs w catalog open_ones outcomes place reply none_open none_told at_end fits run =
+pub begin_refused : (limits : Limits) (xs : List Step) (w : Work) (catalog : CatalogView) (open_ones : List Prepared) (outcomes : List Told) (place : ℕ) (reply : Reply) → count_by (opens w.by) open_ones ≡ 0 → count_by (tells w.by) outcomes ≡ 0 → place ≡ length catalog.history → FitsNow catalog.limits catalog.history w.by w.command w.now false reply → (reply ≡ replies.Refused refusals.Memory → TakesMemory catalog.history w.command) → IsRun limits xs catalog open_ones outcomes → IsRun limits (xs ++ Begin w ∷ []) catalog open_ones (outcomes ++ record { by = w.by; began = place; outcome = record { place = place; own = false; reply = reply } } ∷ [])
+begin_refused limits xs w catalog open_ones outcomes place reply none_open none_told at_end fits takes run =
     let t : Told = record { by = w.by; began = place; outcome = record { place = place; own = false; reply = reply } } in
     let zero : one_if_some (work_of w.by xs) ≡ 0 = sym (run.once w.by) ∙ omega (arith, none_open, none_told) in
-    record {
-      same_limits = run.same_limits;
-      waiting = All-weaker _ _ (IsOpen-later limits xs (Begin w ∷ []) catalog.history catalog.history [] (sym (append-nil catalog.history))) open_ones run.waiting;
-      each = All-push (Tells limits (xs ++ Begin w ∷ []) catalog.history) outcomes t
-          (All-weaker _ _ (Tells-later limits xs (Begin w ∷ []) catalog.history catalog.history [] (sym (append-nil catalog.history))) outcomes run.each)
-          (record {
-            work = w;
-            asked = work_new w.by xs w zero (same_by-itself w.by);
-            fits = Fits-end limits catalog.history w.by w.command w.now place false reply at_end (subst (λ (l : Limits). FitsNow l catalog.history w.by w.command w.now false reply) run.same_limits fits);
-            since = omega arith;
-          });
-      commits = run.commits ∙ sym (append-nil (commits_told outcomes)) ∙ flat_map_more (λ (x : Told). own_commit x.outcome.own x.outcome.place x.by) [] outcomes t;
-      begun = All-weaker (OpenAt xs outcomes) (OpenAt (xs ++ Begin w ∷ []) (outcomes ++ t ∷ [])) (λ q at. BeganAt-later xs (Begin w ∷ []) outcomes (t ∷ []) q.work.by q.place at) open_ones run.begun;
-      began = All-push (ToldAt (xs ++ Begin w ∷ []) (outcomes ++ t ∷ [])) outcomes t (All-weaker (ToldAt xs outcomes) (ToldAt (xs ++ Begin w ∷ []) (outcomes ++ t ∷ [])) (λ u at. BeganAt-later xs (Begin w ∷ []) outcomes (t ∷ []) u.by u.began at) outcomes run.began)
-          (subst (λ (l : List Step). BeganAt l (outcomes ++ t ∷ []) w.by place) (append-nil (xs ++ Begin w ∷ [])) (BeganAt-later (xs ++ Begin w ∷ []) [] outcomes (t ∷ []) w.by place (BeganAt-now limits xs w catalog open_ones outcomes place run at_end (nothing_yet (work_of w.by xs) zero))));
-      once = λ b. ap (λ (n : ℕ). count_by (opens b) open_ones + n) (sum_by_push (λ (x : Told). cond (tells b x) 1 0) outcomes t) ∙ new_told (same_by w.by b) (count_by (opens b) open_ones) (count_by (tells b) outcomes) (one_if_some (work_of b xs)) _ (run.once b) (none_at open_ones outcomes w.by b none_open none_told) (one-begin b xs w);
-      gone = λ b f. run.gone b (sym (is_finished-begin b xs w) ∙ f);
-    }
+    let stays : catalog.history ≡ catalog.history ++ [] = sym (append-nil catalog.history) in
+    let found = run.found ++ length catalog.history ∷ [] in
+    let all = outcomes ++ t ∷ [] in
+    let next : Moment = moment (xs ++ Begin w ∷ []) found catalog.history all in
+    go_on limits xs (Begin w) catalog catalog open_ones open_ones outcomes all None (t ∷ []) run refl stays refl
+    (omega arith) (All-push (λ (u : Told). u.by ≡ w.by) [] t (All-nil (λ (u : Told). u.by ≡ w.by)) refl) (λ e. refl) (refl, not_begun (work_of w.by xs) (t ∷ []) zero)
+    (All-weaker _ _ (IsOpen-later limits xs (Begin w ∷ []) run.found (length catalog.history ∷ []) catalog.history catalog.history [] outcomes all stays) open_ones run.waiting)
+    (All-push (Tells limits next) outcomes t
+    (All-weaker _ _ (Tells-later limits xs (Begin w ∷ []) run.found (length catalog.history ∷ []) catalog.history catalog.history [] outcomes all stays) outcomes run.each)
+    (record {
+      work = w;
+      asked = work_new w.by xs w zero (same_by-itself w.by);
+      found = subst (λ (n : ℕ). place_of w.by (xs ++ Begin w ∷ []) found ≡ Some n) (sym at_end) (place_of-new w.by xs run.found w (length catalog.history) run.counted (nothing_yet (work_of w.by xs) zero) (same_by-itself w.by));
+      fits = Fits-end limits catalog.history w.by w.command w.now place false reply at_end (subst (λ (l : Limits). FitsNow l catalog.history w.by w.command w.now false reply) run.same_limits fits);
+      since = omega arith;
+      memory = λ wants. inl (subst (λ (n : History). TakesMemory n w.command) (sym (take_all place catalog.history (omega (arith, at_end)))) (takes wants));
+      finished = inr (record { not_own = refl; place = refl });
+    }))
+    (run.commits ∙ sym (append-nil (commits_told outcomes)) ∙ flat_map_more (λ (x : Told). own_commit x.outcome.own x.outcome.place x.by) [] outcomes t)
+    (λ b. ap (λ (n : ℕ). count_by (opens b) open_ones + n) (sum_by_push (λ (x : Told). cond (tells b x) 1 0) outcomes t) ∙ new_told (same_by w.by b) (count_by (opens b) open_ones) (count_by (tells b) outcomes) (one_if_some (work_of b xs)) _ (run.once b) (none_at open_ones outcomes w.by b none_open none_told) (one-begin b xs w))
+    (λ b f. run.gone b (sym (is_finished-begin b xs w) ∙ f))
 
 moved : (s : Bool) (o o' t k : ℕ) → o' + cond s 1 0 ≡ o → o + t ≡ k → o' + (t + cond s 1 0) ≡ k
 moved s o o' t k e f = omega arith
@@ -205,39 +227,59 @@ moved_gone true o o' t k e f (inr (q, one)) = omega arith
 moved_gone false o o' t k e f (inl z) = omega arith
 moved_gone false o o' t k e f (inr (q, one)) = cc
 
+some_given : (t : Told) (made : Option Operation) → t ∷ [] ≡ [] → made ≡ None
+some_given t made e = cc
+
+-- rows were read only for a table that stands
+read_wants : (limits : Limits) (h : History) (command : Command) (batch : Batch) → IsRead limits h command batch → MayWantMemory h command
+read_wants limits h (Ingest table body) batch read = inl (subst TakesRows (sym read.named) read.longs)
+read_wants limits h (CreateTable name columns) batch read = absurd read
+read_wants limits h (Query query) batch read = absurd read
+read_wants limits h Unbuilt batch read = absurd read
+
+ready_wants : (limits : Limits) (h : History) (command : Command) (ready : Ready) → IsReady limits h command ready → TakesToFinish command ready → MayWantMemory h command
+ready_wants limits h command (readies.Answered reply) is takes = absurd takes
+ready_wants limits h command (readies.Read batch) is takes = read_wants limits h command batch is
+ready_wants limits h command readies.Pending is takes = inr takes
+
 -- open work is finished
-pub finish_open : (limits : Limits) (xs : List Step) (c : By) (old new : CatalogView) (open_ones : List Prepared) (outcomes : List Told) (i : ℕ) (p : Prepared) (outcome : Outcome) → IsAt (opens c) open_ones i → p ≡ slice_index_or open_ones i p → new.limits ≡ old.limits → Advances old.limits old.history new.history p.work p.place outcome → IsRun limits xs old open_ones outcomes → IsRun limits (xs ++ Finish c ∷ []) new (remove open_ones i) (outcomes ++ record { by = c; began = p.place; outcome = outcome } ∷ [])
-finish_open limits xs c old new open_ones outcomes i p outcome is_at value kept step run =
+pub finish_open : (limits : Limits) (xs : List Step) (c : By) (old new : CatalogView) (open_ones : List Prepared) (outcomes : List Told) (i : ℕ) (p : Prepared) (outcome : Outcome) → IsAt (opens c) open_ones i → p ≡ slice_index_or open_ones i p → new.limits ≡ old.limits → Advances old.limits old.history new.history p.work p.place outcome → (outcome.reply ≡ replies.Refused refusals.Memory → TakesToFinish p.work.command p.ready) → IsRun limits xs old open_ones outcomes → IsRun limits (xs ++ Finish c ∷ []) new (remove open_ones i) (outcomes ++ record { by = c; began = p.place; outcome = outcome } ∷ [])
+finish_open limits xs c old new open_ones outcomes i p outcome is_at value kept step takes run =
     let t : Told = record { by = c; began = p.place; outcome = outcome } in
     let mark : p.work.by ≡ c = same_by-true p.work.by c (ap (opens c) value ∙ is_at.1 p) in
-    let open_one : IsOpen limits xs old.history p = subst (IsOpen limits xs old.history) (sym value) (run.waiting i p is_at.0) in
-    let more = step.goes_on.0 in
-    let is = step.goes_on.1 in
-    let later = All-weaker _ _ (IsOpen-later limits xs (Finish c ∷ []) old.history new.history more is) open_ones run.waiting in
+    let open_one : IsOpen limits (moment xs run.found old.history outcomes) p = subst (IsOpen limits (moment xs run.found old.history outcomes)) (sym value) (run.waiting i p is_at.0) in
+    let asked : work_of c xs ≡ Some p.work = subst (λ (m : By). work_of m xs ≡ Some p.work) mark open_one.asked in
+    let made = event_by p.work.by step.appends.made in
+    let is = step.appends.appended in
+    let marked_is : new.history ≡ old.history ++ event_by c step.appends.made = subst (λ (m : By). new.history ≡ old.history ++ event_by m step.appends.made) mark is in
+    let found = run.found ++ length old.history ∷ [] in
+    let all = outcomes ++ t ∷ [] in
+    let next : Moment = moment (xs ++ Finish c ∷ []) found new.history all in
+    let P = IsOpen limits next in
+    let later : All P open_ones = All-weaker _ _ (IsOpen-later limits xs (Finish c ∷ []) run.found (length old.history ∷ []) old.history new.history made outcomes all is) open_ones run.waiting in
     let left = λ (b : By). let e = sum_by-remove (λ (x : Prepared). cond (opens b x) 1 0) open_ones i p is_at.0 in subst (λ (q : Prepared). count_by (opens b) (remove open_ones i) + cond (opens b q) 1 0 ≡ count_by (opens b) open_ones) (sym value) e in
     let of = λ (b : By). subst (λ (m : By). count_by (opens b) (remove open_ones i) + cond (same_by m b) 1 0 ≡ count_by (opens b) open_ones) mark (left b) in
-    record {
-      same_limits = kept ∙ run.same_limits;
-      waiting = let P = IsOpen limits (xs ++ Finish c ∷ []) new.history in All-append P (take i open_ones) (drop (suc i) open_ones) (All-take P i open_ones later) (All-drop P (suc i) open_ones later);
-      each = All-push (Tells limits (xs ++ Finish c ∷ []) new.history) outcomes t
-          (All-weaker _ _ (Tells-later limits xs (Finish c ∷ []) old.history new.history more is) outcomes run.each)
-          (record {
-            work = p.work;
-            asked = work_of-append c xs (Finish c ∷ []) p.work (subst (λ (m : By). work_of m xs ≡ Some p.work) mark open_one.asked);
-            fits = subst (λ (m : By). Fits limits new.history m p.work.command p.work.now outcome.place outcome.own outcome.reply) mark (subst (λ (l : Limits). Fits l new.history p.work.by p.work.command p.work.now outcome.place outcome.own outcome.reply) run.same_limits step.fits);
-            since = step.since;
-          });
-      commits = step.commits ∙ ap (λ (m : By). commits_at old.history ++ own_commit outcome.own outcome.place m) mark ∙ ap (λ l. l ++ own_commit outcome.own outcome.place c) run.commits ∙ flat_map_more (λ (x : Told). own_commit x.outcome.own x.outcome.place x.by) [] outcomes t;
-      begun = let P = OpenAt (xs ++ Finish c ∷ []) (outcomes ++ t ∷ []) in let ahead = All-weaker (OpenAt xs outcomes) P (λ q at. BeganAt-later xs (Finish c ∷ []) outcomes (t ∷ []) q.work.by q.place at) open_ones run.begun in All-append P (take i open_ones) (drop (suc i) open_ones) (All-take P i open_ones ahead) (All-drop P (suc i) open_ones ahead);
-      began = All-push (ToldAt (xs ++ Finish c ∷ []) (outcomes ++ t ∷ [])) outcomes t (All-weaker (ToldAt xs outcomes) (ToldAt (xs ++ Finish c ∷ []) (outcomes ++ t ∷ [])) (λ u at. BeganAt-later xs (Finish c ∷ []) outcomes (t ∷ []) u.by u.began at) outcomes run.began)
-          (BeganAt-later xs (Finish c ∷ []) outcomes (t ∷ []) c p.place (subst (λ (m : By). BeganAt xs outcomes m p.place) mark (subst (OpenAt xs outcomes) (sym value) (run.begun i p is_at.0))));
-      once = λ b. ap (λ (n : ℕ). count_by (opens b) (remove open_ones i) + n) (sum_by_push (λ (x : Told). cond (tells b x) 1 0) outcomes t) ∙ moved (same_by c b) (count_by (opens b) open_ones) (count_by (opens b) (remove open_ones i)) (count_by (tells b) outcomes) _ (of b) (run.once b) ∙ sym (one-finish b c xs);
-      gone = λ b f. moved_gone (same_by c b) (count_by (opens b) open_ones) (count_by (opens b) (remove open_ones i)) (count_by (tells b) outcomes) (one_if_some (work_of b xs)) (of b) (run.once b) (elim (is_finished-finish b c xs f) [ inl q ↦ inl (run.gone b q) | inr q ↦ inr q ]);
-    }
+    go_on limits xs (Finish c) old new open_ones (remove open_ones i) outcomes all step.appends.made (t ∷ []) run kept marked_is refl
+    (omega arith) (All-push (λ (u : Told). u.by ≡ c) [] t (All-nil (λ (u : Told). u.by ≡ c)) refl) (some_given t step.appends.made) tt
+    (All-append P (take i open_ones) (drop (suc i) open_ones) (All-take P i open_ones later) (All-drop P (suc i) open_ones later))
+    (All-push (Tells limits next) outcomes t
+    (All-weaker _ _ (Tells-later limits xs (Finish c ∷ []) run.found (length old.history ∷ []) old.history new.history made outcomes all is) outcomes run.each)
+    (record {
+      work = p.work;
+      asked = work_of-append c xs (Finish c ∷ []) p.work asked;
+      found = place_of-append c xs (Finish c ∷ []) run.found (length old.history ∷ []) p.place (subst (λ (m : By). place_of m xs run.found ≡ Some p.place) mark open_one.found);
+      fits = subst (λ (m : By). Fits limits new.history m p.work.command p.work.now outcome.place outcome.own outcome.reply) mark (subst (λ (l : Limits). Fits l new.history p.work.by p.work.command p.work.now outcome.place outcome.own outcome.reply) run.same_limits step.fits);
+      since = step.since;
+      memory = λ wants. subst (λ (n : History). MayWantMemory n p.work.command) (sym (ap (take p.place) is ∙ take-append-le p.place old.history made (omega (arith, open_one.prepared.at, length-take p.place old.history)))) (ready_wants limits (take p.place old.history) p.work.command p.ready open_one.prepared.is_ready (takes wants));
+      finished = inl (is_finished-now c xs p.work asked);
+    }))
+    (step.appends.commits ∙ ap (λ (m : By). commits_at old.history ++ own_commit outcome.own outcome.place m) mark ∙ ap (λ l. l ++ own_commit outcome.own outcome.place c) run.commits ∙ flat_map_more (λ (x : Told). own_commit x.outcome.own x.outcome.place x.by) [] outcomes t)
+    (λ b. ap (λ (n : ℕ). count_by (opens b) (remove open_ones i) + n) (sum_by_push (λ (x : Told). cond (tells b x) 1 0) outcomes t) ∙ moved (same_by c b) (count_by (opens b) open_ones) (count_by (opens b) (remove open_ones i)) (count_by (tells b) outcomes) _ (of b) (run.once b) ∙ sym (one-finish b c xs))
+    (λ b f. moved_gone (same_by c b) (count_by (opens b) open_ones) (count_by (opens b) (remove open_ones i)) (count_by (tells b) outcomes) (one_if_some (work_of b xs)) (of b) (run.once b) (elim (is_finished-finish b c xs f) [ inl q ↦ inl (run.gone b q) | inr q ↦ inr q ]))
 
 -- work that is open may be finished
 pub AreWaiting-from_run : (limits : Limits) (xs : List Step) (catalog : CatalogView) (open_ones : List Prepared) (outcomes : List Told) → IsRun limits xs catalog open_ones outcomes → AreWaiting catalog open_ones
-AreWaiting-from_run limits xs catalog open_ones outcomes run = All-weaker _ _ (λ (p : Prepared) (o : IsOpen limits xs catalog.history p). subst (λ (l : Limits). IsPrepared l (take p.place catalog.history) p) (sym run.same_limits) o.prepared) open_ones run.waiting
+AreWaiting-from_run limits xs catalog open_ones outcomes run = All-weaker _ _ (λ (p : Prepared) (o : IsOpen limits (moment xs run.found catalog.history outcomes) p). subst (λ (l : Limits). IsPrepared l (take p.place catalog.history) p) (sym run.same_limits) o.prepared) open_ones run.waiting
 
 one_at_least : {X : Type 0} (test : X → Bool) (xs : List X) (i : ℕ) (d : X) → IsAt test xs i → 0 < count_by test xs
 one_at_least {X} test xs i d is_at =
@@ -251,20 +293,28 @@ pub count_by-at : {X : Type 0} (test : X → Bool) (xs : List X) (i : ℕ) → I
 count_by-at test [] i is_at = absurd (omega (arith, is_at.0))
 count_by-at test (x ∷ xs) i is_at = one_at_least test (x ∷ xs) i x is_at
 
--- what a whole run comes to
-pub IsTrace-from_run : (limits : Limits) (xs : List Step) (catalog : CatalogView) (open_ones : List Prepared) (outcomes : List Told) → AreLawful catalog.limits catalog.history → IsRun limits xs catalog open_ones outcomes → IsTrace limits xs catalog outcomes
-IsTrace-from_run limits xs catalog open_ones outcomes sound run = record {
-  sound = subst (λ (l : Limits). AreLawful l catalog.history) run.same_limits sound;
-  each = run.each;
-  began = run.began;
-  commits = run.commits;
-  at_most_once = λ b. few (work_of b xs) (count_by (opens b) open_ones) (count_by (tells b) outcomes) (run.once b);
-  finished = λ b f. all_told (count_by (opens b) open_ones) (count_by (tells b) outcomes) _ (run.once b) (run.gone b f) (is_finished-begun b xs f);
-}
-  where
-    few : (m : Option Work) (o t : ℕ) → o + t ≡ one_if_some m → t ≤ 1
-    few None o t e = omega arith
-    few (Some w) o t e = omega arith
+pub same_refusal : (r s : Refusal) → replies.Refused r ≡ replies.Refused s → r ≡ s
+same_refusal r s e = cc
 
-    all_told : (o t k : ℕ) → o + t ≡ k → o ≡ 0 → k ≡ 1 → t ≡ 1
-    all_told o t k e z one = omega arith
+-- nothing was done yet
+pub IsRun-start : (limits : Limits) (catalog : CatalogView) (open_ones : List Prepared) (outcomes : List Told) → catalog.limits ≡ limits → catalog.history ≡ [] → open_ones ≡ [] → outcomes ≡ [] → IsRun limits [] catalog open_ones outcomes
+IsRun-start limits catalog open_ones outcomes same empty none_open none_told = record {
+  same_limits = same;
+  found = [];
+  counted = refl;
+  runs = ap (λ (h : History). moment [] [] h []) (sym empty) ∙ ap (moment [] [] catalog.history) (sym none_told);
+  waiting = subst (All (IsOpen limits (moment [] [] catalog.history outcomes))) (sym none_open) (All-nil (IsOpen limits (moment [] [] catalog.history outcomes)));
+  each = subst (All (Tells limits (moment [] [] catalog.history outcomes))) (sym none_told) (All-nil (Tells limits (moment [] [] catalog.history outcomes)));
+  commits = ap commits_at empty ∙ ap commits_told (sym none_told);
+  once = λ b. ap (λ (ps : List Prepared). count_by (opens b) ps + count_by (tells b) outcomes) none_open ∙ ap (λ (os : List Told). 0 + count_by (tells b) os) none_told;
+  gone = λ b f. ap (λ (ps : List Prepared). count_by (opens b) ps) none_open;
+}
+
+-- what a whole run comes to
+pub IsTrace-from_run : (limits : Limits) (xs : List Step) (catalog : CatalogView) (open_ones : List Prepared) (outcomes : List Told) → Sound catalog → IsRun limits xs catalog open_ones outcomes → IsTrace limits xs catalog outcomes
+IsTrace-from_run limits xs catalog open_ones outcomes sound run = record {
+  same_limits = run.same_limits;
+  sound = sound;
+  found = run.found;
+  runs = run.runs;
+}

@@ -1,5 +1,5 @@
 -- The reply and the commit that a command is due after a log.
-use Rattle.std.specs.Prelude.{◌≡◌, ◌⊎◌, ◌+◌, ℕ, false, List, [], ◌∷◌, length, Option, Some, None, option_and_then, slice_get, if◌then◌else◌}
+use Rattle.std.specs.Prelude.{◌≡◌, ◌⊎◌, ◌+◌, ℕ, false, List, [], ◌∷◌, length, Option, Some, None, option_and_then, slice_get, nat_lt, if◌then◌else◌}
 use Rattle.std.specs.Option.{option_map}
 use Rattle.kq_value.specs.declared.schema.Field.{Field}
 use Rattle.kq_value.specs.Schema.{same_fields}
@@ -9,7 +9,7 @@ use Rattle.kq_model.specs.declared.limits.Limits.{Limits}
 use Rattle.kq_model.specs.declared.table.Table.{Table}
 use Rattle.kq_model.specs.declared.batch.Batch.{Batch}
 use Rattle.kq_model.specs.History.{Log, tables, table_named, Numbered, table_numbered}
-use Rattle.kq_model.specs.Lawful.{Bar, bar_to_table, bar_to_batch}
+use Rattle.kq_model.specs.Lawful.{Bar, bar_to_table}
 use Rattle.kq_model.specs.Lawful.Bar.{TooWide, Exists, TooMany, TooLong, NoCommits}
 use Rattle.kq_model.specs.Names.{repeat_of}
 use Rattle.kq_command.specs.declared.columns.Column.{Column}
@@ -59,24 +59,19 @@ abbrev pub created : Limits → Log → Identifier → List Column → Option �
 created limits l name columns (Some at) = refused (refusals.Mistyped at)
 created limits l name columns None = created_by limits l name (schema_of columns) (bar_to_table limits l name.text (schema_of columns))
 
--- why the batch that was read can't be put in
-abbrev pub refusal_by : Limits → Bar → Refusal
-refusal_by limits TooWide = refusals.Full limits.columns
-refusal_by limits Exists = refusals.Memory
-refusal_by limits TooMany = refusals.Full limits.tables
-refusal_by limits TooLong = refusals.Full limits.batch
-refusal_by limits NoCommits = refusals.Full limits.commits
-
-abbrev pub put_in : Limits → Log → Batch → Option Bar → Due
-put_in limits l batch None = record { reply = replies.Ingested (length l + 1) (length batch.rows); commit = Some (commits.Ingest (batch ∷ []) []) }
-put_in limits l batch (Some bar) = refused (refusal_by limits bar)
+-- the rows of the batch are too many for one, or no commit is left, or the batch is put in
+abbrev pub put_in : Limits → Log → Batch → Due
+put_in limits l batch =
+    if nat_lt limits.batch (length batch.rows) then refused (refusals.Full limits.batch)
+    else if nat_lt (length l) limits.commits then record { reply = replies.Ingested (length l + 1) (length batch.rows); commit = Some (commits.Ingest (batch ∷ []) []) }
+    else refused (refusals.Full limits.commits)
 
 abbrev pub batch_of : Numbered → List ℕ → Batch
 batch_of found body = record { table = found.number; rows = rows_of found.table.schema false body; tags = [] }
 
 -- the rows that were read are put in
 abbrev pub put_rows : Limits → Log → Numbered → List ℕ → Due
-put_rows limits l found body = put_in limits l (batch_of found body) (bar_to_batch limits l (length (rows_of found.table.schema false body)))
+put_rows limits l found body = put_in limits l (batch_of found body)
 
 -- the body's first fault, or its rows are put in
 abbrev pub ingested : Limits → Log → Numbered → List ℕ → Option IngestFault → Due

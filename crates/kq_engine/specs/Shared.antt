@@ -8,7 +8,7 @@ use Rattle.kq_engine.specs.declared.work.Outcome.{Outcome}
 use Rattle.kq_engine.specs.declared.work.Work.{Work}
 use Rattle.kq_command.specs.declared.command.Command.TheVariants as commands
 use Rattle.kq_command.specs.declared.command.Query.{Query}
-use Rattle.kq_engine.specs.Fits.{Answers, Fits}
+use Rattle.kq_engine.specs.Fits.{Answers, Appends, Fits}
 
 -- which lock it is, and the limits of the catalogue behind it
 pub record SharedView : Type 0 where
@@ -36,28 +36,44 @@ pub record TakesOneOrTwo (old new : List ℕ) (place : ℕ) : Type 0 where
   pub few : length more ≤ 1
   pub since : first ≤ place
 
--- a command went through the pass: its outcome fits what the pass has then seen, at a place not below what it had seen
+-- the call's last take found a history that goes on from what was seen, and what the pass has then seen is that with the call's own event, if it made one
+pub record AppendsLast (limits : Limits) (old new : PassView) (work : Work) (outcome : Outcome) : Type 0 where
+  pub found : History
+  pub begins : IsPrefix old.seen found
+  pub before : List ℕ
+  pub last : new.taken ≡ before ++ length found ∷ []
+  pub appends : Appends limits found new.seen work.by work.command outcome
+
+-- a command went through the pass: it made at most one event, and its outcome fits what the pass has then seen, at a place not below what it had seen
 pub record Applies (limits : Limits) (old new : PassView) (work : Work) (outcome : Outcome) : Type 0 where
   pub of : new.of ≡ old.of
   pub worth : new.worth ≡ old.worth
   pub seen : IsPrefix old.seen new.seen
   pub takes : TakesOneOrTwo old.taken new.taken outcome.place
+  pub last : AppendsLast limits old new work outcome
   pub made : new.made ≡ old.made + made_by outcome.own
   pub fits : Fits limits new.seen work.by work.command work.now outcome.place outcome.own outcome.reply
   pub since : length old.seen ≤ outcome.place
 
--- prepared work was finished under one take
+-- prepared work was finished under one take, which found a history that goes on from what was seen
 pub record Finishes (limits : Limits) (old new : PassView) (work : Work) (outcome : Outcome) : Type 0 where
   pub of : new.of ≡ old.of
   pub worth : new.worth ≡ old.worth
   pub seen : IsPrefix old.seen new.seen
-  pub took : ℕ
-  pub taken : new.taken ≡ old.taken ++ took ∷ []
+  pub found : History
+  pub begins : IsPrefix old.seen found
+  pub taken : new.taken ≡ old.taken ++ length found ∷ []
+  pub appends : Appends limits found new.seen work.by work.command outcome
   pub made : new.made ≡ old.made + made_by outcome.own
   pub fits : Fits limits new.seen work.by work.command work.now outcome.place outcome.own outcome.reply
   pub since : length old.seen ≤ outcome.place
 
--- prepared work was concluded: it was answered already, or finished under one take
+-- the pass's last take found what it has seen
+pub record IsFresh (pass : PassView) : Type 0 where
+  pub before : List ℕ
+  pub last : pass.taken ≡ before ++ length pass.seen ∷ []
+
+-- prepared work was concluded: it was answered already, which takes nothing, or finished under one take
 pub record Concludes (limits : Limits) (old new : PassView) (work : Work) (outcome : Outcome) : Type 0 where
   pub of : new.of ≡ old.of
   pub worth : new.worth ≡ old.worth
@@ -65,6 +81,7 @@ pub record Concludes (limits : Limits) (old new : PassView) (work : Work) (outco
   pub more : List ℕ
   pub few : length more ≤ 1
   pub taken : new.taken ≡ old.taken ++ more
+  pub last : AppendsLast limits old new work outcome
   pub made : new.made ≡ old.made + made_by outcome.own
   pub fits : Fits limits new.seen work.by work.command work.now outcome.place outcome.own outcome.reply
   pub since : length old.seen ≤ outcome.place

@@ -1,18 +1,20 @@
 -- What a list of steps comes to.
-use Rattle.std.specs.Prelude.{◌++◌, ◌≡◌, ◌<◌, slice_index_or, ◌≤◌, ◌+◌, ◌||◌, ℕ, Bool, true, false, List, [], ◌∷◌, length, take, Option, Some, None, All, count_by, if◌then◌else◌}
+use Rattle.std.specs.Prelude.{◌++◌, ◌≡◌, ◌<◌, slice_index_or, ◌≤◌, ◌+◌, ◌||◌, ◌⊎◌, ℕ, Bool, true, false, List, [], ◌∷◌, length, take, Option, Some, None, All, count_by, if◌then◌else◌}
 use Rattle.std.specs.List.{flat_map}
 use Rattle.kq_model.specs.declared.event.By.{By}
+use Rattle.kq_model.specs.declared.event.Operation.{Operation}
 use Rattle.kq_model.specs.declared.limits.Limits.{Limits}
 use Rattle.kq_model.specs.History.{History, CommitAt, commits_at}
-use Rattle.kq_model.specs.Lawful.{AreLawful}
 use Rattle.kq_model.specs.Marks.{same_by}
-use Rattle.kq_catalog.specs.Seen.{CatalogView}
+use Rattle.kq_catalog.specs.Seen.{CatalogView, Sound}
 use Rattle.kq_engine.specs.declared.run.Step.{Step}
 use Rattle.kq_engine.specs.declared.run.Step.TheVariants.{Begin, Finish}
 use Rattle.kq_engine.specs.declared.run.Told.{Told}
 use Rattle.kq_engine.specs.declared.work.Prepared.{Prepared}
 use Rattle.kq_engine.specs.declared.work.Work.{Work}
-use Rattle.kq_engine.specs.Fits.{Fits, IsPrepared, own_commit}
+use Rattle.kq_engine.specs.Fits.{Fits, IsPrepared, MayWantMemory, event_by, own_commit}
+use Rattle.kq_reply.specs.declared.refusal.Refusal.TheVariants as refusals
+use Rattle.kq_reply.specs.declared.reply.Reply.TheVariants as replies
 
 -- the work of a mark's first Begin
 abbrev pub work_of : By → List Step → Option Work
@@ -31,49 +33,95 @@ is_finished b [] = false
 is_finished b (Begin w ∷ steps) = if same_by w.by b then has_finish b steps else is_finished b steps
 is_finished b (Finish c ∷ steps) = is_finished b steps
 
-abbrev pub opens : By → Prepared → Bool
-opens b p = same_by p.work.by b
+-- the place that a mark's first Begin found, out of those that the steps found
+abbrev pub place_of : By → List Step → List ℕ → Option ℕ
+place_of b [] found = None
+place_of b (Begin w ∷ steps) [] = None
+place_of b (Begin w ∷ steps) (place ∷ found) = if same_by w.by b then Some place else place_of b steps found
+place_of b (Finish c ∷ steps) [] = None
+place_of b (Finish c ∷ steps) (place ∷ found) = place_of b steps found
+
+abbrev pub mark_of : Step → By
+mark_of (Begin w) = w.by
+mark_of (Finish b) = b
 
 abbrev pub tells : By → Told → Bool
 tells b t = same_by t.by b
-
--- an outcome fits the history, for the work of its mark's first Begin
-pub record Tells (limits : Limits) (steps : List Step) (h : History) (t : Told) : Type 0 where
-  pub work : Work
-  pub asked : work_of t.by steps ≡ Some work
-  pub fits : Fits limits h t.by work.command work.now t.outcome.place t.outcome.own t.outcome.reply
-  pub since : t.began ≤ t.outcome.place
 
 -- the commits of the outcomes that made one
 abbrev pub commits_told : List Told → List CommitAt
 commits_told = flat_map (λ (t : Told). own_commit t.outcome.own t.outcome.place t.by)
 
--- a mark's first Begin came at this place: after it stand only steps to come, and what was told before it has no later place
-pub record BeganAt (steps : List Step) (outcomes : List Told) (b : By) (began : ℕ) : Type 0 where
-  pub before : List Step
-  pub rest : List Step
+-- a moment of a run: the steps taken, the place of the history that each of them found, the history, and the outcomes in the order of the steps that gave them
+pub record Moment : Type 0 where
+  pub steps : List Step
+  pub found : List ℕ
+  pub history : History
+  pub outcomes : List Told
+
+abbrev pub start : Moment
+start = record { steps = []; found = []; history = []; outcomes = [] }
+
+-- no commit, at the place where its work began
+pub record IsBare (t : Told) : Type 0 where
+  pub not_own : t.outcome.own ≡ false
+  pub place : t.outcome.place ≡ t.began
+
+-- an outcome fits the history, for the work of its mark's first Begin, which found the place `began`; one that no Finish asked for is bare, and want of memory is told only where the command takes memory
+pub record Tells (limits : Limits) (m : Moment) (t : Told) : Type 0 where
   pub work : Work
-  pub splits : steps ≡ before ++ Begin work ∷ rest
-  pub mark : work.by ≡ b
-  pub first : work_of b before ≡ None
-  pub given : ℕ
-  pub within : given ≤ length outcomes
-  pub all_given : (c : By) → is_finished c before ≡ true → count_by (tells c) (take given outcomes) ≡ 1
-  pub at_most : All (λ (t : Told). t.outcome.place ≤ began) (take given outcomes)
+  pub asked : work_of t.by m.steps ≡ Some work
+  pub found : place_of t.by m.steps m.found ≡ Some t.began
+  pub fits : Fits limits m.history t.by work.command work.now t.outcome.place t.outcome.own t.outcome.reply
+  pub since : t.began ≤ t.outcome.place
+  pub memory : t.outcome.reply ≡ replies.Refused refusals.Memory → MayWantMemory (take t.began m.history) work.command
+  pub finished : (is_finished t.by m.steps ≡ true) ⊎ IsBare t
 
--- what a run comes to
+-- what holds at each moment: its commits are those of the outcomes with `own`, no mark has two outcomes, and each that was finished has one
+pub record Accounts (limits : Limits) (m : Moment) : Type 0 where
+  pub each : All (Tells limits m) m.outcomes
+  pub commits : commits_at m.history ≡ commits_told m.outcomes
+  pub at_most_once : (b : By) → count_by (tells b) m.outcomes ≤ 1
+  pub finished : (b : By) → is_finished b m.steps ≡ true → count_by (tells b) m.outcomes ≡ 1
+
+-- a Begin makes no event, and gives nothing where its mark was begun before
+abbrev pub ByStep : List Step → Step → Option Operation → List Told → Type 0
+ByStep before (Begin w) made gave = (made ≡ None) × ((first : Work) → work_of w.by before ≡ Some first → gave ≡ [])
+ByStep before (Finish b) made gave = Unit {0}
+
+-- a step leads to the next moment: it gives at most one outcome and makes at most one event, both of its mark, and no event without an outcome
+pub record Leads (old : Moment) (s : Step) (new : Moment) : Type 0 where
+  pub steps : new.steps ≡ old.steps ++ s ∷ []
+  pub found : new.found ≡ old.found ++ length old.history ∷ []
+  pub made : Option Operation
+  pub history : new.history ≡ old.history ++ event_by (mark_of s) made
+  pub gave : List Told
+  pub outcomes : new.outcomes ≡ old.outcomes ++ gave
+  pub one : length gave ≤ 1
+  pub marked : All (λ (t : Told). t.by ≡ mark_of s) gave
+  pub no_more : gave ≡ [] → made ≡ None
+  pub by_step : ByStep old.steps s made gave
+
+-- these steps lead from one moment to another, and each moment on the way accounts for its steps
+abbrev pub Runs : Limits → Moment → List Step → Moment → Type 0
+Runs limits old [] new = old ≡ new
+Runs limits old (s ∷ steps) new = (next : Moment) × Leads old s next × Accounts limits next × Runs limits next steps new
+
+-- what a run comes to: a sound catalogue with the limits that were given, and the outcomes to which the steps lead from nothing
 pub record IsTrace (limits : Limits) (steps : List Step) (catalog : CatalogView) (outcomes : List Told) : Type 0 where
-  pub sound : AreLawful limits catalog.history
-  pub each : All (Tells limits steps catalog.history) outcomes
-  pub began : All (λ (t : Told). BeganAt steps outcomes t.by t.began) outcomes
-  pub commits : commits_at catalog.history ≡ commits_told outcomes
-  pub at_most_once : (b : By) → count_by (tells b) outcomes ≤ 1
-  pub finished : (b : By) → is_finished b steps ≡ true → count_by (tells b) outcomes ≡ 1
+  pub same_limits : catalog.limits ≡ limits
+  pub sound : Sound catalog
+  pub found : List ℕ
+  pub runs : Runs limits start steps (record { steps = steps; found = found; history = catalog.history; outcomes = outcomes })
 
--- prepared on a beginning of this history, for the work of its mark's first Begin
-pub record IsOpen (limits : Limits) (steps : List Step) (h : History) (p : Prepared) : Type 0 where
-  pub prepared : IsPrepared limits (take p.place h) p
-  pub asked : work_of p.work.by steps ≡ Some p.work
+abbrev pub opens : By → Prepared → Bool
+opens b p = same_by p.work.by b
+
+-- prepared on a beginning of this history, for the work of its mark's first Begin, which found this place
+pub record IsOpen (limits : Limits) (m : Moment) (p : Prepared) : Type 0 where
+  pub prepared : IsPrepared limits (take p.place m.history) p
+  pub asked : work_of p.work.by m.steps ≡ Some p.work
+  pub found : place_of p.work.by m.steps m.found ≡ Some p.place
 
 -- the prepared work may be finished on this catalogue
 abbrev pub AreWaiting : CatalogView → List Prepared → Type 0
@@ -87,13 +135,14 @@ abbrev pub one_if_some : Option Work → ℕ
 one_if_some None = 0
 one_if_some (Some w) = 1
 
--- what holds while a run goes on
+-- what holds while a run goes on: a mark that was begun has its work waiting or an outcome, and none that was finished waits
 pub record IsRun (limits : Limits) (steps : List Step) (catalog : CatalogView) (open_ones : List Prepared) (outcomes : List Told) : Type 0 where
   pub same_limits : catalog.limits ≡ limits
-  pub waiting : All (IsOpen limits steps catalog.history) open_ones
-  pub begun : All (λ (p : Prepared). BeganAt steps outcomes p.work.by p.place) open_ones
-  pub each : All (Tells limits steps catalog.history) outcomes
-  pub began : All (λ (t : Told). BeganAt steps outcomes t.by t.began) outcomes
+  pub found : List ℕ
+  pub counted : length found ≡ length steps
+  pub runs : Runs limits start steps (record { steps = steps; found = found; history = catalog.history; outcomes = outcomes })
+  pub waiting : All (IsOpen limits (record { steps = steps; found = found; history = catalog.history; outcomes = outcomes })) open_ones
+  pub each : All (Tells limits (record { steps = steps; found = found; history = catalog.history; outcomes = outcomes })) outcomes
   pub commits : commits_at catalog.history ≡ commits_told outcomes
   pub once : (b : By) → count_by (opens b) open_ones + count_by (tells b) outcomes ≡ one_if_some (work_of b steps)
   pub gone : (b : By) → is_finished b steps ≡ true → count_by (opens b) open_ones ≡ 0

@@ -1,10 +1,12 @@
 // What a command does to the catalogue.
-ghost use Rattle.std.specs.Prelude.{◌≡◌, take};
+ghost use Rattle.std.specs.Prelude.{◌≡◌, None, take};
 ghost use Rattle.kq_command.specs.declared.command.Command.TheVariants as commands;
 ghost use Rattle.kq_model.specs.History.{log, tables, table_named};
 ghost use Rattle.kq_catalog.specs.Seen.{hist};
-ghost use Rattle.kq_engine.specs.Accept.{kept_at};
-ghost use Rattle.kq_engine.specs.Fits.{IsPrepared, IsPending, IsRead, Acts, Advances, outcome_of};
+ghost use Rattle.kq_engine.specs.Accept.{kept_at, repeated_place as place_of_repeat};
+ghost use Rattle.kq_engine.specs.Fits.{IsPrepared, IsPending, IsRead, Acts, Advances, TakesToDecide, TakesToFinish, outcome_of};
+ghost use Rattle.kq_reply.specs.declared.refusal.Refusal.TheVariants as refusals;
+ghost use Rattle.kq_reply.specs.declared.reply.Reply.TheVariants as replies;
 
 use crate::on_snapshot::repeated_place;
 use crate::work::{Outcome, Prepared, Ready, Work};
@@ -15,11 +17,12 @@ use kq_reply::{Refusal, Reply};
 use kq_value::{Schema, Text};
 
 /// Makes at most one event. What is due is decided on the catalogue as it stands; a refusal makes no event, and its
-/// place is the catalogue's.
+/// place is the catalogue's. Want of memory is told of rows that were read, or of a table whose columns don't repeat.
 pub fn finish(catalog: &mut Catalog, prepared: Prepared) -> Result<Outcome, Refusal>
     requires { IsPrepared catalog.old.limits (take prepared.place (hist catalog.old)) prepared }
     ensures limits { catalog.new.limits ≡ catalog.old.limits }
     ensures step { Advances catalog.old.limits (hist catalog.old) (hist catalog.new) prepared.work prepared.place (outcome_of (hist catalog.new) result) }
+    ensures memory { (outcome_of (hist catalog.new) result).reply ≡ replies.Refused refusals.Memory → TakesToFinish prepared.work.command prepared.ready }
 {
     let Prepared { work, place, ready } = prepared;
     match ready {
@@ -55,7 +58,8 @@ fn ingest(catalog: &mut Catalog, work: &Work, batch: Batch) -> Result<Outcome, R
             })
         }
         Err(CatalogFault::Full { limit }) => Err(Refusal::Full { limit }),
-        Err(CatalogFault::Exists | CatalogFault::Memory) => Err(Refusal::Memory),
+        Err(CatalogFault::Memory) => Err(Refusal::Memory),
+        Err(CatalogFault::Exists) => unreachable!(),
     }
 }
 
@@ -63,6 +67,7 @@ fn commit(catalog: &mut Catalog, work: &Work) -> Result<Outcome, Refusal>
     requires { IsPending work.now.command }
     ensures limits { catalog.new.limits ≡ catalog.old.limits }
     ensures acts { Acts catalog.old.limits (hist catalog.old) (hist catalog.new) work.entry.now.by work.entry.now.command (outcome_of (hist catalog.new) result) }
+    ensures memory { (outcome_of (hist catalog.new) result).reply ≡ replies.Refused refusals.Memory → TakesToDecide work.entry.now.command }
 {
     match &work.command {
         Command::CreateTable { name, columns } => create(catalog, work.by, name, columns),
@@ -79,6 +84,7 @@ fn create(
 ) -> Result<Outcome, Refusal>
     ensures limits { catalog.new.limits ≡ catalog.old.limits }
     ensures acts { Acts catalog.old.limits (hist catalog.old) (hist catalog.new) by (commands.CreateTable name.now columns.now) (outcome_of (hist catalog.new) result) }
+    ensures memory { (outcome_of (hist catalog.new) result).reply ≡ replies.Refused refusals.Memory → place_of_repeat columns.now ≡ None }
 {
     if let Some(at) = repeated_place(columns) {
         return Err(Refusal::Mistyped { at });

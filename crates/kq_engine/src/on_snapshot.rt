@@ -3,7 +3,9 @@ ghost use Rattle.std.specs.Prelude.{◌≡◌, IfOk, IfErr, false};
 ghost use Rattle.kq_model.specs.declared.limits.Limits.{Limits as Bounds};
 ghost use Rattle.kq_command.specs.declared.command.Command.TheVariants as commands;
 ghost use Rattle.kq_engine.specs.Accept.{repeated_place as place_of_repeat};
-ghost use Rattle.kq_engine.specs.Fits.{Answers, Begins, FitsNow, IsBatch, IsReady};
+ghost use Rattle.kq_engine.specs.Fits.{Answers, Begins, FitsNow, IsBatch, IsReady, TakesMemory, TakesRows};
+ghost use Rattle.kq_model.specs.History.{log, tables, table_numbered};
+ghost use Rattle.kq_reply.specs.declared.refusal.Refusal.TheVariants as refusals;
 ghost use Rattle.kq_reply.specs.declared.reply.Reply.TheVariants as replies;
 
 use crate::query::answer;
@@ -15,11 +17,13 @@ use kq_model::Batch;
 use kq_reply::Refusal;
 use kq_value::{Bytes, Tags};
 
-/// Prepares the work on the snapshot. A refusal is what the snapshot's history gives, and its place is the snapshot's.
-/// A query is answered here, and the rows of an ingestion are read here.
+/// Prepares the work on the snapshot. A refusal is what the snapshot's history gives, or want of memory where the
+/// command takes some here; its place is the snapshot's. A query is answered here, and the rows of an ingestion are
+/// read here.
 pub fn begin(snapshot: &Snapshot, work: Work) -> Result<Prepared, Refusal>
     ensures prepared { IfOk result (Begins snapshot.now.limits snapshot.now.history work) }
     ensures refused { IfErr result (λ r. FitsNow snapshot.now.limits snapshot.now.history work.by work.command work.now false (replies.Refused r)) }
+    ensures memory { IfErr result (λ r. r ≡ refusals.Memory → TakesMemory snapshot.now.history work.command) }
 {
     let ready = prepare(snapshot, &work.command)?;
     Ok(Prepared {
@@ -32,6 +36,7 @@ pub fn begin(snapshot: &Snapshot, work: Work) -> Result<Prepared, Refusal>
 fn prepare(snapshot: &Snapshot, command: &Command) -> Result<Ready, Refusal>
     ensures ready { IfOk result (IsReady snapshot.now.limits snapshot.now.history command.now) }
     ensures refused { IfErr result (λ r. Answers snapshot.now.limits snapshot.now.history command.now (replies.Refused r)) }
+    ensures memory { IfErr result (λ r. r ≡ refusals.Memory → TakesMemory snapshot.now.history command.now) }
 {
     match command {
         Command::CreateTable { name: _, columns } => match repeated_place(columns) {
@@ -48,6 +53,7 @@ fn prepare(snapshot: &Snapshot, command: &Command) -> Result<Ready, Refusal>
 fn read(snapshot: &Snapshot, table: &Identifier, body: &Bytes) -> Result<Batch, Refusal>
     ensures batch { IfOk result (IsBatch snapshot.now.limits snapshot.now.history table.now body.now) }
     ensures refused { IfErr result (λ r. Answers snapshot.now.limits snapshot.now.history (commands.Ingest table.now body.now) (replies.Refused r)) }
+    ensures memory { IfErr result (λ r. r ≡ refusals.Memory → TakesRows (table_numbered table.now.text (tables (log snapshot.now.history)))) }
 {
     let Some((number, found)) = snapshot.table(&table.text) else {
         return Err(Refusal::Unknown {

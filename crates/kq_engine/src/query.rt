@@ -5,12 +5,13 @@ ghost use Rattle.kq_extent.specs.Seen.{row_of};
 ghost use Rattle.kq_model.specs.Gives.{count_columns};
 ghost use Rattle.kq_command.specs.declared.command.Command.TheVariants as commands;
 ghost use Rattle.kq_catalog.specs.Held.{records_in};
+ghost use Rattle.kq_reply.specs.declared.refusal.Refusal.TheVariants as refusals;
 ghost use Rattle.kq_reply.specs.declared.reply.Reply.TheVariants as replies;
 ghost use Rattle.std.specs.List.{slice_get};
 ghost use Rattle.kq_value.specs.Typed.{HasTypes};
-ghost use Rattle.kq_model.specs.History.{log, tables};
-ghost use Rattle.kq_engine.specs.Fits.{Answers};
-ghost use Rattle.kq_engine.specs.Queries.{Gives};
+ghost use Rattle.kq_model.specs.History.{log, tables, table_numbered};
+ghost use Rattle.kq_engine.specs.Fits.{Answers, TakesAnswer};
+ghost use Rattle.kq_engine.specs.Queries.{AnswersQuery, Gives};
 
 use kq_catalog::Snapshot;
 use kq_command::Query;
@@ -22,8 +23,9 @@ use std::alloc::Global;
 
 /// The answer to a query, from the snapshot alone.
 pub(crate) fn answer(snapshot: &Snapshot, query: &Query) -> Result<Reply, Refusal>
-    ensures answer { IfOk result (Answers snapshot.now.limits snapshot.now.history (commands.Query query.now)) }
+    ensures answer { IfOk result (AnswersQuery snapshot.now.history query.now) }
     ensures refused { IfErr result (λ r. Answers snapshot.now.limits snapshot.now.history (commands.Query query.now) (replies.Refused r)) }
+    ensures memory { IfErr result (λ r. r ≡ refusals.Memory → TakesAnswer (table_numbered query.now.table.text (tables (log snapshot.now.history)))) }
 {
     let Some((number, table)) = snapshot.table(&query.table.text) else {
         return Err(Refusal::Unknown {

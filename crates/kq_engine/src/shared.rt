@@ -6,7 +6,7 @@ ghost use Rattle.kq_model.specs.History.{cursor};
 ghost use Rattle.kq_catalog.specs.Seen.{hist};
 ghost use Rattle.kq_reply.specs.declared.reply.Reply.TheVariants as replies;
 ghost use Rattle.kq_engine.specs.Fits.{IsPrepared};
-ghost use Rattle.kq_engine.specs.Shared.{Applies, Concludes, Finishes, Queries};
+ghost use Rattle.kq_engine.specs.Shared.{Applies, Concludes, Finishes, IsFresh, Queries};
 
 use crate::on_catalog::{finish, told};
 use crate::on_snapshot::begin;
@@ -198,6 +198,7 @@ impl Shared {
         gate: &G,
     ) -> Outcome
         requires of { pass.old.of ≡ self.now.turn }
+        requires fresh { IsFresh pass.old }
         requires prepared { IsPrepared self.now.limits pass.old.seen prepared }
         ensures { Concludes self.now.limits pass.old pass.new prepared.work result }
     {

@@ -1,11 +1,12 @@
-use Rattle.std.proofs.Common.{subst, arith, ◌∙◌, false}
+use Rattle.std.proofs.Common.{◌≡◌, subst, arith, ◌∙◌, false}
 use Rattle.kq_model.specs.declared.limits.Limits.{Limits}
 use Rattle.kq_model.specs.History.{History}
+use Rattle.kq_reply.specs.declared.refusal.Refusal.TheVariants as refusals
 use Rattle.kq_reply.specs.declared.reply.Reply.TheVariants as replies
 use Rattle.kq_engine.specs.declared.work.Work.{Work}
-use Rattle.kq_engine.specs.Fits.{IsPrepared, FitsNow}
+use Rattle.kq_engine.specs.Fits.{IsPrepared, FitsNow, TakesMemory}
 use Rattle.kq_engine.specs.Steps.{opens, tells}
-use Rattle.kq_engine.proofs.Running.{skip_begin, begin_open, begin_refused, count_by-at}
+use Rattle.kq_engine.proofs.Running.{skip_begin, begin_open, begin_refused, count_by-at, same_refusal}
 use Rattle.kq_engine.proofs.run.begin_one.Goals as goal
 
 pub returns-in-Some : goal.returns-in-Some
@@ -37,5 +38,6 @@ returns c = λ limits done run.
     let refused = c.in-Err.ensures.refused in
     let of_work = subst (λ (w : Work). FitsNow c.in_ok-snapshot.snapshot.limits c.in_ok-snapshot.snapshot.history w.by w.command w.now false reply) c.in_ok-clone_in.ensures refused in
     let here = subst (λ (h : History). FitsNow catalog.limits h c.args.work.now.by c.args.work.now.command c.args.work.now.now false reply) c.in_ok-snapshot.ensures.history (subst (λ (l : Limits). FitsNow l c.in_ok-snapshot.snapshot.history c.args.work.now.by c.args.work.now.command c.args.work.now.now false reply) c.in_ok-snapshot.ensures.limits of_work) in
+    let takes = λ (e : reply ≡ replies.Refused refusals.Memory). subst (λ (h : History). TakesMemory h c.args.work.now.command) c.in_ok-snapshot.ensures.history (subst (λ (w : Work). TakesMemory c.in_ok-snapshot.snapshot.history w.command) c.in_ok-clone_in.ensures (c.in-Err.ensures.memory (same_refusal c.in-Err.refusal refusals.Memory e))) in
     rw c.in_ok-push-in-Err.ensures.items
-    (begin_refused limits done c.args.work.now catalog c.args.running.now.waiting.items c.args.running.now.outcomes.items c.place-began.result reply none_open none_told (cc (c.place-began.ensures, c.in_ok-snapshot.ensures.history)) here run)
+    (begin_refused limits done c.args.work.now catalog c.args.running.now.waiting.items c.args.running.now.outcomes.items c.place-began.result reply none_open none_told (cc (c.place-began.ensures, c.in_ok-snapshot.ensures.history)) here takes run)

@@ -9,7 +9,7 @@ use Rattle.kq_catalog.proofs.catalog.Catalog.table.Goals as goal
 pub returns-in_err-_number : goal.returns-in_err-_number
 returns-in_err-_number c =
     let ts = tables (log (hist c.args.self.now)) in
-    let same : map arc_value c.self.inside.tables.items ≡ ts = c.self.invariant.table_list ∙ ap (λ (v : CatalogView). tables (log v.history)) c.self.view_is in
+    let same : map arc_value c.self.inside.tables.items ≡ ts = c.self.invariant.holds.table_list ∙ ap (λ (v : CatalogView). tables (log v.history)) c.self.view_is in
     let none : table_numbered c.args.name.now (map arc_value c.self.inside.tables.items) ≡ None = rw c.as_slice.ensures.value at c.in_err-_number.ensures in
     let there : None ≡ table_named c.args.name.now ts = sym (table_numbered-named c.args.name.now ts ∙ ap (option_map (λ (n : Numbered). n.table)) (sym (ap (table_numbered c.args.name.now) same) ∙ none)) in
     let empty : option_copied c.from_residual.result ≡ None = search rules in
@@ -18,6 +18,6 @@ returns-in_err-_number c =
 pub returns : goal.returns
 returns c =
     let ts = tables (log (hist c.args.self.now)) in
-    let same : map arc_value c.self.inside.tables.items ≡ ts = c.self.invariant.table_list ∙ ap (λ (v : CatalogView). tables (log v.history)) c.self.view_is in
+    let same : map arc_value c.self.inside.tables.items ≡ ts = c.self.invariant.holds.table_list ∙ ap (λ (v : CatalogView). tables (log v.history)) c.self.view_is in
     let found : table_numbered c.args.name.now (map arc_value c.self.inside.tables.items) ≡ Some (record { number = c.in_ok-_number._number; table = c.in_ok-_number.table.now }) = rw c.as_slice.ensures.value at c.in_ok-_number.ensures in
     sym (table_numbered-named c.args.name.now ts ∙ ap (option_map (λ (n : Numbered). n.table)) (sym (ap (table_numbered c.args.name.now) same) ∙ found))

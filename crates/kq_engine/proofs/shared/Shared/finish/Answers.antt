@@ -6,7 +6,7 @@ use Rattle.kq_model.specs.declared.limits.Limits.{Limits}
 use Rattle.kq_catalog.specs.Grown.{numbers_of}
 use Rattle.kq_catalog.proofs.Grown.{same_limits}
 use Rattle.kq_engine.specs.declared.work.Outcome.{Outcome}
-use Rattle.kq_engine.specs.Fits.{Advances, IsPrepared}
+use Rattle.kq_engine.specs.Fits.{Advances, IsPrepared, event_by}
 use Rattle.kq_engine.proofs.Sharing.{Finishes-step}
 use Rattle.kq_engine.proofs.shared.Shared.finish.Goals as goal
 
@@ -19,6 +19,11 @@ finish-answer-requires g c =
     let first : take c.args.prepared.place (hist taken) ≡ pass.seen = ap (λ (n : ℕ). take n (hist taken)) prepared.at ∙ take-IsPrefix pass.seen (hist taken) c.take-catalog.ensures.seen in
     subst (λ (l : Limits). IsPrepared l (take c.args.prepared.place (hist taken)) c.args.prepared) (sym (same_limits _ _ fixed))
     (subst (λ (h : History). IsPrepared c.args.self.now.limits h c.args.prepared) (sym first) prepared)
+
+pub give-requires-clause-begins : goal.give-requires-clause-begins
+give-requires-clause-begins g c =
+    let appends = c.finish-answer.ensures.step.appends in
+    rw c.take-catalog.ensures.pass (event_by c.args.prepared.work.by appends.made, sym appends.appended)
 
 pub returns : goal.returns
 returns g c =
