@@ -1,4 +1,5 @@
 mod Asking
+mod Completing
 mod Opening
 mod Running
 mod Serving

@@ -1,7 +1,6 @@
 -- Sessions that were served together.
-use Rattle.std.proofs.Common.{◌≡◌, ◌≤◌, ◌+◌, ◌-◌, ℕ, List, [], ◌∷◌, ◌++◌, length, map, refl, ap, sym, ◌∙◌, subst, arith, add-zero, zero-add}
+use Rattle.std.proofs.Common.{◌≡◌, ◌≤◌, ◌+◌, ◌-◌, ℕ, List, [], ◌∷◌, ◌++◌, length, refl, ap, sym, ◌∙◌, subst, arith, add-zero, zero-add}
 use Rattle.std.proofs.lemmas.List.Sums.{sum_by-append}
-use Rattle.std.proofs.lemmas.List.{length-map, map_push}
 use mathlib.Core.List.{IsPrefix}
 use Rattle.kq_turn.specs.Passes.{TurnId}
 use Rattle.kq_turn.proofs.Beginnings.{IsPrefix-trans}
@@ -10,24 +9,24 @@ use Rattle.kq_model.specs.History.{History}
 use Rattle.kq_engine.specs.Shared.{PassView}
 use Rattle.kq_session.specs.Session.{owns}
 use Rattle.kq_session.proofs.Serving.{Explained-later}
-use Rattle.kq_console.specs.Headline.{SessionView}
-use Rattle.kq_console.specs.Together.{OpenedView, IsServed, AreServed, ServedOne, ServedAll}
+use Rattle.kq_console.specs.Together.{IsServed, AreServed, ServedOne, ServedAll}
+use Rattle.kq_console.specs.Views.{OpenedView, EndedView}
 
-IsServed-later : (limits : Limits) (h new : History) (actor : ℕ) (o : OpenedView) (s : SessionView) → IsPrefix h new → IsServed limits h actor o s → IsServed limits new actor o s
+IsServed-later : (limits : Limits) (h new : History) (actor : ℕ) (o : OpenedView) (s : EndedView) → IsPrefix h new → IsServed limits h actor o s → IsServed limits new actor o s
 IsServed-later limits h new actor o s later served = record {
   named = served.named;
-  explained = Explained-later limits h new actor o.contents s.contents s.receipts s.status later served.explained;
+  explained = Explained-later limits h new actor o.objects.contents s.session later served.explained;
   source = served.source;
   sink = served.sink;
 }
 
-pub AreServed-later : (limits : Limits) (h new : History) (n : ℕ) (os : List OpenedView) (ss : List SessionView) → IsPrefix h new → AreServed limits h n os ss → AreServed limits new n os ss
+pub AreServed-later : (limits : Limits) (h new : History) (n : ℕ) (os : List OpenedView) (ss : List EndedView) → IsPrefix h new → AreServed limits h n os ss → AreServed limits new n os ss
 AreServed-later limits h new n [] [] later served = tt
 AreServed-later limits h new n [] (s ∷ ss) later served = absurd served
 AreServed-later limits h new n (o ∷ os) [] later served = absurd served
 AreServed-later limits h new n (o ∷ os) (s ∷ ss) later served = (IsServed-later limits h new n o s later served.0, AreServed-later limits h new (n + 1) os ss later served.1)
 
-AreServed-push : (limits : Limits) (h : History) (n : ℕ) (os : List OpenedView) (ss : List SessionView) (o : OpenedView) (s : SessionView) → AreServed limits h n os ss → IsServed limits h (n + length os) o s → AreServed limits h n (os ++ o ∷ []) (ss ++ s ∷ [])
+AreServed-push : (limits : Limits) (h : History) (n : ℕ) (os : List OpenedView) (ss : List EndedView) (o : OpenedView) (s : EndedView) → AreServed limits h n os ss → IsServed limits h (n + length os) o s → AreServed limits h n (os ++ o ∷ []) (ss ++ s ∷ [])
 AreServed-push limits h n [] [] o s served last = (subst (λ (k : ℕ). IsServed limits h k o s) (add-zero n) last, tt)
 AreServed-push limits h n [] (x ∷ ss) o s served last = absurd served
 AreServed-push limits h n (p ∷ os) [] o s served last = absurd served
@@ -36,11 +35,11 @@ AreServed-push limits h n (p ∷ os) (x ∷ ss) o s served last =
     (served.0, AreServed-push limits h (n + 1) os ss o s served.1 (subst (λ (k : ℕ). IsServed limits h k o s) same last))
 
 -- session 0 alone
-pub ServedAll-first : (limits : Limits) (old new : PassView) (o : OpenedView) (s : SessionView) → ServedOne limits old new 0 o s → ServedAll limits old new (o ∷ []) (s ∷ [])
+pub ServedAll-first : (limits : Limits) (old new : PassView) (o : OpenedView) (s : EndedView) → ServedOne limits old new 0 o s → ServedAll limits old new (o ∷ []) (s ∷ [])
 ServedAll-first limits old new o s one = record { passed = one.passed; served = (one.served, tt) }
 
 -- one session more, beside the others
-pub ServedAll-push : (limits : Limits) (of : TurnId) (old rest mine rest' mine' joined : PassView) (os : List OpenedView) (ss : List SessionView) (o : OpenedView) (s : SessionView) (actor : ℕ)
+pub ServedAll-push : (limits : Limits) (of : TurnId) (old rest mine rest' mine' joined : PassView) (os : List OpenedView) (ss : List EndedView) (o : OpenedView) (s : EndedView) (actor : ℕ)
     → old.of ≡ of → 2 ≤ old.worth → rest ≡ record old { worth = old.worth - 1 } → mine ≡ record old { worth = 1; made = 0; taken = [] }
     → ServedAll limits rest rest' os ss → ServedOne limits mine mine' actor o s → actor ≡ length os
     → joined.of ≡ of → IsPrefix rest'.seen joined.seen → IsPrefix mine'.seen joined.seen → joined.worth ≡ rest'.worth + mine'.worth → joined.made ≡ rest'.made + mine'.made
@@ -51,7 +50,7 @@ ServedAll-push limits of old rest mine rest' mine' joined os ss o s actor of_old
     let rest_made = ap (λ (p : PassView). p.made) is_rest in
     let mine_worth = ap (λ (p : PassView). p.worth) is_mine in
     let mine_made = ap (λ (p : PassView). p.made) is_mine in
-    let total = sum_by-append (λ (x : SessionView). owns x.receipts) ss (s ∷ []) in
+    let total = sum_by-append (λ (x : EndedView). owns x.session.receipts) ss (s ∷ []) in
     record {
       passed = record {
         of = of_joined ∙ sym of_old;
@@ -64,26 +63,25 @@ ServedAll-push limits of old rest mine rest' mine' joined os ss o s actor of_old
     }
 
 -- there are as many sessions as there were before
-pub AreServed-length : (limits : Limits) (h : History) (n : ℕ) (os : List OpenedView) (ss : List SessionView) → AreServed limits h n os ss → length ss ≡ length os
+pub AreServed-length : (limits : Limits) (h : History) (n : ℕ) (os : List OpenedView) (ss : List EndedView) → AreServed limits h n os ss → length ss ≡ length os
 AreServed-length limits h n [] [] served = refl
 AreServed-length limits h n [] (s ∷ ss) served = absurd served
 AreServed-length limits h n (o ∷ os) [] served = absurd served
 AreServed-length limits h n (o ∷ os) (s ∷ ss) served = let rest = AreServed-length limits h (n + 1) os ss served.1 in omega (arith, rest)
 
-pub served_count : {X Y : Type 0} (f : X → OpenedView) (g : Y → SessionView) (limits : Limits) (old new : PassView) (o : OpenedView) (feeds : List X) (ss : List Y) → ServedAll limits old new (o ∷ map f feeds) (map g ss) → length ss ≡ length feeds + 1
-served_count f g limits old new o feeds ss all =
-    let same = AreServed-length limits new.seen 0 (o ∷ map f feeds) (map g ss) all.served in
-    omega (arith, same, length-map ss g, length-map feeds f)
+pub served_count : (limits : Limits) (old new : PassView) (o : OpenedView) (feeds : List OpenedView) (ss : List EndedView) → ServedAll limits old new (o ∷ feeds) ss → length ss ≡ length feeds + 1
+served_count limits old new o feeds ss all =
+    let same = AreServed-length limits new.seen 0 (o ∷ feeds) ss all.served in
+    omega (arith, same)
 
-pub ServedAll-more : {X Y : Type 0} (f : X → OpenedView) (g : Y → SessionView) (limits : Limits) (of : TurnId) (old rest mine rest' mine' joined : PassView) (o o' : OpenedView) (e : SessionView) (last : X) (whole feeds : List X) (sessions ss : List Y) (s : Y) (actor : ℕ)
-    → whole ≡ feeds ++ last ∷ [] → sessions ≡ ss ++ s ∷ []
+pub ServedAll-more : (limits : Limits) (of : TurnId) (old rest mine rest' mine' joined : PassView) (o last : OpenedView) (whole feeds : List OpenedView) (sessions ss : List EndedView) (e : EndedView) (actor : ℕ)
+    → whole ≡ feeds ++ last ∷ [] → sessions ≡ ss ++ e ∷ []
     → old.of ≡ of → 2 ≤ old.worth → rest ≡ record old { worth = old.worth - 1 } → mine ≡ record old { worth = 1; made = 0; taken = [] }
-    → ServedAll limits rest rest' (o ∷ map f feeds) (map g ss) → ServedOne limits mine mine' actor o' e → actor ≡ length feeds + 1
+    → ServedAll limits rest rest' (o ∷ feeds) ss → ServedOne limits mine mine' actor last e → actor ≡ length feeds + 1
     → joined.of ≡ of → IsPrefix rest'.seen joined.seen → IsPrefix mine'.seen joined.seen → joined.worth ≡ rest'.worth + mine'.worth → joined.made ≡ rest'.made + mine'.made
-    → f last ≡ o' → g s ≡ e → ServedAll limits old joined (o ∷ map f whole) (map g sessions)
-ServedAll-more f g limits of old rest mine rest' mine' joined o o' e last whole feeds sessions ss s actor is_whole is_sessions of_old some is_rest is_mine others one is_last of_joined first_seen second_seen worth made is_o is_e =
-    let os : o ∷ map f whole ≡ (o ∷ map f feeds) ++ o' ∷ [] = ap (λ (l : List OpenedView). o ∷ l) (ap (map f) is_whole ∙ map_push f feeds last ∙ ap (λ (x : OpenedView). map f feeds ++ x ∷ []) is_o) in
-    let same : map g sessions ≡ map g ss ++ e ∷ [] = ap (map g) is_sessions ∙ map_push g ss s ∙ ap (λ (x : SessionView). map g ss ++ x ∷ []) is_e in
-    let count : actor ≡ length (o ∷ map f feeds) = omega (arith, is_last, length-map feeds f) in
-    let all = ServedAll-push limits of old rest mine rest' mine' joined (o ∷ map f feeds) (map g ss) o' e actor of_old some is_rest is_mine others one count of_joined first_seen second_seen worth made in
-    subst (λ (l : List OpenedView). ServedAll limits old joined l (map g sessions)) (sym os) (subst (ServedAll limits old joined ((o ∷ map f feeds) ++ o' ∷ [])) (sym same) all)
+    → ServedAll limits old joined (o ∷ whole) sessions
+ServedAll-more limits of old rest mine rest' mine' joined o last whole feeds sessions ss e actor is_whole is_sessions of_old some is_rest is_mine others one is_last of_joined first_seen second_seen worth made =
+    let os : o ∷ whole ≡ (o ∷ feeds) ++ last ∷ [] = ap (λ (l : List OpenedView). o ∷ l) is_whole in
+    let count : actor ≡ length (o ∷ feeds) = omega (arith, is_last) in
+    let all = ServedAll-push limits of old rest mine rest' mine' joined (o ∷ feeds) ss last e actor of_old some is_rest is_mine others one count of_joined first_seen second_seen worth made in
+    subst (λ (l : List OpenedView). ServedAll limits old joined l sessions) (sym os) (subst (ServedAll limits old joined ((o ∷ feeds) ++ last ∷ [])) (sym is_sessions) all)

@@ -12,8 +12,9 @@ use Rattle.kq_engine.proofs.Owning.{IsIn, IsRising, commits_at-rising}
 use Rattle.kq_session.specs.declared.receipt.Receipt.{Receipt}
 use Rattle.kq_session.specs.Session.{owns, own_commits}
 use Rattle.kq_session.proofs.Owned.{Follows, AreIn, AreOwned, Explained-owned}
-use Rattle.kq_console.specs.Headline.{SessionView, Whole, AreOwn}
-use Rattle.kq_console.specs.Together.{OpenedView, AreServed, all_owns}
+use Rattle.kq_console.specs.Together.{AreServed, all_owns}
+use Rattle.kq_console.specs.Views.{OpenedView, EndedView}
+use Rattle.kq_console.specs.Whole.{Whole, AreOwn}
 
 rising_above : (q : ℕ) (ms : List CommitAt) (x : CommitAt) → IsRising q ms → IsIn x ms → q < x.place
 rising_above q [] x rising here = absurd here
@@ -193,34 +194,34 @@ none_from n (m ∷ ms) e =
     below false is zero = grind (arith, nat_tests, is)
 
 -- from the n-th session on, each one's receipts with `own` are commits of the history
-abbrev AllOwned : History → ℕ → List SessionView → Type 0
+abbrev AllOwned : History → ℕ → List EndedView → Type 0
 AllOwned h n [] = Unit {0}
-AllOwned h n (s ∷ ss) = AreOwned 0 0 (commits_at h) (own_commits n s.receipts) × AllOwned h (n + 1) ss
+AllOwned h n (s ∷ ss) = AreOwned 0 0 (commits_at h) (own_commits n s.session.receipts) × AllOwned h (n + 1) ss
 
-owned_few : (h : History) (n : ℕ) (ss : List SessionView) → AllOwned h n ss → all_owns ss ≤ length (filter (is_from n) (commits_at h))
+owned_few : (h : History) (n : ℕ) (ss : List EndedView) → AllOwned h n ss → all_owns ss ≤ length (filter (is_from n) (commits_at h))
 owned_few h n [] owned = omega arith
 owned_few h n (s ∷ ss) owned = omega (
   arith,
   owned_few h (n + 1) ss owned.1,
   split_from n (commits_at h),
-  (own_within h n s.receipts owned.0).short,
-  length-own_commits n s.receipts,
-  sum_by-cons (λ (x : SessionView). owns x.receipts) s ss,
+  (own_within h n s.session.receipts owned.0).short,
+  length-own_commits n s.session.receipts,
+  sum_by-cons (λ (x : EndedView). owns x.session.receipts) s ss,
 )
 
-owned_just : (h : History) (n : ℕ) (ss : List SessionView) → AllOwned h n ss → all_owns ss ≡ length (filter (is_from n) (commits_at h)) → AreOwn h n ss × (length (filter (is_from (n + length ss)) (commits_at h)) ≡ 0)
+owned_just : (h : History) (n : ℕ) (ss : List EndedView) → AllOwned h n ss → all_owns ss ≡ length (filter (is_from n) (commits_at h)) → AreOwn h n ss × (length (filter (is_from (n + length ss)) (commits_at h)) ≡ 0)
 owned_just h n [] owned all = (tt, subst (λ (k : ℕ). length (filter (is_from k) (commits_at h)) ≡ 0) (sym (add-zero n)) (sym all))
 owned_just h n (s ∷ ss) owned all =
     let few = owned_few h (n + 1) ss owned.1 in
     let split = split_from n (commits_at h) in
-    let one = own_within h n s.receipts owned.0 in
-    let count = length-own_commits n s.receipts in
-    let total = sum_by-cons (λ (x : SessionView). owns x.receipts) s ss in
+    let one = own_within h n s.session.receipts owned.0 in
+    let count = length-own_commits n s.session.receipts in
+    let total = sum_by-cons (λ (x : EndedView). owns x.session.receipts) s ss in
     let rest = owned_just h (n + 1) ss owned.1 (omega (arith, few, split, one.short, count, total, all)) in
     let same : n + 1 + length ss ≡ n + length (s ∷ ss) = omega arith in
     ((sym (one.same (omega (arith, few, split, one.short, count, total, all))), rest.0), subst (λ (k : ℕ). length (filter (is_from k) (commits_at h)) ≡ 0) same rest.1)
 
-pub Whole-owned : (h : History) (ss : List SessionView) → AllOwned h 0 ss → all_owns ss ≡ cursor h → Whole h ss
+pub Whole-owned : (h : History) (ss : List EndedView) → AllOwned h 0 ss → all_owns ss ≡ cursor h → Whole h ss
 Whole-owned h ss owned all =
     let every = ap length (all_from (commits_at h)) in
     let just = owned_just h 0 ss owned (omega (arith, all, every, length-commits_at h)) in
@@ -232,8 +233,8 @@ Whole-owned h ss owned all =
     zero_plus : (n : ℕ) → 0 + n ≡ n
     zero_plus n = omega arith
 
-pub AreServed-owned : (limits : Limits) (h : History) (n : ℕ) (os : List OpenedView) (ss : List SessionView) → AreServed limits h n os ss → AllOwned h n ss
+pub AreServed-owned : (limits : Limits) (h : History) (n : ℕ) (os : List OpenedView) (ss : List EndedView) → AreServed limits h n os ss → AllOwned h n ss
 AreServed-owned limits h n [] [] served = tt
 AreServed-owned limits h n [] (s ∷ ss) served = absurd served
 AreServed-owned limits h n (o ∷ os) [] served = absurd served
-AreServed-owned limits h n (o ∷ os) (s ∷ ss) served = (Explained-owned limits h n o.contents s.contents s.receipts s.status served.0.explained, AreServed-owned limits h (n + 1) os ss served.1)
+AreServed-owned limits h n (o ∷ os) (s ∷ ss) served = (Explained-owned limits h n o.objects.contents s.session served.0.explained, AreServed-owned limits h (n + 1) os ss served.1)

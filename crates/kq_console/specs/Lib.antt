@@ -1,4 +1,6 @@
 pub mod Headline
 pub mod Opening
 pub mod Together
+pub mod Views
+pub mod Whole
 pub mod Words

@@ -1,57 +1,44 @@
 -- What sessions that are served together come to.
-use Rattle.std.specs.Prelude.{◌≡◌, ◌+◌, ℕ, List, [], ◌∷◌, sum_by, nat_eq, if◌then◌else◌}
+use Rattle.std.specs.Prelude.{◌≡◌, ◌+◌, ℕ, List, [], ◌∷◌, sum_by}
 use mathlib.Core.List.{IsPrefix}
-use Rattle.kq_world.specs.Outside.{Contents}
 use Rattle.kq_model.specs.declared.limits.Limits.{Limits}
 use Rattle.kq_model.specs.History.{History}
 use Rattle.kq_engine.specs.Shared.{PassView}
 use Rattle.kq_session.specs.Session.{Explained, owns}
 use Rattle.kq_session.specs.Turns.{Rises}
-use Rattle.kq_console.specs.Headline.{SessionView}
-
--- a session before it is served
-pub record OpenedView : Type 0 where
-  pub name : List ℕ
-  pub contents : Contents
-  pub source_faults : ℕ
-  pub sink_faults : ℕ
+use Rattle.kq_console.specs.Views.{OpenedView, EndedView}
 
 -- the session of an actor was served: the history explains it, and its faults have their causes
-pub record IsServed (limits : Limits) (h : History) (actor : ℕ) (o : OpenedView) (s : SessionView) : Type 0 where
+pub record IsServed (limits : Limits) (h : History) (actor : ℕ) (o : OpenedView) (s : EndedView) : Type 0 where
   pub named : s.name ≡ o.name
-  pub explained : Explained limits h actor o.contents s.contents s.receipts s.status
-  pub source : Rises o.source_faults s.source_faults (s.status ≡ 3)
-  pub sink : Rises o.sink_faults s.sink_faults (s.status ≡ 4)
+  pub explained : Explained limits h actor o.objects.contents s.session
+  pub source : Rises o.objects.source_faults s.session.objects.source_faults (s.session.status ≡ 3)
+  pub sink : Rises o.objects.sink_faults s.session.objects.sink_faults (s.session.status ≡ 4)
 
 -- from the n-th session on, each was served
-abbrev pub AreServed : Limits → History → ℕ → List OpenedView → List SessionView → Type 0
+abbrev pub AreServed : Limits → History → ℕ → List OpenedView → List EndedView → Type 0
 AreServed limits h n [] [] = Unit {0}
 AreServed limits h n [] (s ∷ ss) = ⊥
 AreServed limits h n (o ∷ os) [] = ⊥
 AreServed limits h n (o ∷ os) (s ∷ ss) = IsServed limits h n o s × AreServed limits h (n + 1) os ss
 
 -- how many commits the sessions' receipts tell
-abbrev pub all_owns : List SessionView → ℕ
-all_owns = sum_by (λ (s : SessionView). owns s.receipts)
+abbrev pub all_owns : List EndedView → ℕ
+all_owns = sum_by (λ (s : EndedView). owns s.session.receipts)
 
 -- a pass went through sessions: it has seen at least as much, and the commits made through it since are theirs
-pub record Passed (old new : PassView) (sessions : List SessionView) : Type 0 where
+pub record Passed (old new : PassView) (sessions : List EndedView) : Type 0 where
   pub of : new.of ≡ old.of
   pub worth : new.worth ≡ old.worth
   pub seen : IsPrefix old.seen new.seen
   pub made : new.made ≡ old.made + all_owns sessions
 
 -- the session of an actor was served through a pass
-pub record ServedOne (limits : Limits) (old new : PassView) (actor : ℕ) (o : OpenedView) (s : SessionView) : Type 0 where
+pub record ServedOne (limits : Limits) (old new : PassView) (actor : ℕ) (o : OpenedView) (s : EndedView) : Type 0 where
   pub passed : Passed old new (s ∷ [])
   pub served : IsServed limits new.seen actor o s
 
 -- all sessions were served through a pass
-pub record ServedAll (limits : Limits) (old new : PassView) (os : List OpenedView) (ss : List SessionView) : Type 0 where
+pub record ServedAll (limits : Limits) (old new : PassView) (os : List OpenedView) (ss : List EndedView) : Type 0 where
   pub passed : Passed old new ss
   pub served : AreServed limits new.seen 0 os ss
-
--- the first status that isn't 0
-abbrev pub first_of : List ℕ → ℕ
-first_of [] = 0
-first_of (status ∷ more) = if nat_eq status 0 then first_of more else status

@@ -1,6 +1,6 @@
 // Opening the feeds.
-ghost use Rattle.std.specs.Prelude.{◌≡◌, IfOk, map, true};
-ghost use Rattle.kq_world.specs.Outside.{AreTold, OpensByCause};
+ghost use Rattle.std.specs.Prelude.{◌≡◌, IfOk, true};
+ghost use Rattle.kq_world.specs.Outside.{OpensByCause};
 ghost use Rattle.kq_words.specs.Words.{are_distinct};
 ghost use Rattle.kq_console.specs.Opening.{AreOpened, AsksInOrder};
 
@@ -16,8 +16,8 @@ pub(crate) fn open_feeds<W: World>(
     names: Vec<Text>,
 ) -> Result<Vec<Opened<W>>, OpenFault>
     requires { are_distinct names.items ≡ true }
-    ensures opened { IfOk result (λ v. AreOpened (W.feed_contents world.old) names.items (map (λ o. record { name = o.name; contents = record { left = W.Source.left o.parts.source; written = W.Sink.written o.parts.sink; readings = W.Clock.readings o.parts.clock }; source_faults = W.Source.faults o.parts.source; sink_faults = W.Sink.faults o.parts.sink }) v.items)) }
-    ensures first { AreTold (W.first_contents world.old) (W.first_contents world.new) }
+    ensures opened { IfOk result (λ v. AreOpened (W.feed_contents world.old) names.items v.items) }
+    ensures first { W.first_contents world.new ≡ W.first_contents world.old }
     ensures begun { W.begun world.new ≡ W.begun world.old }
     ensures asked { AsksInOrder (W.asked world.old) (W.asked world.new) result names.items }
     ensures cause { OpensByCause (W.faults world.old) (W.faults world.new) result }

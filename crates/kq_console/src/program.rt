@@ -1,11 +1,10 @@
 // The top call.
-ghost use Rattle.std.specs.Prelude.{◌≡◌, ◌≢◌, ◌≤◌, ◌∷◌, [], ℕ, IsSome, List, None, false, length, map, string_bytes, true};
-ghost use Rattle.kq_world.specs.Outside.{AreTold, Contents};
-ghost use Rattle.kq_words.specs.Words.{are_distinct, as_asked, asked};
-ghost use Rattle.kq_console.specs.Headline.{RunBy};
+ghost use Rattle.std.specs.Prelude.{◌≡◌, ◌≢◌, ◌≤◌, ◌⊎◌, [], ℕ, IsSome, List, None, false, length, true};
+ghost use Rattle.kq_world.specs.Outside.{Contents};
+ghost use Rattle.kq_words.specs.Words.{are_distinct, as_asked};
+ghost use Rattle.kq_console.specs.Headline.{Completes, Runs, first_status};
 ghost use Rattle.kq_console.specs.Opening.{AreOpened, OpensFeeds};
-ghost use Rattle.kq_console.specs.Together.{first_of};
-ghost use Rattle.kq_console.specs.Words.{AsksMore, AsksNoMore, IsJustWhere, IsOfSession, asks_no_more, feeds_of};
+ghost use Rattle.kq_console.specs.Words.{AsksMore, AsksNoMore, IsJustWhere, IsOfSession, asked_in, asks_no_more, feeds_of};
 
 use crate::ended::{EndedSession, Run};
 use crate::feeds::open_feeds;
@@ -15,7 +14,7 @@ use kq_engine::Shared;
 use kq_model::Limits;
 use kq_value::Text;
 use kq_words::{Options, OptionsError};
-use kq_world::{Gate, OpenFault, World};
+use kq_world::{Clock, Gate, OpenFault, Sink, Source, World};
 use std::alloc::Global;
 use std::sync::Wait;
 use std::thread::Threads;
@@ -42,12 +41,13 @@ pub fn run<R: Threads + Wait + Sync, W: World, G: Gate + Sync>(
     gate: &G,
 ) -> Run<W>
     requires { W.begun world.old ≡ false }
-    ensures form { IsJustWhere result.status WRONG_WORDS (asked (map string_bytes words.now) ≡ None) }
-    ensures unasked { result.status ≡ WRONG_WORDS → world.new ≡ world.old }
-    ensures unbuilt { IsJustWhere result.status UNBUILT (AsksMore (asked (map string_bytes words.now))) }
-    ensures served { IsSome result.catalog → AsksNoMore (asked (map string_bytes words.now)) }
-    ensures opens { OpensFeeds (feeds_of (asked (map string_bytes words.now))) (W.asked world.old) (W.asked world.new) (W.faults world.old) (W.faults world.new) result.status result.catalog }
-    ensures run { RunBy (feeds_of (asked (map string_bytes words.now))) (W.first_contents world.old ∷ map (W.feed_contents world.old) (feeds_of (asked (map string_bytes words.now)))) result.status result.catalog (map (λ e. record { name = e.name; contents = record { left = W.Source.left e.source; written = W.Sink.written e.sink; readings = W.Clock.readings e.clock }; source_faults = W.Source.faults e.source; sink_faults = W.Sink.faults e.sink; receipts = e.receipts; status = e.status }) result.sessions.items) }
+    ensures form { IsJustWhere result.status WRONG_WORDS (asked_in words.now ≡ None) }
+    ensures unbuilt { IsJustWhere result.status UNBUILT (AsksMore (asked_in words.now)) }
+    ensures untouched { (result.status ≡ WRONG_WORDS) ⊎ (result.status ≡ UNBUILT) → world.new ≡ world.old }
+    ensures served { IsSome result.catalog → AsksNoMore (asked_in words.now) }
+    ensures opens { OpensFeeds (feeds_of (asked_in words.now)) (W.asked world.old) (W.asked world.new) (W.faults world.old) (W.faults world.new) result }
+    ensures run { Runs (feeds_of (asked_in words.now)) (W.first_contents world.old) (W.feed_contents world.old) result }
+    ensures complete { Completes (asked_in words.now) (W.faults world.old) (W.faults world.new) (W.first_contents world.old) (W.feed_contents world.old) result }
 {
     match Options::from_words(alloc, words) {
         Ok(options) if asks_no_more(&options) => {
@@ -78,8 +78,8 @@ fn run_sessions<R: Threads + Wait + Sync, W: World, G: Gate + Sync>(
     requires different { are_distinct names.items ≡ true }
     requires few { length names.items ≤ 7 }
     ensures status { IsOfSession result.status }
-    ensures opens { OpensFeeds names.items (W.asked world.old) (W.asked world.new) (W.faults world.old) (W.faults world.new) result.status result.catalog }
-    ensures run { RunBy names.items (W.first_contents world.old ∷ map (W.feed_contents world.old) names.items) result.status result.catalog (map (λ e. record { name = e.name; contents = record { left = W.Source.left e.source; written = W.Sink.written e.sink; readings = W.Clock.readings e.clock }; source_faults = W.Source.faults e.source; sink_faults = W.Sink.faults e.sink; receipts = e.receipts; status = e.status }) result.sessions.items) }
+    ensures opens { OpensFeeds names.items (W.asked world.old) (W.asked world.new) (W.faults world.old) (W.faults world.new) result }
+    ensures run { Runs names.items (W.first_contents world.old) (W.feed_contents world.old) result }
 {
     match open_feeds(alloc, world, names) {
         Ok(feeds) => run_opened(rt, alloc, world, feeds, gate),
@@ -101,8 +101,8 @@ fn run_opened<R: Threads + Wait + Sync, W: World, G: Gate + Sync>(
     ensures status { IsOfSession result.status }
     ensures opened { result.status ≢ NOT_OPENED }
     ensures asked { W.asked world.new ≡ W.asked world.old }
-    ensures faults { W.faults world.old ≤ W.faults world.new }
-    ensures run { (first : Contents) (told : List ℕ → Contents) (names : List (List ℕ)) → AreTold first (W.first_contents world.old) → AreOpened told names (map (λ o. record { name = o.name; contents = record { left = W.Source.left o.parts.source; written = W.Sink.written o.parts.sink; readings = W.Clock.readings o.parts.clock }; source_faults = W.Source.faults o.parts.source; sink_faults = W.Sink.faults o.parts.sink }) feeds.items) → RunBy names (first ∷ map told names) result.status result.catalog (map (λ e. record { name = e.name; contents = record { left = W.Source.left e.source; written = W.Sink.written e.sink; readings = W.Clock.readings e.clock }; source_faults = W.Source.faults e.source; sink_faults = W.Sink.faults e.sink; receipts = e.receipts; status = e.status }) result.sessions.items) }
+    ensures faults { W.faults world.new ≡ W.faults world.old }
+    ensures run { (told : List ℕ → Contents) (names : List (List ℕ)) → AreOpened told names feeds.items → Runs names (W.first_contents world.old) told result }
 {
     let sessions = feeds.len() + 1;
     // One pass more than there are sessions.
@@ -131,8 +131,8 @@ fn run_opened<R: Threads + Wait + Sync, W: World, G: Gate + Sync>(
 }
 
 // The first status that isn't 0.
-fn first_status<S: Drop, K: Drop, C: Drop>(sessions: &[EndedSession<S, K, C>]) -> u8
-    ensures { result ≡ first_of (map (λ e. e.status) sessions.now) }
+fn first_status<S: Source, K: Sink, C: Clock>(sessions: &[EndedSession<S, K, C>]) -> u8
+    ensures { result ≡ first_status sessions.now }
 {
     for session in sessions {
         if session.status != 0 {
@@ -146,7 +146,7 @@ fn first_status<S: Drop, K: Drop, C: Drop>(sessions: &[EndedSession<S, K, C>]) -
 fn not_begun<W: World>(alloc: Global, status: u8) -> Run<W>
     ensures status { result.status ≡ status }
     ensures catalog { result.catalog ≡ None }
-    ensures sessions { result.sessions.items ≡ [] }
+    ensures sessions { result.sessions ≡ [] }
 {
     Run {
         status,

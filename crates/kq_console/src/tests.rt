@@ -1,6 +1,4 @@
-// What crosses the crates.
 mod feeds;
-mod records;
 mod scripts;
 mod steps;
-mod words;
+mod worlds;

@@ -1,5 +1,5 @@
 // Sessions beside each other.
-ghost use Rattle.std.specs.Prelude.{◌≡◌, ◌<◌, ◌≤◌, ◌+◌, ◌∷◌, [], length, map, vec_capacity, vec_len};
+ghost use Rattle.std.specs.Prelude.{◌≡◌, ◌<◌, ◌≤◌, ◌+◌, ◌∷◌, [], length, vec_capacity};
 ghost use Rattle.kq_console.specs.Together.{ServedOne, ServedAll};
 
 use crate::ended::EndedSession;
@@ -14,14 +14,14 @@ use std::thread::Threads;
 
 /// Sessions that have ended, in order, and the one pass that is left of theirs.
 #[derive(Drop)]
-pub(crate) struct Together<S: Drop, K: Drop, C: Drop> {
+pub(crate) struct Together<S: Source, K: Sink, C: Clock> {
     pub pass: Pass,
     pub sessions: Vec<EndedSession<S, K, C>>,
 }
 
 /// A session that has ended, with its pass.
 #[derive(Drop)]
-pub(crate) struct One<S: Drop, K: Drop, C: Drop> {
+pub(crate) struct One<S: Source, K: Sink, C: Clock> {
     pub pass: Pass,
     pub session: EndedSession<S, K, C>,
 }
@@ -50,7 +50,7 @@ pub(crate) fn serve_all<
     requires empty { sessions.items ≡ [] }
     requires room { length feeds.items < vec_capacity sessions }
     ensures room { vec_capacity result.sessions ≡ vec_capacity sessions }
-    ensures served { ServedAll shared.now.limits pass result.pass (map (λ o. record { name = o.name; contents = record { left = S.left o.parts.source; written = K.written o.parts.sink; readings = C.readings o.parts.clock }; source_faults = S.faults o.parts.source; sink_faults = K.faults o.parts.sink }) (first ∷ feeds.items)) (map (λ e. record { name = e.name; contents = record { left = S.left e.source; written = K.written e.sink; readings = C.readings e.clock }; source_faults = S.faults e.source; sink_faults = K.faults e.sink; receipts = e.receipts; status = e.status }) result.sessions.items) }
+    ensures served { ServedAll shared.now.limits pass result.pass (first ∷ feeds.items) result.sessions.items }
 {
     let mut feeds = feeds;
     let mut sessions = sessions;
@@ -65,7 +65,7 @@ pub(crate) fn serve_all<
         rt,
         move || -> One<S, K, C>
             requires of { mine.of ≡ shared.now.turn }
-            ensures served { ServedOne shared.entry.now.limits mine result.pass actor (record { name = last.name; contents = record { left = S.left last.parts.source; written = K.written last.parts.sink; readings = C.readings last.parts.clock }; source_faults = S.faults last.parts.source; sink_faults = K.faults last.parts.sink }) (record { name = result.session.name; contents = record { left = S.left result.session.source; written = K.written result.session.sink; readings = C.readings result.session.clock }; source_faults = S.faults result.session.source; sink_faults = K.faults result.session.sink; receipts = result.session.receipts; status = result.session.status }) }
+            ensures served { ServedOne shared.entry.now.limits mine result.pass actor last result.session }
         { serve_one(rt, alloc, shared, mine, actor, last, gate) },
         move || -> Together<S, K, C>
             requires of { rest.of ≡ shared.now.turn }
@@ -74,7 +74,7 @@ pub(crate) fn serve_all<
             requires empty { sessions.items ≡ [] }
             requires room { length feeds.items < vec_capacity sessions }
             ensures room { vec_capacity result.sessions ≡ vec_capacity sessions }
-            ensures served { ServedAll shared.entry.now.limits rest result.pass (map (λ o. record { name = o.name; contents = record { left = S.left o.parts.source; written = K.written o.parts.sink; readings = C.readings o.parts.clock }; source_faults = S.faults o.parts.source; sink_faults = K.faults o.parts.sink }) (first ∷ feeds.items)) (map (λ e. record { name = e.name; contents = record { left = S.left e.source; written = K.written e.sink; readings = C.readings e.clock }; source_faults = S.faults e.source; sink_faults = K.faults e.sink; receipts = e.receipts; status = e.status }) result.sessions.items) }
+            ensures served { ServedAll shared.entry.now.limits rest result.pass (first ∷ feeds.items) result.sessions.items }
         { serve_all(rt, alloc, shared, rest, first, feeds, sessions, gate) },
     );
     let One {
@@ -103,7 +103,7 @@ fn serve_one<R: Wait, S: Source, K: Sink, C: Clock, G: Gate>(
     gate: &G,
 ) -> One<S, K, C>
     requires { pass.of ≡ shared.now.turn }
-    ensures { ServedOne shared.now.limits pass result.pass actor (record { name = opened.name; contents = record { left = S.left opened.parts.source; written = K.written opened.parts.sink; readings = C.readings opened.parts.clock }; source_faults = S.faults opened.parts.source; sink_faults = K.faults opened.parts.sink }) (record { name = result.session.name; contents = record { left = S.left result.session.source; written = K.written result.session.sink; readings = C.readings result.session.clock }; source_faults = S.faults result.session.source; sink_faults = K.faults result.session.sink; receipts = result.session.receipts; status = result.session.status }) }
+    ensures { ServedOne shared.now.limits pass result.pass actor opened result.session }
 {
     let OpenedSession { name, parts } = opened;
     let Served {

@@ -38,7 +38,11 @@ FitsBlock-append limits h more mark (command text) now place own reply fits = re
   reads = fits.reads;
   fits = FitsRead-append limits h more mark fits.read now place own reply fits.fits;
 }
-FitsBlock-append limits h more mark (too_long bytes) now place own reply fits = Refuses-append h more place own reply _ fits
+FitsBlock-append limits h more mark (too_long bytes) now place own reply fits = record {
+  within = omega (arith, fits.within, length-append h more);
+  not_own = fits.not_own;
+  refused = fits.refused;
+}
 
 -- nothing was asked of the engine
 pub Steps-refused : (limits : Limits) (p : PassView) (by : By) (block : Block) (now : ℤ) (r : Refusal) (outcome : Outcome) → outcome ≡ record { place = length p.seen; own = false; reply = replies.Refused r } → is_early (number_of r) ≡ true → FitsBlock limits p.seen by block now (length p.seen) false (replies.Refused r) → Steps limits p p by block now outcome
@@ -87,7 +91,7 @@ Steps-applied limits old new work text outcome reads applies = record {
   made = applies.made;
   takes = applies.takes.first ∷ applies.takes.more;
   taken = applies.takes.gains;
-  enough = applies.takes.since;
+  enough = (applies.takes.since, applies.takes.few);
   fits = record { read = Ok work.command; reads = reads; fits = applies.fits };
   since = applies.since;
   within = applies.fits.within;

@@ -1,4 +1,5 @@
 pub mod Blocks
+pub mod Completing
 pub mod Owned
 pub mod Serving
 mod Turning

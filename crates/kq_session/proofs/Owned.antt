@@ -6,13 +6,13 @@ use Rattle.kq_model.specs.declared.limits.Limits.{Limits}
 use Rattle.kq_model.specs.History.{History, CommitAt, commits_at}
 use Rattle.kq_command.specs.declared.command.Command.{Command}
 use Rattle.kq_command.specs.declared.command.CommandFault.{CommandFault}
-use Rattle.kq_command.specs.declared.command.CommandFault.TheVariants.{NotText, Syntax, Deep, Unsupported, Memory}
 use Rattle.kq_reply.specs.declared.reply.Reply.{Reply}
 use Rattle.kq_script.specs.Script.{Block, command, too_long}
 use Rattle.kq_engine.specs.Fits.{own_commit}
 use Rattle.kq_engine.proofs.Owning.{IsIn, Fits-own}
 use Rattle.kq_session.specs.declared.receipt.Receipt.{Receipt}
 use Rattle.kq_session.specs.Blocks.{FitsRead, FitsBlock}
+use Rattle.kq_session.specs.Objects.{SessionView}
 use Rattle.kq_session.specs.Session.{Turn, AreTurns, Explained, own_commits}
 
 -- the places never fall from q on, and the numbers rise from above n
@@ -60,7 +60,7 @@ AreTurns-owned limits h actor n q (t ∷ ts) all =
     own_more limits h (record { actor = actor; number = r.number }) t.block r.moment r.place r.own t.reply q n _ all.1 all.0 all.2.fits (AreTurns-owned limits h actor (n + 1) r.place ts all.3)
 
 -- those of a session that is explained
-pub Explained-owned : (limits : Limits) (h : History) (actor : ℕ) (before now : Contents) (receipts : List Receipt) (status : ℕ) → Explained limits h actor before now receipts status → AreOwned 0 0 (commits_at h) (own_commits actor receipts)
-Explained-owned limits h actor before now receipts status explained =
+pub Explained-owned : (limits : Limits) (h : History) (actor : ℕ) (before : Contents) (s : SessionView) → Explained limits h actor before s → AreOwned 0 0 (commits_at h) (own_commits actor s.receipts)
+Explained-owned limits h actor before s explained =
     let ends = explained.ends in
     subst (λ (rs : List Receipt). AreOwned 0 0 (commits_at h) (own_commits actor rs)) (sym ends.of_turns) (AreTurns-owned limits h actor 0 0 ends.turns ends.each)

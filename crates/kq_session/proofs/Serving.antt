@@ -1,12 +1,12 @@
 -- A session goes on by one turn.
-use Rattle.std.proofs.Common.{◌≡◌, ◌≤◌, ◌+◌, ℕ, List, [], ◌∷◌, ◌++◌, length, map, take, Some, None, Result, Ok, Err, true, ap, sym, ◌∙◌, subst, refl, arith, append-nil, append_assoc, length-append, add-zero, zero-add}
+use Rattle.std.proofs.Common.{◌≡◌, ◌≤◌, ◌+◌, ℕ, Bool, List, [], ◌∷◌, ◌++◌, length, map, take, Some, None, Result, Ok, Err, ap, sym, ◌∙◌, subst, refl, arith, append-nil, append_assoc, length-append, add-zero, zero-add}
 use mathlib.Core.List.{IsPrefix}
 use Rattle.kq_turn.proofs.Beginnings.{IsPrefix-refl, IsPrefix-trans}
 use Rattle.std.proofs.lemmas.List.Sums.{sum_by-append}
 use Rattle.std.proofs.lemmas.List.{map_push, flat_map_more, length_push}
-use Rattle.kq_world.specs.Told.{Adds, Loses}
-use Rattle.kq_world.specs.Outside.{Contents}
-use Rattle.kq_world.proofs.Told.{Loses-none, Adds-none, Loses-trans, Adds-trans, Adds-stays}
+use Rattle.kq_world.specs.Told.{Adds}
+use Rattle.kq_world.specs.Outside.{Contents, Gives}
+use Rattle.kq_world.proofs.Told.{Adds-none, Adds-trans, Gives-none, Gives-trans}
 use Rattle.kq_model.specs.declared.limits.Limits.{Limits}
 use Rattle.kq_model.specs.declared.event.By.{By}
 use Rattle.kq_model.specs.History.{History}
@@ -14,16 +14,18 @@ use Rattle.kq_reply.specs.declared.reply.Reply.{Reply}
 use Rattle.kq_reply.specs.Number.{kind_of}
 use Rattle.kq_reply.specs.Text.{text_of}
 use Rattle.kq_script.specs.Script.{Block, script_blocks}
-use Rattle.kq_script.specs.Reading.{IsReading}
+use Rattle.kq_script.specs.Reading.{IsReading, IsPrefix as Begins}
 use Rattle.kq_script.specs.declared.reader.ScriptReader.{ScriptReader}
 use Rattle.kq_engine.specs.Shared.{PassView, made_by}
 use Rattle.kq_session.specs.declared.end.End.{End}
 use Rattle.kq_session.specs.declared.end.End.TheVariants.{Finished, Short, SourceFault, SinkFault, InputLimit}
 use Rattle.kq_session.specs.declared.receipt.Receipt.{Receipt}
 use Rattle.kq_session.specs.Blocks.{FitsBlock, Steps, AreTakes}
+use Rattle.kq_session.specs.Objects.{SessionView}
 use Rattle.kq_session.specs.Session.{Turn, IsTurn, AreTurns, AreWritten, Ends, Explained, GoesOn, blocks_of, moments_of, texts_of, owns, AreTaken, command_bytes, input_bytes}
-use Rattle.kq_session.specs.Turns.{Went, Idle, TurnBy}
+use Rattle.kq_session.specs.Turns.{State, Progress, Went, Idle, TurnBy, Comes}
 use Rattle.kq_session.proofs.Blocks.{FitsBlock-append}
+use Rattle.kq_session.proofs.Turning.{given_at_end, open_still}
 
 IsTurn-later : (limits : Limits) (actor : ℕ) (h new more : History) → new ≡ h ++ more → (t : Turn) → IsTurn limits h actor t → IsTurn limits new actor t
 IsTurn-later limits actor h new more is t turn = subst (λ (n : History). IsTurn limits n actor t) (sym is) (record {
@@ -84,193 +86,182 @@ GoesOn-push limits first old new by block receipts r reply goes_on kind step = r
 }
 
 -- the session before its n-th block
-pub record SoFar (limits : Limits) (actor : ℕ) (first h : PassView) (start now : Contents) (reader : ScriptReader) (receipts : List Receipt) (n : ℕ) : Type 0 where
+pub record SoFar (limits : Limits) (actor : ℕ) (start now : State) (reader : ScriptReader) (n : ℕ) : Type 0 where
   pub turns : List Turn
-  pub taken : List ℕ
-  pub of_turns : receipts ≡ map (λ (t : Turn). t.receipt) turns
-  pub each : AreTurns limits h.seen actor 0 0 turns
-  pub bytes : Loses start.left now.left taken
-  pub reading : IsReading command_bytes input_bytes reader start.left now.left taken (blocks_of turns)
-  pub moments : Adds start.readings now.readings (moments_of turns)
-  pub written : Adds start.written now.written (texts_of turns)
-  pub goes_on : GoesOn first h receipts
+  pub bytes : List ℕ
+  pub of_turns : now.receipts ≡ map (λ (t : Turn). t.receipt) turns
+  pub each : AreTurns limits now.pass.seen actor 0 0 turns
+  pub gave : Gives start.contents.source now.contents.source bytes
+  pub reading : IsReading command_bytes input_bytes reader start.contents.source now.contents.source bytes (blocks_of turns)
+  pub moments : Adds start.contents.readings now.contents.readings (moments_of turns)
+  pub written : Adds start.contents.accepted now.contents.accepted (texts_of turns)
+  pub goes_on : GoesOn start.pass now.pass now.receipts
   pub count : length turns + 1 ≡ n
 
-pub SoFar-none : (limits : Limits) (actor : ℕ) (h : PassView) (o : Contents) (reader : ScriptReader) → IsReading command_bytes input_bytes reader o.left o.left [] [] → SoFar limits actor h h o o reader [] 1
-SoFar-none limits actor h o reader reading = record {
+pub SoFar-none : (limits : Limits) (actor : ℕ) (s : State) (reader : ScriptReader) → s.receipts ≡ [] → IsReading command_bytes input_bytes reader s.contents.source s.contents.source [] [] → SoFar limits actor s s reader 1
+SoFar-none limits actor s reader fresh reading = record {
   turns = [];
-  taken = [];
-  of_turns = refl;
+  bytes = [];
+  of_turns = fresh;
   each = tt;
-  bytes = Loses-none o.left;
+  gave = Gives-none s.contents.source;
   reading = reading;
-  moments = Adds-none o.readings;
-  written = Adds-none o.written;
-  goes_on = GoesOn-none h;
+  moments = Adds-none s.contents.readings;
+  written = Adds-none s.contents.accepted;
+  goes_on = subst (GoesOn s.pass s.pass) (sym fresh) (GoesOn-none s.pass);
   count = refl;
 }
+
+-- what was read before the n-th block
+abbrev pub progress : {limits : Limits} {actor : ℕ} {start now : State} {reader : ScriptReader} {n : ℕ} → SoFar limits actor start now reader n → Progress
+progress {start = start} so_far = record { first = start.contents.source; taken = so_far.bytes; given = blocks_of so_far.turns }
 
 texts_of-push : (turns : List Turn) (t : Turn) → texts_of (turns ++ t ∷ []) ≡ texts_of turns ++ text_of t.reply
 texts_of-push turns t = sym (flat_map_more (λ (u : Turn). text_of u.reply) [] turns t)
 
 -- the turns with one more
-record More (limits : Limits) (actor : ℕ) (first new : PassView) (start now : Contents) (reader : ScriptReader) (receipts : List Receipt) (turns : List Turn) (n : ℕ) : Type 0 where
-  pub taken : List ℕ
-  pub of_turns : receipts ≡ map (λ (t : Turn). t.receipt) turns
-  pub each : AreTurns limits new.seen actor 0 0 turns
-  pub bytes : Loses start.left now.left taken
-  pub reading : IsReading command_bytes input_bytes reader start.left now.left taken (blocks_of turns)
-  pub moments : Adds start.readings now.readings (moments_of turns)
-  pub goes_on : GoesOn first new receipts
+record More (limits : Limits) (actor : ℕ) (start now : State) (reader : ScriptReader) (turns : List Turn) (n : ℕ) : Type 0 where
+  pub bytes : List ℕ
+  pub of_turns : now.receipts ≡ map (λ (t : Turn). t.receipt) turns
+  pub each : AreTurns limits now.pass.seen actor 0 0 turns
+  pub gave : Gives start.contents.source now.contents.source bytes
+  pub reading : IsReading command_bytes input_bytes reader start.contents.source now.contents.source bytes (blocks_of turns)
+  pub moments : Adds start.contents.readings now.contents.readings (moments_of turns)
+  pub goes_on : GoesOn start.pass now.pass now.receipts
   pub count : length turns + 1 ≡ n
 
-more_by : {E : Type 0} (limits : Limits) (actor n : ℕ) (first old new : PassView) (start before now : Contents) (was reader : ScriptReader) (receipts more : List Receipt) (so_far : SoFar limits actor first old start before was receipts n) (result : Result (Unit {0}) E)
-    → (went : Went limits (record { actor = actor; number = n }) old new start.left before now reader so_far.taken (blocks_of so_far.turns) receipts more result) → More limits actor first new start now reader more (so_far.turns ++ went.replied.turn ∷ []) (n + 1)
-more_by limits actor n first old new start before now was reader receipts more so_far result went =
+more_by : {E : Type 0} (limits : Limits) (actor n : ℕ) (start old new : State) (was reader : ScriptReader) (so_far : SoFar limits actor start old was n) (result : Result (Unit {0}) E)
+    → (went : Went limits (record { actor = actor; number = n }) (progress so_far) old new reader result) → More limits actor start new reader (so_far.turns ++ went.replied.turn ∷ []) (n + 1)
+more_by limits actor n start old new was reader so_far result went =
     let t = went.replied.turn in
     let answered = went.replied.answered in
     let step = answered.step in
     let grown = step.seen in
     let r = t.receipt in
     let turns = so_far.turns in
-    let low : last_place 0 turns ≤ length old.seen = last_place-within limits actor old.seen 0 0 turns (omega arith) so_far.each in
+    let low : last_place 0 turns ≤ length old.pass.seen = last_place-within limits actor old.pass.seen 0 0 turns (omega arith) so_far.each in
     let number : t.receipt.number ≡ 0 + length turns + 1 = omega (arith, answered.number, so_far.count) in
     record {
-      taken = so_far.taken ++ went.reads.bytes;
+      bytes = so_far.bytes ++ went.reads.bytes;
       of_turns = answered.receipt ∙ ap (λ (l : List Receipt). l ++ r ∷ []) so_far.of_turns ∙ sym (map_push (λ (u : Turn). u.receipt) turns t);
-      each = AreTurns-push limits actor new.seen 0 0 turns t (AreTurns-later limits actor old.seen new.seen grown.0 0 0 (sym grown.1) turns so_far.each) number (omega (arith, low, step.since))
+      each = AreTurns-push limits actor new.pass.seen 0 0 turns t (AreTurns-later limits actor old.pass.seen new.pass.seen grown.0 0 0 (sym grown.1) turns so_far.each) number (omega (arith, low, step.since))
           (record {
-            fits = subst (λ (m : ℕ). FitsBlock limits new.seen (record { actor = actor; number = m }) t.block r.moment r.place r.own t.reply) (sym answered.number) step.fits;
+            fits = subst (λ (m : ℕ). FitsBlock limits new.pass.seen (record { actor = actor; number = m }) t.block r.moment r.place r.own t.reply) (sym answered.number) step.fits;
             within = step.within;
             kind = answered.kind;
           });
-      bytes = Loses-trans start.left before.left now.left so_far.taken went.reads.bytes so_far.bytes went.reads.loses;
-      reading = subst (IsReading command_bytes input_bytes reader start.left now.left (so_far.taken ++ went.reads.bytes)) (ap (λ (b : Block). blocks_of turns ++ b ∷ []) (sym went.replied.same_block) ∙ sym (map_push (λ (u : Turn). u.block) turns t)) went.reads.reading;
-      moments = subst (Adds start.readings now.readings) (sym (map_push (λ (u : Turn). u.receipt.moment) turns t)) (Adds-trans start.readings before.readings now.readings (moments_of turns) _ so_far.moments answered.moment);
-      goes_on = subst (GoesOn first new) (sym answered.receipt) (GoesOn-push limits first old new (record { actor = actor; number = n }) t.block receipts r t.reply so_far.goes_on answered.kind step);
+      gave = Gives-trans start.contents.source old.contents.source new.contents.source so_far.bytes went.reads.bytes so_far.gave went.reads.gave;
+      reading = subst (IsReading command_bytes input_bytes reader start.contents.source new.contents.source (so_far.bytes ++ went.reads.bytes)) (ap (λ (b : Block). blocks_of turns ++ b ∷ []) (sym went.replied.same_block) ∙ sym (map_push (λ (u : Turn). u.block) turns t)) went.reads.reading;
+      moments = subst (Adds start.contents.readings new.contents.readings) (sym (map_push (λ (u : Turn). u.receipt.moment) turns t)) (Adds-trans start.contents.readings old.contents.readings new.contents.readings (moments_of turns) _ so_far.moments answered.moment);
+      goes_on = subst (GoesOn start.pass new.pass) (sym answered.receipt) (GoesOn-push limits start.pass old.pass new.pass (record { actor = actor; number = n }) t.block old.receipts r t.reply so_far.goes_on answered.kind step);
       count = omega (arith, so_far.count, length_push turns t);
     }
 
-pub SoFar-push : (limits : Limits) (actor n : ℕ) (first old new : PassView) (start before now : Contents) (was reader : ScriptReader) (receipts more : List Receipt) (so_far : SoFar limits actor first old start before was receipts n)
-    → TurnBy limits (record { actor = actor; number = n }) old new start.left before now reader so_far.taken (blocks_of so_far.turns) receipts more None → SoFar limits actor first new start now reader more (n + 1)
-SoFar-push limits actor n first old new start before now was reader receipts more so_far went =
+pub SoFar-push : (limits : Limits) (actor n : ℕ) (start old new : State) (was reader : ScriptReader) (so_far : SoFar limits actor start old was n)
+    → TurnBy limits (record { actor = actor; number = n }) (progress so_far) old new reader None → SoFar limits actor start new reader (n + 1)
+SoFar-push limits actor n start old new was reader so_far went =
     let t = went.replied.turn in
-    let m = more_by limits actor n first old new start before now was reader receipts more so_far (Ok tt) went in
+    let m = more_by limits actor n start old new was reader so_far (Ok tt) went in
     record {
       turns = so_far.turns ++ t ∷ [];
-      taken = m.taken;
+      bytes = m.bytes;
       of_turns = m.of_turns;
       each = m.each;
-      bytes = m.bytes;
+      gave = m.gave;
       reading = m.reading;
       moments = m.moments;
-      written = subst (Adds start.written now.written) (sym (texts_of-push so_far.turns t)) (Adds-trans start.written before.written now.written (texts_of so_far.turns) (text_of t.reply) so_far.written went.replied.written);
+      written = subst (Adds start.contents.accepted new.contents.accepted) (sym (texts_of-push so_far.turns t)) (Adds-trans start.contents.accepted old.contents.accepted new.contents.accepted (texts_of so_far.turns) (text_of t.reply) so_far.written went.replied.written);
       goes_on = m.goes_on;
       count = m.count;
     }
 
 -- nothing was answered any more
-Ends-idle : (limits : Limits) (actor n : ℕ) (first old new : PassView) (start before now : Contents) (was : ScriptReader) (receipts more : List Receipt) (end : End) (so_far : SoFar limits actor first old start before was receipts n) → Idle old new start.left before now so_far.taken (blocks_of so_far.turns) receipts more end
-    → ((turns : List Turn) → Adds start.written now.written (texts_of turns) → AreWritten end start.written now.written turns) → Ends limits new.seen actor start now more end
-Ends-idle limits actor n first old new start before now was receipts more end so_far idle all_written = record {
+Ends-idle : (limits : Limits) (actor n : ℕ) (start old new : State) (was : ScriptReader) (end : End) (so_far : SoFar limits actor start old was n) → Idle (progress so_far) old new end
+    → ((turns : List Turn) → Adds start.contents.accepted new.contents.accepted (texts_of turns) → AreWritten end start.contents.accepted new.contents.accepted turns) → Ends limits new.pass.seen actor start.contents new.contents new.receipts end
+Ends-idle limits actor n start old new was end so_far idle all_written = record {
   turns = so_far.turns;
-  taken = so_far.taken ++ idle.bytes;
+  bytes = so_far.bytes ++ idle.bytes;
   of_turns = idle.same_receipts ∙ so_far.of_turns;
   each = subst (λ (p : PassView). AreTurns limits p.seen actor 0 0 so_far.turns) (sym idle.same_pass) so_far.each;
-  bytes = Loses-trans start.left before.left now.left so_far.taken idle.bytes so_far.bytes idle.loses;
+  gave = Gives-trans start.contents.source old.contents.source new.contents.source so_far.bytes idle.bytes so_far.gave idle.gave;
   blocks = idle.blocks;
   at_end = idle.at_end;
-  moments = Adds-stays start.readings before.readings now.readings (moments_of so_far.turns) so_far.moments idle.readings;
-  written = all_written so_far.turns (Adds-stays start.written before.written now.written (texts_of so_far.turns) so_far.written idle.written);
+  all_at_end = idle.all_at_end;
+  moments = idle.readings ∙ so_far.moments;
+  written = all_written so_far.turns (idle.accepted ∙ so_far.written);
 }
 
 GoesOn-idle : (first old new : PassView) (receipts more : List Receipt) → GoesOn first old receipts → new ≡ old → more ≡ receipts → GoesOn first new more
 GoesOn-idle first old new receipts more goes_on same same_receipts = subst (λ (p : PassView). GoesOn first p more) (sym same) (subst (GoesOn first old) (sym same_receipts) goes_on)
 
--- what a session comes to
-pub record Comes (limits : Limits) (actor : ℕ) (first new : PassView) (start now : Contents) (receipts : List Receipt) (end : End) : Type 0 where
-  pub ends : Ends limits new.seen actor start now receipts end
-  pub goes_on : GoesOn first new receipts
-
-idle_comes : (limits : Limits) (actor n : ℕ) (first old new : PassView) (start before now : Contents) (was : ScriptReader) (receipts more : List Receipt) (end : End) (so_far : SoFar limits actor first old start before was receipts n) → Idle old new start.left before now so_far.taken (blocks_of so_far.turns) receipts more end
-    → ((turns : List Turn) → Adds start.written now.written (texts_of turns) → AreWritten end start.written now.written turns) → Comes limits actor first new start now more end
-idle_comes limits actor n first old new start before now was receipts more end so_far idle all_written = record {
-  ends = Ends-idle limits actor n first old new start before now was receipts more end so_far idle all_written;
-  goes_on = GoesOn-idle first old new receipts more so_far.goes_on idle.same_pass idle.same_receipts;
+idle_comes : (limits : Limits) (actor n : ℕ) (start old new : State) (was : ScriptReader) (end : End) (so_far : SoFar limits actor start old was n) → Idle (progress so_far) old new end
+    → ((turns : List Turn) → Adds start.contents.accepted new.contents.accepted (texts_of turns) → AreWritten end start.contents.accepted new.contents.accepted turns) → Comes limits actor start new end
+idle_comes limits actor n start old new was end so_far idle all_written = record {
+  ends = Ends-idle limits actor n start old new was end so_far idle all_written;
+  goes_on = GoesOn-idle start.pass old.pass new.pass old.receipts new.receipts so_far.goes_on idle.same_pass idle.same_receipts;
 }
 
-pub Comes-end : (limits : Limits) (actor n : ℕ) (first old new : PassView) (start before now : Contents) (was reader : ScriptReader) (receipts more : List Receipt) (end : End) (so_far : SoFar limits actor first old start before was receipts n)
-    → TurnBy limits (record { actor = actor; number = n }) old new start.left before now reader so_far.taken (blocks_of so_far.turns) receipts more (Some end) → Comes limits actor first new start now more end
-Comes-end limits actor n first old new start before now was reader receipts more SinkFault so_far failed =
+pub Comes-end : (limits : Limits) (actor n : ℕ) (start old new : State) (was reader : ScriptReader) (end : End) (so_far : SoFar limits actor start old was n)
+    → TurnBy limits (record { actor = actor; number = n }) (progress so_far) old new reader (Some end) → Comes limits actor start new end
+Comes-end limits actor n start old new was reader SinkFault so_far failed =
     let went = failed.1 in
     let t = went.replied.turn in
     let turns = so_far.turns in
     let cut = went.replied.written in
-    let m = more_by limits actor n first old new start before now was reader receipts more so_far (Err failed.0) went in
+    let m = more_by limits actor n start old new was reader so_far (Err failed.0) went in
     record {
       ends = record {
         turns = turns ++ t ∷ [];
-        taken = m.taken;
+        bytes = m.bytes;
         of_turns = m.of_turns;
         each = m.each;
-        bytes = m.bytes;
+        gave = m.gave;
         blocks = m.reading.prefix;
         at_end = tt;
+        all_at_end = given_at_end reader start.contents.source new.contents.source m.bytes _ m.reading;
         moments = m.moments;
-        written = (turns, t, cut.0, refl, Adds-trans start.written before.written now.written (texts_of turns) (take cut.0 (text_of t.reply)) so_far.written cut.1);
+        written = (turns, t, cut.0, refl, cut.1, Adds-trans start.contents.accepted old.contents.accepted new.contents.accepted (texts_of turns) (take cut.0 (text_of t.reply)) so_far.written cut.2);
       };
       goes_on = m.goes_on;
     }
-Comes-end limits actor n first old new start before now was reader receipts more Finished so_far turn = idle_comes limits actor n first old new start before now was receipts more Finished so_far turn (λ turns w. w)
-Comes-end limits actor n first old new start before now was reader receipts more Short so_far turn = idle_comes limits actor n first old new start before now was receipts more Short so_far turn (λ turns w. w)
-Comes-end limits actor n first old new start before now was reader receipts more SourceFault so_far turn = idle_comes limits actor n first old new start before now was receipts more SourceFault so_far turn (λ turns w. w)
-Comes-end limits actor n first old new start before now was reader receipts more InputLimit so_far turn = idle_comes limits actor n first old new start before now was receipts more InputLimit so_far turn (λ turns w. w)
+Comes-end limits actor n start old new was reader Finished so_far turn = idle_comes limits actor n start old new was Finished so_far turn (λ turns w. w)
+Comes-end limits actor n start old new was reader Short so_far turn = idle_comes limits actor n start old new was Short so_far turn (λ turns w. w)
+Comes-end limits actor n start old new was reader SourceFault so_far turn = idle_comes limits actor n start old new was SourceFault so_far turn (λ turns w. w)
+Comes-end limits actor n start old new was reader InputLimit so_far turn = idle_comes limits actor n start old new was InputLimit so_far turn (λ turns w. w)
 
--- there was no room for the next receipt
-pub Comes-short : (limits : Limits) (actor n : ℕ) (first h : PassView) (start now : Contents) (reader : ScriptReader) (receipts : List Receipt) → SoFar limits actor first h start now reader receipts n → Comes limits actor first h start now receipts Short
-Comes-short limits actor n first h start now reader receipts so_far = record {
-  ends = record {
-    turns = so_far.turns;
-    taken = so_far.taken;
-    of_turns = so_far.of_turns;
-    each = so_far.each;
-    bytes = so_far.bytes;
-    blocks = so_far.reading.prefix;
-    at_end = tt;
-    moments = so_far.moments;
-    written = so_far.written;
-  };
-  goes_on = so_far.goes_on;
-}
+no_blocks : (ended : Bool) → Begins [] (script_blocks command_bytes [] ended)
+no_blocks ended = (script_blocks command_bytes [] ended, refl)
 
 -- there was no room for the first receipt
 pub Ends-none : (limits : Limits) (actor : ℕ) (h : History) (o : Contents) → Ends limits h actor o o [] Short
 Ends-none limits actor h o = record {
   turns = [];
-  taken = [];
+  bytes = [];
   of_turns = refl;
   each = tt;
-  bytes = Loses-none o.left;
-  blocks = (script_blocks command_bytes [] true, refl);
+  gave = Gives-none o.source;
+  blocks = no_blocks o.source.ended;
   at_end = tt;
+  all_at_end = open_still o.source.ended o.source.ended [] [] refl;
   moments = Adds-none o.readings;
-  written = Adds-none o.written;
+  written = Adds-none o.accepted;
 }
 
 -- what explains a session goes on to explain it
-pub Explained-later : (limits : Limits) (h new : History) (actor : ℕ) (before now : Contents) (receipts : List Receipt) (status : ℕ) → IsPrefix h new → Explained limits h actor before now receipts status → Explained limits new actor before now receipts status
-Explained-later limits h new actor before now receipts status later explained =
+pub Explained-later : (limits : Limits) (h new : History) (actor : ℕ) (before : Contents) (s : SessionView) → IsPrefix h new → Explained limits h actor before s → Explained limits new actor before s
+Explained-later limits h new actor before s later explained =
     let ends = explained.ends in
     record {
       end = explained.end;
       ends = record {
         turns = ends.turns;
-        taken = ends.taken;
+        bytes = ends.bytes;
         of_turns = ends.of_turns;
         each = AreTurns-later limits actor h new later.0 0 0 (sym later.1) ends.turns ends.each;
-        bytes = ends.bytes;
+        gave = ends.gave;
         blocks = ends.blocks;
         at_end = ends.at_end;
+        all_at_end = ends.all_at_end;
         moments = ends.moments;
         written = ends.written;
       };

@@ -1,67 +1,90 @@
 -- What the reader gives makes a turn.
-use Rattle.std.proofs.Common.{true, ◌≤◌, arith, inl, inr, ◌≡◌, ◌≢◌, ℕ, ℤ, List, [], ◌∷◌, ◌++◌, Option, Result, Ok, refl, sym, subst, append-nil}
-use Rattle.kq_world.specs.Told.{Loses}
-use Rattle.kq_world.specs.Outside.{Contents, Rose}
-use Rattle.kq_world.proofs.Told.{Stays-same, Loses-none}
+use Rattle.std.proofs.Common.{◌≡◌, ◌≢◌, ℕ, Bool, true, false, List, [], ◌∷◌, ◌++◌, Some, Result, Ok, refl, ap, sym, ◌∙◌, subst, arith, append-nil}
+use Rattle.kq_world.specs.Outside.{SourceView, Gives, Rose}
+use Rattle.kq_world.proofs.Faults.{Rose-later, same-later}
+use Rattle.kq_world.proofs.Told.{Gives-none}
 use Rattle.kq_model.specs.declared.event.By.{By}
 use Rattle.kq_model.specs.declared.limits.Limits.{Limits}
 use Rattle.kq_script.specs.Script.{Block, script_blocks}
-use Rattle.kq_script.specs.Reading.{IsReading, GoesOn as MayGoOn, IsPrefix, Reads as ReadsOn}
+use Rattle.kq_script.specs.Reading.{GoesOn as MayGoOn, IsPrefix, IsReading, Reads as ReadsOn}
 use Rattle.kq_script.specs.State.{IsAt}
 use Rattle.kq_script.specs.declared.reader.Phase.{Phase}
+use Rattle.kq_script.specs.declared.reader.Phase.TheVariants as phases
 use Rattle.kq_script.specs.Item.{IsItemOf}
 use Rattle.kq_script.specs.declared.reader.ScriptReader.{ScriptReader}
 use Rattle.kq_script.specs.declared.item.Item.{Item}
 use Rattle.kq_script.specs.declared.item.Item.TheVariants.{Command, TooLong, Lost, Finished}
-use Rattle.kq_engine.specs.Shared.{PassView}
 use Rattle.kq_session.specs.declared.end.End.{End}
 use Rattle.kq_session.specs.declared.end.End.TheVariants as ends
 use Rattle.kq_session.specs.declared.receipt.Receipt.{Receipt}
-use Rattle.kq_session.specs.Session.{AreBlocks, IsLeft, command_bytes, input_bytes}
-use Rattle.kq_session.specs.Turns.{Idle, Reads, Replied, Went}
+use Rattle.kq_session.specs.Session.{AreAllAtEnd, AreBlocks, IsLeft, command_bytes, input_bytes}
+use Rattle.kq_session.specs.Turns.{State, Progress, IsAfter, Idle, Reads, Replies, Rises, Went}
 
-abbrev told_as : Option (List ℕ) → Option (List ℕ) → Option (List ℤ) → Contents
-told_as left written readings = record { left = left; written = written; readings = readings }
+-- the session, whose source tells this now, and which keeps these receipts
+abbrev pub read_on : State → SourceView → List Receipt → State
+read_on s source receipts = record s { contents = record s.contents { source = source }; receipts = receipts }
+
+false_true : {b c : Bool} → b ≡ false → c ≡ b → c ≡ true → ⊥
+false_true is_false same is_true = cc
+
+-- a reader whose source has ended has given all blocks
+all_given : (phase : Phase) (reader : ScriptReader) (first now : SourceView) (bytes : List ℕ) (blocks : List Block) → IsAt phase command_bytes input_bytes reader first now bytes blocks → AreAllAtEnd first.ended now.ended bytes blocks
+all_given phases.Reading reader first now bytes blocks at before after = absurd (false_true before at.1 after)
+all_given phases.Ended reader first now bytes blocks at before after = at.given_all
+all_given phases.Closed reader first now bytes blocks at before after = absurd at
+
+pub given_at_end : (reader : ScriptReader) (first now : SourceView) (bytes : List ℕ) (blocks : List Block) → IsReading command_bytes input_bytes reader first now bytes blocks → AreAllAtEnd first.ended now.ended bytes blocks
+given_at_end reader first now bytes blocks reading = all_given reader.phase reader first now bytes blocks reading.state
+
+-- a source that hasn't ended since says nothing of all blocks
+pub open_still : (ended_before ended_now : Bool) (bytes : List ℕ) (blocks : List Block) → ended_now ≡ ended_before → AreAllAtEnd ended_before ended_now bytes blocks
+open_still ended_before ended_now bytes blocks same before after = absurd (false_true before same after)
+
+-- nothing was read, for want of room
+pub Idle-short : (p : Progress) (s : State) (receipts : List Receipt) (reader : ScriptReader) → IsAfter reader s.contents.source p → receipts ≡ s.receipts → Idle p s (record s { receipts = receipts }) ends.Short
+Idle-short p s receipts reader reading same = record {
+  same_pass = refl;
+  same_receipts = same;
+  bytes = [];
+  gave = Gives-none s.contents.source;
+  blocks = subst (λ (l : List ℕ). IsPrefix p.given (script_blocks command_bytes l s.contents.source.ended)) (sym (append-nil p.taken)) reading.prefix;
+  at_end = tt;
+  all_at_end = subst (λ (l : List ℕ). AreAllAtEnd p.first.ended s.contents.source.ended l p.given) (sym (append-nil p.taken)) (given_at_end reader p.first s.contents.source p.taken p.given reading);
+  readings = refl;
+  accepted = refl;
+}
 
 -- what was read was no block, and nothing was answered
-pub Idle-read : (h : PassView) (first left left' written : Option (List ℕ)) (readings : Option (List ℤ)) (bytes taken : List ℕ) (given : List Block) (receipts more : List Receipt) (end : End) → Loses left left' bytes → AreBlocks end (taken ++ bytes) given → IsLeft end first left' → more ≡ receipts
-    → Idle h h first (told_as left written readings) (told_as left' written readings) taken given receipts more end
-Idle-read h first left left' written readings bytes taken given receipts more end loses blocks at_end same = record {
+pub Idle-read : (p : Progress) (s : State) (now : SourceView) (receipts : List Receipt) (bytes : List ℕ) (end : End) → Gives s.contents.source now bytes → AreBlocks end (p.taken ++ bytes) now.ended p.given → IsLeft end p.first now → AreAllAtEnd p.first.ended now.ended (p.taken ++ bytes) p.given → receipts ≡ s.receipts → Idle p s (read_on s now receipts) end
+Idle-read p s now receipts bytes end gave blocks at_end all same = record {
   same_pass = refl;
   same_receipts = same;
   bytes = bytes;
-  loses = loses;
+  gave = gave;
   blocks = blocks;
   at_end = at_end;
-  readings = Stays-same readings;
-  written = Stays-same written;
+  all_at_end = all;
+  readings = refl;
+  accepted = refl;
 }
 
--- nothing was read, for want of room
-pub Idle-short : (h : PassView) (first left written : Option (List ℕ)) (readings : Option (List ℤ)) (reader : ScriptReader) (taken : List ℕ) (given : List Block) (receipts more : List Receipt) → IsReading command_bytes input_bytes reader first left taken given → more ≡ receipts
-    → Idle h h first (told_as left written readings) (told_as left written readings) taken given receipts more ends.Short
-Idle-short h first left written readings reader taken given receipts more reading same =
-    let blocks = subst (λ (l : List ℕ). IsPrefix given (script_blocks command_bytes l true)) (sym (append-nil taken)) reading.prefix in
-    Idle-read h first left left written readings [] taken given receipts more ends.Short (Loses-none left) blocks tt same
-
 -- an item that isn't the end is a block
-pub Reads-item : (first left left' : Option (List ℕ)) (reader : ScriptReader) (taken : List ℕ) (given : List Block) (item : Item) → item ≢ Finished → ReadsOn command_bytes input_bytes (Ok item) reader first left left' taken given → (block : Block) × IsItemOf command_bytes item block × Reads first left left' reader taken given block
-Reads-item first left left' reader taken given (Command bytes) not reads = (reads.outcome.0, reads.outcome.1, record { bytes = reads.before ++ reads.last; loses = reads.loses; reading = reads.outcome.2 })
-Reads-item first left left' reader taken given (TooLong bytes) not reads = (reads.outcome.0, reads.outcome.1, record { bytes = reads.before ++ reads.last; loses = reads.loses; reading = reads.outcome.2 })
-Reads-item first left left' reader taken given Lost not reads = (reads.outcome.0, reads.outcome.1, record { bytes = reads.before ++ reads.last; loses = reads.loses; reading = reads.outcome.2 })
-Reads-item first left left' reader taken given Finished not reads = absurd (not refl)
+pub Reads-item : (p : Progress) (old now : SourceView) (reader : ScriptReader) (item : Item) → item ≢ Finished → ReadsOn command_bytes input_bytes (Ok item) reader p.first old now p.taken p.given → (block : Block) × IsItemOf command_bytes item block × Reads p old now reader block
+Reads-item p old now reader (Command bytes) not reads = (reads.outcome.0, reads.outcome.1, record { bytes = reads.before ++ reads.last; gave = reads.gives; reading = reads.outcome.2 })
+Reads-item p old now reader (TooLong bytes) not reads = (reads.outcome.0, reads.outcome.1, record { bytes = reads.before ++ reads.last; gave = reads.gives; reading = reads.outcome.2 })
+Reads-item p old now reader Lost not reads = (reads.outcome.0, reads.outcome.1, record { bytes = reads.before ++ reads.last; gave = reads.gives; reading = reads.outcome.2 })
+Reads-item p old now reader Finished not reads = absurd (not refl)
 
 -- a block that was read and answered
-pub Went-reply : {E : Type 0} (limits : Limits) (by : By) (old new : PassView) (first left left' written written' : Option (List ℕ)) (readings readings' : Option (List ℤ)) (reader : ScriptReader) (taken : List ℕ) (given : List Block) (receipts middle more : List Receipt) (item : Item) (result : Result (Unit {0}) E)
-    → item ≢ Finished → ReadsOn command_bytes input_bytes (Ok item) reader first left left' taken given → middle ≡ receipts
-    → ((limit : ℕ) (block : Block) → IsItemOf limit item block → Replied limits by old new (told_as left' written readings) (told_as left' written' readings') block middle more result)
-    → Went limits by old new first (told_as left written readings) (told_as left' written' readings') reader taken given receipts more result
-Went-reply limits by old new first left left' written written' readings readings' reader taken given receipts middle more item result not reads same replied =
-    let read = Reads-item first left left' reader taken given item not reads in
-    let done = replied command_bytes read.0 read.1 in
+pub Went-reply : {E : Type 0} (limits : Limits) (by : By) (p : Progress) (s new : State) (reader : ScriptReader) (now : SourceView) (receipts : List Receipt) (item : Item) (result : Result (Unit {0}) E)
+    → item ≢ Finished → ReadsOn command_bytes input_bytes (Ok item) reader p.first s.contents.source now p.taken p.given → receipts ≡ s.receipts → new.contents.source ≡ now
+    → Replies limits by item (read_on s now receipts) new result → Went limits by p s new reader result
+Went-reply limits by p s new reader now receipts item result not reads same is_now replies =
+    let read = Reads-item p s.contents.source now reader item not reads in
+    let done = replies command_bytes read.0 read.1 in
     record {
       block = read.0;
-      reads = read.2;
+      reads = subst (λ (v : SourceView). Reads p s.contents.source v reader read.0) (sym is_now) read.2;
       replied = record {
         turn = done.turn;
         same_block = done.same_block;
@@ -69,16 +92,31 @@ Went-reply limits by old new first left left' written written' readings readings
           step = done.answered.step;
           number = done.answered.number;
           kind = done.answered.kind;
-          receipt = subst (λ (l : List Receipt). more ≡ l ++ done.turn.receipt ∷ []) same done.answered.receipt;
+          receipt = subst (λ (l : List Receipt). new.receipts ≡ l ++ done.turn.receipt ∷ []) same done.answered.receipt;
           moment = done.answered.moment;
         };
         written = done.written;
       };
     }
 
-pub Rose-below : (before now : ℕ) → Rose before now → before ≤ now
-Rose-below before now rose = elim rose [ inl more ↦ omega (arith, more) | inr end ↦ omega (arith, end.1) ]
+-- a call that didn't fail, or that isn't the one that fails so
+pub Rises-none : (before now : ℕ) (fault : Type 0) → now ≡ before → (fault → ⊥) → Rises before now fault
+Rises-none before now fault same never = record { never_falls = same-later before now same; rose = λ f. absurd (never f); stays = λ other. same }
+
+pub Rises-fault : (before now : ℕ) (fault : Type 0) → Rose before now → fault → Rises before now fault
+Rises-fault before now fault rose is = record { never_falls = Rose-later before now rose; rose = λ f. rose; stays = λ other. absurd (other is) }
+
+-- the turn of the end, after others that didn't fail
+pub Rises-end : (before between now : ℕ) (end fault : End) → between ≡ before → Rises between now (Some end ≡ Some fault) → Rises before now (end ≡ fault)
+Rises-end before between now end fault same rises = record {
+  never_falls = omega (arith, same, rises.never_falls);
+  rose = λ e. subst (λ (n : ℕ). Rose n now) same (rises.rose (ap Some e));
+  stays = λ other. rises.stays (λ e. other (same_end e)) ∙ same;
+}
+  where
+    same_end : Some end ≡ Some fault → end ≡ fault
+    same_end e = cc
 
 -- a reader that is reading may be asked
-pub MayGoOn-reading : (command input : ℕ) (reader : ScriptReader) (first left : Option (List ℕ)) (taken : List ℕ) (given : List Block) → IsReading command input reader first left taken given → MayGoOn reader
-MayGoOn-reading command input reader first left taken given reading = λ e. subst (λ (p : Phase). IsAt p command input reader first left taken given) e reading.state
+pub MayGoOn-reading : (reader : ScriptReader) (now : SourceView) (p : Progress) → IsAfter reader now p → MayGoOn reader
+MayGoOn-reading reader now p reading = λ e. subst (λ (phase : Phase). IsAt phase command_bytes input_bytes reader p.first now p.taken p.given) e reading.state

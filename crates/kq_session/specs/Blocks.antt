@@ -25,6 +25,12 @@ pub record Refuses (h : History) (place : ℕ) (own : Bool) (reply : Reply) (r :
   pub not_own : own ≡ false
   pub reason : (reply ≡ replies.Refused r) ⊎ (reply ≡ replies.Refused refusals.Memory)
 
+-- refused for its length alone, which takes no memory
+pub record RefusesLength (h : History) (place : ℕ) (own : Bool) (reply : Reply) (bytes : ℕ) : Type 0 where
+  pub within : place ≤ length h
+  pub not_own : own ≡ false
+  pub refused : reply ≡ replies.Refused (refusals.TooLong bytes)
+
 -- the refusal of a fault
 abbrev pub refusal_of : CommandFault → Refusal
 refusal_of (NotText at) = refusals.NotText at
@@ -47,16 +53,17 @@ pub record FitsText (limits : Limits) (h : History) (mark : By) (text : List ℕ
 -- the reply to a block
 abbrev pub FitsBlock : Limits → History → By → Block → ℤ → ℕ → Bool → Reply → Type 0
 FitsBlock limits h mark (command text) now place own reply = FitsText limits h mark text now place own reply
-FitsBlock limits h mark (too_long bytes) now place own reply = Refuses h place own reply (refusals.TooLong bytes)
+FitsBlock limits h mark (too_long bytes) now place own reply = RefusesLength h place own reply bytes
 
 -- the refusals of a text alone, and for want of memory: Memory, Syntax, Deep, TooLong, Unsupported and NotText
 abbrev pub is_early : ℕ → Bool
 is_early kind = list_any (nat_eq kind) (1 ∷ 2 ∷ 3 ∷ 6 ∷ 12 ∷ 22 ∷ [])
 
--- the takes for a reply of this kind at this place: such a refusal needs none, and else the place is at least the first
+-- the takes for a reply of this kind at this place, two at most: such a refusal needs none, and else the place is at least
+-- the first
 abbrev pub AreTakes : ℕ → ℕ → List ℕ → Type 0
 AreTakes kind place [] = is_early kind ≡ true
-AreTakes kind place (first ∷ more) = first ≤ place
+AreTakes kind place (first ∷ more) = (first ≤ place) × (length more ≤ 1)
 
 -- one block was answered through a pass: the outcome fits what it has then seen, at a place not below what it had seen
 pub record Steps (limits : Limits) (old new : PassView) (by : By) (block : Block) (now : ℤ) (outcome : Outcome) : Type 0 where

@@ -1,9 +1,9 @@
 -- When a session is explained by a history.
-use Rattle.std.specs.Prelude.{◌≡◌, ◌<◌, ◌≤◌, ◌+◌, ℕ, ℤ, true, false, List, [], ◌∷◌, ◌++◌, length, take, map, count_by, Option}
+use Rattle.std.specs.Prelude.{◌≡◌, ◌<◌, ◌≤◌, ◌+◌, ℕ, ℤ, Bool, true, false, List, [], ◌∷◌, ◌++◌, length, take, map, count_by}
 use Rattle.std.specs.List.{flat_map}
 use mathlib.Core.List.{IsPrefix}
-use Rattle.kq_world.specs.Told.{Adds, Loses}
-use Rattle.kq_world.specs.Outside.{Contents}
+use Rattle.kq_world.specs.Told.{Adds}
+use Rattle.kq_world.specs.Outside.{SourceView, Contents, Gives}
 use Rattle.kq_model.specs.declared.limits.Limits.{Limits}
 use Rattle.kq_model.specs.History.{History, CommitAt}
 use Rattle.kq_reply.specs.declared.reply.Reply.{Reply}
@@ -11,7 +11,7 @@ use Rattle.kq_reply.specs.Number.{kind_of}
 use Rattle.kq_reply.specs.Text.{text_of}
 use Rattle.kq_script.specs.Script.{Block, script_blocks}
 use Rattle.kq_script.specs.Reading.{IsPrefix as Begins}
-use Rattle.kq_script.specs.State.{IsDrained}
+use Rattle.kq_script.specs.State.{IsAtEnd}
 use Rattle.kq_engine.specs.Fits.{own_commit}
 use Rattle.kq_engine.specs.Shared.{PassView}
 use Rattle.kq_session.specs.declared.end.End.{End}
@@ -19,6 +19,7 @@ use Rattle.kq_session.specs.declared.end.End.TheVariants.{Finished, Short, Sourc
 use Rattle.kq_session.specs.declared.receipt.Receipt.{Receipt}
 use Rattle.kq_session.specs.Blocks.{FitsBlock, AreTakes}
 use Rattle.kq_session.specs.Ends.{status_of}
+use Rattle.kq_session.specs.Objects.{SessionView}
 
 abbrev pub command_bytes : ℕ
 command_bytes = 16777216
@@ -52,47 +53,56 @@ moments_of = map (λ (t : Turn). t.receipt.moment)
 abbrev pub texts_of : List Turn → List ℕ
 texts_of = flat_map (λ (t : Turn). text_of t.reply)
 
--- the blocks that were answered are those of the bytes taken, by how the session ended
-abbrev pub AreBlocks : End → List ℕ → List Block → Type 0
-AreBlocks Finished taken blocks = (blocks ≡ script_blocks command_bytes taken true) × (length taken < input_bytes)
-AreBlocks Short taken blocks = Begins blocks (script_blocks command_bytes taken true)
-AreBlocks SourceFault taken blocks = (blocks ≡ script_blocks command_bytes taken false) × (length taken < input_bytes)
-AreBlocks SinkFault taken blocks = Begins blocks (script_blocks command_bytes taken true)
-AreBlocks InputLimit taken blocks = (blocks ≡ script_blocks command_bytes taken false) × (length taken ≡ input_bytes)
+-- the blocks that were answered are those of the bytes that were read, by how the session ended. One that stands open
+-- counts only where the end was read
+abbrev pub AreBlocks : End → List ℕ → Bool → List Block → Type 0
+AreBlocks Finished bytes ended blocks = (blocks ≡ script_blocks command_bytes bytes true) × (length bytes < input_bytes)
+AreBlocks Short bytes ended blocks = Begins blocks (script_blocks command_bytes bytes ended)
+AreBlocks SourceFault bytes ended blocks = (blocks ≡ script_blocks command_bytes bytes false) × (length bytes < input_bytes)
+AreBlocks SinkFault bytes ended blocks = Begins blocks (script_blocks command_bytes bytes ended)
+AreBlocks InputLimit bytes ended blocks = (blocks ≡ script_blocks command_bytes bytes false) × (length bytes ≡ input_bytes)
 
--- a source that was read to its end has nothing left
-abbrev pub IsLeft : End → Option (List ℕ) → Option (List ℕ) → Type 0
-IsLeft Finished first left = IsDrained first left
-IsLeft Short first left = Unit {0}
-IsLeft SourceFault first left = Unit {0}
-IsLeft SinkFault first left = Unit {0}
-IsLeft InputLimit first left = Unit {0}
+-- a script that was finished was read to the source's end, and a fault or the limit came before the end
+abbrev pub IsLeft : End → SourceView → SourceView → Type 0
+IsLeft Finished first now = IsAtEnd first now
+IsLeft Short first now = Unit {0}
+IsLeft SourceFault first now = now.ended ≡ first.ended
+IsLeft SinkFault first now = Unit {0}
+IsLeft InputLimit first now = now.ended ≡ first.ended
 
--- all replies were written, or all but the last and a beginning of it
-abbrev pub AreWritten : End → Option (List ℕ) → Option (List ℕ) → List Turn → Type 0
+-- where the source's end was read, all blocks were answered, even if the session ended otherwise
+abbrev pub AreAllAtEnd : Bool → Bool → List ℕ → List Block → Type 0
+AreAllAtEnd ended_before ended_now bytes blocks = ended_before ≡ false → ended_now ≡ true → blocks ≡ script_blocks command_bytes bytes true
+
+-- all replies were written, or all but the last and a beginning of it that isn't the whole
+abbrev pub AreWritten : End → List ℕ → List ℕ → List Turn → Type 0
 AreWritten Finished before now turns = Adds before now (texts_of turns)
 AreWritten Short before now turns = Adds before now (texts_of turns)
 AreWritten SourceFault before now turns = Adds before now (texts_of turns)
-AreWritten SinkFault before now turns = (front : List Turn) × (last : Turn) × (n : ℕ) × (turns ≡ front ++ last ∷ []) × Adds before now (texts_of front ++ take n (text_of last.reply))
+AreWritten SinkFault before now turns =
+    (front : List Turn) × (last : Turn) × (n : ℕ) × (turns ≡ front ++ last ∷ [])
+    × (n < length (text_of last.reply))
+    × Adds before now (texts_of front ++ take n (text_of last.reply))
 AreWritten InputLimit before now turns = Adds before now (texts_of turns)
 
--- a session's turns explain its source, sink and clock before and after it, its receipts and how it ended
+-- a session's turns explain what its source gave, what its sink took, what its clock read, its receipts and how it ended
 pub record Ends (limits : Limits) (h : History) (actor : ℕ) (before now : Contents) (receipts : List Receipt) (end : End) : Type 0 where
   pub turns : List Turn
-  pub taken : List ℕ
+  pub bytes : List ℕ
   pub of_turns : receipts ≡ map (λ (t : Turn). t.receipt) turns
   pub each : AreTurns limits h actor 0 0 turns
-  pub bytes : Loses before.left now.left taken
-  pub blocks : AreBlocks end taken (blocks_of turns)
-  pub at_end : IsLeft end before.left now.left
+  pub gave : Gives before.source now.source bytes
+  pub blocks : AreBlocks end bytes now.source.ended (blocks_of turns)
+  pub at_end : IsLeft end before.source now.source
+  pub all_at_end : AreAllAtEnd before.source.ended now.source.ended bytes (blocks_of turns)
   pub moments : Adds before.readings now.readings (moments_of turns)
-  pub written : AreWritten end before.written now.written turns
+  pub written : AreWritten end before.accepted now.accepted turns
 
--- the session of an actor is explained by a history, with its status
-pub record Explained (limits : Limits) (h : History) (actor : ℕ) (before now : Contents) (receipts : List Receipt) (status : ℕ) : Type 0 where
+-- the session of an actor, whose objects told this at first, is explained by a history
+pub record Explained (limits : Limits) (h : History) (actor : ℕ) (before : Contents) (s : SessionView) : Type 0 where
   pub end : End
-  pub ends : Ends limits h actor before now receipts end
-  pub by_end : status ≡ status_of end receipts
+  pub ends : Ends limits h actor before s.objects.contents s.receipts end
+  pub by_end : s.status ≡ status_of end s.receipts
 
 -- the commits of an actor's receipts with `own`
 abbrev pub own_commits : ℕ → List Receipt → List CommitAt
@@ -108,7 +118,7 @@ AreTaken [] taken = taken ≡ []
 AreTaken (r ∷ receipts) taken = (takes : List ℕ) × (more : List ℕ) × (taken ≡ takes ++ more) × AreTakes r.kind r.place takes × AreTaken receipts more
 
 -- a pass after these receipts: it has seen at least as much, the commits made through it since are those of the receipts
--- with `own`, and it took the catalogue for each of them
+-- with `own`, and it took the catalogue for each of them, twice at most
 pub record GoesOn (old new : PassView) (receipts : List Receipt) : Type 0 where
   pub of : new.of ≡ old.of
   pub worth : new.worth ≡ old.worth

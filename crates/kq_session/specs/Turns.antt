@@ -1,70 +1,109 @@
 -- What one turn of a session does.
-use Rattle.std.specs.Prelude.{◌≡◌, ◌≤◌, ℕ, List, [], ◌∷◌, ◌++◌, Option, Some, None, Result, Ok, Err}
-use Rattle.kq_world.specs.Told.{Stays, Adds, Loses}
-use Rattle.kq_world.specs.Outside.{Contents, PutsAll, Rose}
+use Rattle.std.specs.Prelude.{◌≡◌, ◌≤◌, ℕ, ℤ, List, [], ◌∷◌, ◌++◌, Option, Some, None, Result, Ok, Err}
+use Rattle.kq_world.specs.Told.{Adds}
+use Rattle.kq_world.specs.Outside.{SourceView, Contents, Gives, PutsAll, Rose, contents}
 use Rattle.kq_world.specs.declared.outside.Failed.{Failed}
 use Rattle.kq_model.specs.declared.event.By.{By}
 use Rattle.kq_model.specs.declared.limits.Limits.{Limits}
 use Rattle.kq_reply.specs.Number.{kind_of}
 use Rattle.kq_reply.specs.Text.{text_of}
+use Rattle.kq_script.specs.Item.{IsItemOf}
 use Rattle.kq_script.specs.Script.{Block}
+use Rattle.kq_script.specs.declared.item.Item.{Item}
 use Rattle.kq_script.specs.Reading.{IsReading}
 use Rattle.kq_script.specs.declared.reader.ScriptReader.{ScriptReader}
 use Rattle.kq_engine.specs.Shared.{PassView}
 use Rattle.kq_session.specs.declared.end.End.{End}
 use Rattle.kq_session.specs.declared.end.End.TheVariants.{Finished, Short, SourceFault, SinkFault, InputLimit}
 use Rattle.kq_session.specs.declared.receipt.Receipt.{Receipt}
+use Rattle.kq_session.specs.declared.session.Session.{Session}
 use Rattle.kq_session.specs.Blocks.{Steps}
-use Rattle.kq_session.specs.Session.{Turn, AreBlocks, IsLeft, command_bytes, input_bytes}
+use Rattle.kq_session.specs.Session.{Turn, Ends, GoesOn, AreBlocks, AreAllAtEnd, IsLeft, command_bytes, input_bytes}
+
+-- a session at one moment: its pass, what its objects tell, and its receipts
+pub record State : Type 0 where
+  pub pass : PassView
+  pub contents : Contents
+  pub receipts : List Receipt
+
+-- that of a session under way, each object by its own meaning
+abbrev pub state_of : {S K C : Type 0} → (S → SourceView) → (K → List ℕ) → (C → List ℤ) → Session S K C → State
+state_of told accepted readings s = record { pass = s.pass; contents = contents told accepted readings s.parts; receipts = s.receipts.items }
+
+-- what was read so far: what the source told at first, the bytes that it gave since, and the blocks given of them
+pub record Progress : Type 0 where
+  pub first : SourceView
+  pub taken : List ℕ
+  pub given : List Block
+
+abbrev pub IsAfter : ScriptReader → SourceView → Progress → Type 0
+IsAfter reader now p = IsReading command_bytes input_bytes reader p.first now p.taken p.given
 
 -- a block was answered, and its receipt kept
-pub record Answered (limits : Limits) (by : By) (old new : PassView) (before now : Contents) (receipts more : List Receipt) (t : Turn) : Type 0 where
-  pub step : Steps limits old new by t.block t.receipt.moment (record { place = t.receipt.place; own = t.receipt.own; reply = t.reply })
+pub record Answered (limits : Limits) (by : By) (old new : State) (t : Turn) : Type 0 where
+  pub step : Steps limits old.pass new.pass by t.block t.receipt.moment (record { place = t.receipt.place; own = t.receipt.own; reply = t.reply })
   pub number : t.receipt.number ≡ by.number
   pub kind : t.receipt.kind ≡ kind_of t.reply
-  pub receipt : more ≡ receipts ++ t.receipt ∷ []
-  pub moment : Adds before.readings now.readings (t.receipt.moment ∷ [])
+  pub receipt : new.receipts ≡ old.receipts ++ t.receipt ∷ []
+  pub moment : Adds old.contents.readings new.contents.readings (t.receipt.moment ∷ [])
 
 -- this block was answered, and its reply written as far as the sink took it
-pub record Replied {E : Type 0} (limits : Limits) (by : By) (old new : PassView) (before now : Contents) (block : Block) (receipts more : List Receipt) (result : Result (Unit {0}) E) : Type 0 where
+pub record Replied {E : Type 0} (limits : Limits) (by : By) (old new : State) (block : Block) (result : Result (Unit {0}) E) : Type 0 where
   pub turn : Turn
   pub same_block : turn.block ≡ block
-  pub answered : Answered limits by old new before now receipts more turn
-  pub written : PutsAll before.written now.written result (text_of turn.reply)
+  pub answered : Answered limits by old new turn
+  pub written : PutsAll old.contents.accepted new.contents.accepted result (text_of turn.reply)
+
+-- so was the block of an item
+abbrev pub Replies : {E : Type 0} → Limits → By → Item → State → State → Result (Unit {0}) E → Type 0
+Replies limits by item old new result = (limit : ℕ) (block : Block) → IsItemOf limit item block → Replied limits by old new block result
 
 -- a block was read from the source
-pub record Reads (first before now : Option (List ℕ)) (reader : ScriptReader) (taken : List ℕ) (given : List Block) (block : Block) : Type 0 where
+pub record Reads (p : Progress) (old new : SourceView) (reader : ScriptReader) (block : Block) : Type 0 where
   pub bytes : List ℕ
-  pub loses : Loses before now bytes
-  pub reading : IsReading command_bytes input_bytes reader first now (taken ++ bytes) (given ++ block ∷ [])
+  pub gave : Gives old new bytes
+  pub reading : IsReading command_bytes input_bytes reader p.first new (p.taken ++ bytes) (p.given ++ block ∷ [])
 
 -- no block was answered
-pub record Idle (old new : PassView) (first : Option (List ℕ)) (before now : Contents) (taken : List ℕ) (given : List Block) (receipts more : List Receipt) (end : End) : Type 0 where
-  pub same_pass : new ≡ old
-  pub same_receipts : more ≡ receipts
+pub record Idle (p : Progress) (old new : State) (end : End) : Type 0 where
+  pub same_pass : new.pass ≡ old.pass
+  pub same_receipts : new.receipts ≡ old.receipts
   pub bytes : List ℕ
-  pub loses : Loses before.left now.left bytes
-  pub blocks : AreBlocks end (taken ++ bytes) given
-  pub at_end : IsLeft end first now.left
-  pub readings : Stays before.readings now.readings
-  pub written : Stays before.written now.written
+  pub gave : Gives old.contents.source new.contents.source bytes
+  pub blocks : AreBlocks end (p.taken ++ bytes) new.contents.source.ended p.given
+  pub at_end : IsLeft end p.first new.contents.source
+  pub all_at_end : AreAllAtEnd p.first.ended new.contents.source.ended (p.taken ++ bytes) p.given
+  pub readings : new.contents.readings ≡ old.contents.readings
+  pub accepted : new.contents.accepted ≡ old.contents.accepted
 
 -- a block was read and answered
-pub record Went {E : Type 0} (limits : Limits) (by : By) (old new : PassView) (first : Option (List ℕ)) (before now : Contents) (reader : ScriptReader) (taken : List ℕ) (given : List Block) (receipts more : List Receipt) (result : Result (Unit {0}) E) : Type 0 where
+pub record Went {E : Type 0} (limits : Limits) (by : By) (p : Progress) (old new : State) (reader : ScriptReader) (result : Result (Unit {0}) E) : Type 0 where
   pub block : Block
-  pub reads : Reads first before.left now.left reader taken given block
-  pub replied : Replied limits by old new before now block receipts more result
+  pub reads : Reads p old.contents.source new.contents.source reader block
+  pub replied : Replied limits by old new block result
 
 -- by its end, where it has one
-abbrev pub TurnBy : Limits → By → PassView → PassView → Option (List ℕ) → Contents → Contents → ScriptReader → List ℕ → List Block → List Receipt → List Receipt → Option End → Type 0
-TurnBy limits by old new first before now reader taken given receipts more None = Went {E = Failed} limits by old new first before now reader taken given receipts more (Ok tt)
-TurnBy limits by old new first before now reader taken given receipts more (Some SinkFault) = (e : Failed) × Went limits by old new first before now reader taken given receipts more (Err e)
-TurnBy limits by old new first before now reader taken given receipts more (Some Finished) = Idle old new first before now taken given receipts more Finished
-TurnBy limits by old new first before now reader taken given receipts more (Some Short) = Idle old new first before now taken given receipts more Short
-TurnBy limits by old new first before now reader taken given receipts more (Some SourceFault) = Idle old new first before now taken given receipts more SourceFault
-TurnBy limits by old new first before now reader taken given receipts more (Some InputLimit) = Idle old new first before now taken given receipts more InputLimit
+abbrev pub TurnBy : Limits → By → Progress → State → State → ScriptReader → Option End → Type 0
+TurnBy limits by p old new reader None = Went {E = Failed} limits by p old new reader (Ok tt)
+TurnBy limits by p old new reader (Some SinkFault) = (e : Failed) × Went limits by p old new reader (Err e)
+TurnBy limits by p old new reader (Some Finished) = Idle p old new Finished
+TurnBy limits by p old new reader (Some Short) = Idle p old new Short
+TurnBy limits by p old new reader (Some SourceFault) = Idle p old new SourceFault
+TurnBy limits by p old new reader (Some InputLimit) = Idle p old new InputLimit
 
--- the count of faults never falls, and rose where this holds
+-- one turn of a session under way, whatever was read before it
+abbrev pub TakesTurn : {S K C : Type 0} → (S → SourceView) → (K → List ℕ) → (C → List ℤ) → Limits → By → ScriptReader → ScriptReader → Session S K C → Session S K C → Option End → Type 0
+TakesTurn told accepted readings limits by was reader old new end =
+    let at = state_of told accepted readings in
+    (p : Progress) → IsAfter was (at old).contents.source p → TurnBy limits by p (at old) (at new) reader end
+
+-- what a session comes to from its start
+pub record Comes (limits : Limits) (actor : ℕ) (old new : State) (end : End) : Type 0 where
+  pub goes_on : GoesOn old.pass new.pass new.receipts
+  pub ends : Ends limits new.pass.seen actor old.contents new.contents new.receipts end
+
+-- the count of faults never falls, rose where this holds, and stays where it doesn't
 pub record Rises (before now : ℕ) (fault : Type 0) : Type 0 where
   pub never_falls : before ≤ now
   pub rose : fault → Rose before now
+  pub stays : (fault → ⊥) → now ≡ before

@@ -1,5 +1,5 @@
 // Answering a block.
-ghost use Rattle.std.specs.Prelude.{◌≡◌, ℕ, false, length};
+ghost use Rattle.std.specs.Prelude.{◌≡◌, ◌≢◌, ℕ, false, length};
 ghost use Rattle.kq_script.specs.Script.{Block, command};
 ghost use Rattle.kq_script.specs.Item.{IsItemOf};
 ghost use Rattle.kq_reply.specs.declared.reply.Reply.TheVariants as replies;
@@ -23,7 +23,8 @@ pub(crate) fn answer<R: Wait, G: Gate>(
     item: Item,
     now: i64,
 ) -> Outcome
-    requires { pass.old.of ≡ service.now.shared.now.turn }
+    requires of { pass.old.of ≡ service.now.shared.now.turn }
+    requires block { item ≢ Item.Finished }
     ensures { (limit : ℕ) (block : Block) → IsItemOf limit item block → Steps service.now.shared.now.limits pass.old pass.new by block now result }
 {
     let shared = service.shared;
@@ -31,7 +32,7 @@ pub(crate) fn answer<R: Wait, G: Gate>(
         Item::Command(text) => answer_text(service, pass, by, &text, now),
         Item::TooLong { bytes } => refused(shared, pass, Refusal::TooLong { bytes }),
         Item::Lost => refused(shared, pass, Refusal::Memory),
-        Item::Finished => refused(shared, pass, Refusal::Memory),
+        Item::Finished => unreachable!(),
     }
 }
 

@@ -7,9 +7,11 @@
 mod answer;
 mod end;
 mod receipt;
+mod served;
 mod service;
 mod session;
 
 pub use end::End;
 pub use receipt::{Receipt, Receipts};
-pub use session::{Served, serve};
+pub use served::Served;
+pub use session::serve;

@@ -1,15 +1,16 @@
 // The session's loop.
-ghost use Rattle.std.specs.Prelude.{◌≡◌, ◌<◌, ℕ, List, [], Option, Some, vec_len, vec_capacity};
-ghost use Rattle.kq_world.specs.Outside.{Contents, HasCause};
-ghost use Rattle.kq_script.specs.Script.{Block};
-ghost use Rattle.kq_script.specs.Item.{IsItemOf};
+ghost use Rattle.std.specs.Prelude.{◌≡◌, ◌≢◌, ◌<◌, ℕ, [], Some, vec_len, vec_capacity};
+ghost use Rattle.kq_world.specs.Outside.{HasCause, contents};
 ghost use Rattle.kq_script.specs.Reading.{IsReading, GoesOn as MayGoOn};
-ghost use Rattle.kq_session.specs.Session.{Explained, Ends, GoesOn, command_bytes, input_bytes};
-ghost use Rattle.kq_session.specs.Turns.{TurnBy, Replied, Rises};
+ghost use Rattle.kq_session.specs.Complete.{Completes};
+ghost use Rattle.kq_session.specs.Objects.{objects};
+ghost use Rattle.kq_session.specs.Session.{Explained, GoesOn, command_bytes, input_bytes};
+ghost use Rattle.kq_session.specs.Turns.{Comes, Replies, Rises, TakesTurn, state_of};
 
 use crate::answer::answer;
 use crate::end::End;
 use crate::receipt::{Receipt, Receipts};
+use crate::served::Served;
 use crate::service::Service;
 use kq_engine::{Pass, Shared};
 use kq_model::By;
@@ -25,15 +26,12 @@ const COMMAND_BYTES: u64 = 16_777_216;
 // The most bytes that a session takes.
 const INPUT_BYTES: u64 = 4_294_967_296;
 
-/// What a session hands back. Its status is 0 where the script was read to its end and no reply was for want of
-/// memory; else 1 for want of memory, 3 for a fault of the source, 4 of the sink, and 6 where 2^32 bytes were taken
-/// without an end.
+/// A session that is under way.
 #[derive(Drop)]
-pub struct Served<S: Drop, K: Drop, C: Drop> {
+pub(crate) struct Session<S: Drop, K: Drop, C: Drop> {
     pub pass: Pass,
     pub parts: Parts<S, K, C>,
-    pub receipts: Receipts,
-    pub status: u8,
+    pub receipts: Vec<Receipt>,
 }
 
 /// Serves a session to its end. Others may be served at the same time, each with a pass of its own. It waits.
@@ -47,10 +45,11 @@ pub fn serve<R: Wait, S: Source, K: Sink, C: Clock, G: Gate>(
     gate: &G,
 ) -> Served<S, K, C>
     requires { pass.of ≡ shared.now.turn }
-    ensures pass { GoesOn pass result.pass result.receipts }
-    ensures explained { Explained shared.now.limits result.pass.seen actor (record { left = S.left parts.source; written = K.written parts.sink; readings = C.readings parts.clock }) (record { left = S.left result.parts.source; written = K.written result.parts.sink; readings = C.readings result.parts.clock }) result.receipts result.status }
-    ensures source { Rises (S.faults parts.source) (S.faults result.parts.source) (result.status ≡ 3) }
-    ensures sink { Rises (K.faults parts.sink) (K.faults result.parts.sink) (result.status ≡ 4) }
+    ensures pass { GoesOn pass result.pass result.session.receipts }
+    ensures explained { Explained shared.now.limits result.pass.seen actor (contents S.told K.accepted C.readings parts) result.session }
+    ensures complete { Completes shared.now.limits result.pass.seen actor (objects S.told S.faults K.accepted K.faults C.readings parts) result.session }
+    ensures source { Rises (S.faults parts.source) result.session.objects.source_faults (result.session.status ≡ 3) }
+    ensures sink { Rises (K.faults parts.sink) result.session.objects.sink_faults (result.session.status ≡ 4) }
 {
     let service = Service {
         rt,
@@ -58,21 +57,22 @@ pub fn serve<R: Wait, S: Source, K: Sink, C: Clock, G: Gate>(
         shared,
         gate,
     };
-    let mut pass = pass;
-    let mut parts = parts;
-    let mut receipts = Vec::new(alloc);
+    let receipts = Vec::new(alloc);
+    let mut session = Session {
+        pass,
+        parts,
+        receipts,
+    };
     let end = match ScriptReader::new(alloc, COMMAND_BYTES, INPUT_BYTES) {
-        Ok(mut reader) => serve_script(
-            &service,
-            &mut pass,
-            actor,
-            &mut reader,
-            &mut parts,
-            &mut receipts,
-        ),
+        Ok(mut reader) => serve_script(&service, actor, &mut reader, &mut session),
         Err(_) => End::Short,
     };
-    let status = end.status(receipts.as_slice());
+    let status = end.status(session.receipts.as_slice());
+    let Session {
+        pass,
+        parts,
+        receipts,
+    } = session;
     Served {
         pass,
         parts,
@@ -83,23 +83,20 @@ pub fn serve<R: Wait, S: Source, K: Sink, C: Clock, G: Gate>(
 
 fn serve_script<R: Wait, S: Source, K: Sink, C: Clock, G: Gate>(
     service: &Service<R, G>,
-    pass: &mut Pass,
     actor: u32,
     reader: &mut ScriptReader,
-    parts: &mut Parts<S, K, C>,
-    receipts: &mut Vec<Receipt>,
+    session: &mut Session<S, K, C>,
 ) -> End
-    requires of { pass.old.of ≡ service.now.shared.now.turn }
-    requires reading { IsReading command_bytes input_bytes reader.old (S.left parts.old.source) (S.left parts.old.source) [] [] }
-    requires fresh { receipts.old.items ≡ [] }
-    ensures pass { GoesOn pass.old pass.new receipts.new.items }
-    ensures ends { Ends service.now.shared.now.limits pass.new.seen actor (record { left = S.left parts.old.source; written = K.written parts.old.sink; readings = C.readings parts.old.clock }) (record { left = S.left parts.new.source; written = K.written parts.new.sink; readings = C.readings parts.new.clock }) receipts.new.items result }
-    ensures source { Rises (S.faults parts.old.source) (S.faults parts.new.source) (result ≡ End.SourceFault) }
-    ensures sink { Rises (K.faults parts.old.sink) (K.faults parts.new.sink) (result ≡ End.SinkFault) }
+    requires of { session.old.pass.of ≡ service.now.shared.now.turn }
+    requires reading { let source = S.told session.old.parts.source in IsReading command_bytes input_bytes reader.old source source [] [] }
+    requires fresh { session.old.receipts.items ≡ [] }
+    ensures comes { let at = state_of S.told K.accepted C.readings in Comes service.now.shared.now.limits actor (at session.old) (at session.new) result }
+    ensures source { Rises (S.faults session.old.parts.source) (S.faults session.new.parts.source) (result ≡ End.SourceFault) }
+    ensures sink { Rises (K.faults session.old.parts.sink) (K.faults session.new.parts.sink) (result ≡ End.SinkFault) }
 {
     for number in 1..u64::MAX {
         let by = By { actor, number };
-        if let Some(end) = turn(service, pass, by, reader, parts, receipts) {
+        if let Some(end) = turn(service, by, reader, session) {
             return end;
         }
     }
@@ -109,29 +106,27 @@ fn serve_script<R: Wait, S: Source, K: Sink, C: Clock, G: Gate>(
 // One block, or the end.
 fn turn<R: Wait, S: Source, K: Sink, C: Clock, G: Gate>(
     service: &Service<R, G>,
-    pass: &mut Pass,
     by: By,
     reader: &mut ScriptReader,
-    parts: &mut Parts<S, K, C>,
-    receipts: &mut Vec<Receipt>,
+    session: &mut Session<S, K, C>,
 ) -> Option<End>
-    requires of { pass.old.of ≡ service.now.shared.now.turn }
+    requires of { session.old.pass.of ≡ service.now.shared.now.turn }
     requires goes_on { MayGoOn reader.old }
-    ensures turn { (first : Option (List ℕ)) (taken : List ℕ) (given : List Block) → IsReading command_bytes input_bytes reader.old first (S.left parts.old.source) taken given → TurnBy service.now.shared.now.limits by pass.old pass.new first (record { left = S.left parts.old.source; written = K.written parts.old.sink; readings = C.readings parts.old.clock }) (record { left = S.left parts.new.source; written = K.written parts.new.sink; readings = C.readings parts.new.clock }) reader.new taken given receipts.old.items receipts.new.items result }
-    ensures source { Rises (S.faults parts.old.source) (S.faults parts.new.source) (result ≡ Some End.SourceFault) }
-    ensures sink { Rises (K.faults parts.old.sink) (K.faults parts.new.sink) (result ≡ Some End.SinkFault) }
+    ensures turn { TakesTurn S.told K.accepted C.readings service.now.shared.now.limits by reader.old reader.new session.old session.new result }
+    ensures source { Rises (S.faults session.old.parts.source) (S.faults session.new.parts.source) (result ≡ Some End.SourceFault) }
+    ensures sink { Rises (K.faults session.old.parts.sink) (K.faults session.new.parts.sink) (result ≡ Some End.SinkFault) }
 {
-    if receipts.reserve(1).is_err() {
+    if session.receipts.reserve(1).is_err() {
         return Some(End::Short);
     }
-    let item = match reader.next_command(&mut parts.source) {
+    let item = match reader.next_command(&mut session.parts.source) {
         Ok(item) => item,
         Err(ScriptFault::ReadFault) => return Some(End::SourceFault),
         Err(ScriptFault::InputLimit) => return Some(End::InputLimit),
     };
     match item {
         Item::Finished => Some(End::Finished),
-        block => match reply(service, pass, by, block, parts, receipts) {
+        block => match reply(service, by, block, session) {
             Ok(()) => {
                 let By { actor, number } = by;
                 service.gate.at(Point::Answered { actor, number });
@@ -145,28 +140,27 @@ fn turn<R: Wait, S: Source, K: Sink, C: Clock, G: Gate>(
 // Answers a block, keeps the receipt, for which there is room, and writes the reply.
 fn reply<R: Wait, S: Source, K: Sink, C: Clock, G: Gate>(
     service: &Service<R, G>,
-    pass: &mut Pass,
     by: By,
     item: Item,
-    parts: &mut Parts<S, K, C>,
-    receipts: &mut Vec<Receipt>,
+    session: &mut Session<S, K, C>,
 ) -> Result<(), Failed>
-    requires of { pass.old.of ≡ service.now.shared.now.turn }
-    requires room { vec_len receipts.old < vec_capacity receipts.old }
-    ensures source { parts.new.source ≡ parts.old.source }
-    ensures replied { (limit : ℕ) (block : Block) → IsItemOf limit item block → Replied service.now.shared.now.limits by pass.old pass.new (record { left = S.left parts.old.source; written = K.written parts.old.sink; readings = C.readings parts.old.clock }) (record { left = S.left parts.new.source; written = K.written parts.new.sink; readings = C.readings parts.new.clock }) block receipts.old.items receipts.new.items result }
-    ensures sink { HasCause (K.faults parts.old.sink) (K.faults parts.new.sink) result }
+    requires of { session.old.pass.of ≡ service.now.shared.now.turn }
+    requires block { item ≢ Item.Finished }
+    requires room { vec_len session.old.receipts < vec_capacity session.old.receipts }
+    ensures source { session.new.parts.source ≡ session.old.parts.source }
+    ensures replied { let at = state_of S.told K.accepted C.readings in Replies service.now.shared.now.limits by item (at session.old) (at session.new) result }
+    ensures sink { HasCause (K.faults session.old.parts.sink) (K.faults session.new.parts.sink) result }
 {
     let By { actor, number } = by;
     service.gate.at(Point::Starting { actor, number });
-    let moment = parts.clock.now();
-    let outcome = answer(service, pass, by, item, moment);
-    receipts.push_reserved(Receipt {
+    let moment = session.parts.clock.now();
+    let outcome = answer(service, &mut session.pass, by, item, moment);
+    session.receipts.push_reserved(Receipt {
         number,
         place: outcome.place,
         own: outcome.own,
         moment,
         kind: outcome.reply.kind(),
     });
-    write_reply(&outcome.reply, &mut parts.sink)
+    write_reply(&outcome.reply, &mut session.parts.sink)
 }

@@ -1,16 +1,18 @@
 // Interleavings of steps.
-ghost use Rattle.std.specs.Prelude.{◌≡◌};
-
 use kq_command::read_command;
 use kq_engine::{Step, Trace, Work, run_steps};
 use kq_model::{By, Limits};
 use kq_reply::{Refusal, Reply};
 use std::alloc::Global;
-use std::process::Abort;
 use std::test::Fail;
 
-fn begin(alloc: Global, by: By, text: &[u8]) -> Result<Step, Fail> {
-    let command = read_command(alloc, text)?;
+// An actor begins the command of a text, or finishes, at an empty text, what it began.
+fn step(alloc: Global, actor: u32, text: &str) -> Result<Step, Fail> {
+    let by = By { actor, number: 1 };
+    if text.is_empty() {
+        return Ok(Step::Finish(by));
+    }
+    let command = read_command(alloc, text.as_bytes())?;
     Ok(Step::Begin(Work {
         by,
         command,
@@ -18,114 +20,92 @@ fn begin(alloc: Global, by: By, text: &[u8]) -> Result<Step, Fail> {
     }))
 }
 
-// What the outcomes say, in order: actor, whether it made a commit, and what is printed.
-fn expect_outcome(rt: &impl Abort, trace: &Trace, i: usize, by: By, reply: &Reply) {
-    assert!(rt; i < trace.outcomes.len());
-    let told = &trace.outcomes[i];
-    assert!(rt; told.by.same(by));
-    assert!(rt; same_reply(&told.outcome.reply, reply));
+fn steps(alloc: Global, rows: &[(u32, &str)]) -> Result<Vec<Step>, Fail> {
+    let mut steps = Vec::new(alloc);
+    for (actor, text) in rows {
+        steps.push(step(alloc, *actor, text)?)?;
+    }
+    Ok(steps)
 }
 
-fn same_reply(a: &Reply, b: &Reply) -> bool {
-    match (a, b) {
-        (Reply::Done { cursor: a }, Reply::Done { cursor: b }) => a == b,
-        (Reply::Kept { cursor: a }, Reply::Kept { cursor: b }) => a == b,
-        (Reply::Refused(Refusal::Exists { at: a }), Reply::Refused(Refusal::Exists { at: b })) => a
-            == b,
-        (Reply::Refused(Refusal::Full { limit: a }), Reply::Refused(Refusal::Full { limit: b })) =>
-            a == b,
-        _ => false,
+// A letter for the kind of the reply, and its number.
+fn code(reply: &Reply) -> (u8, u64) {
+    match reply {
+        Reply::Done { cursor } => (b'd', *cursor),
+        Reply::Kept { cursor } => (b'k', *cursor),
+        Reply::Refused(Refusal::Exists { at }) => (b'e', *at),
+        Reply::Refused(Refusal::Full { limit }) => (b'f', *limit),
+        _ => (b'?', 0),
     }
 }
 
-const FIRST: By = By {
-    actor: 0,
-    number: 1,
-};
+// Whether the outcomes are these, in order: the actor, and the code of the reply.
+fn tells(trace: &Trace, expected: &[(u32, u8, u64)]) -> bool {
+    let mut same = trace.outcomes.len() == expected.len();
+    for (told, (actor, letter, number)) in trace.outcomes.iter().zip(expected) {
+        let by = By {
+            actor: *actor,
+            number: 1,
+        };
+        same &= told.by.same(by) && code(&told.outcome.reply) == (*letter, *number);
+    }
+    same
+}
 
-const SECOND: By = By {
-    actor: 1,
-    number: 1,
-};
+// Whether these steps have these outcomes, and leave so many events.
+fn come_to(
+    alloc: Global,
+    limits: Limits,
+    rows: &[(u32, &str)],
+    expected: &[(u32, u8, u64)],
+    events: u64,
+) -> Result<bool, Fail> {
+    let steps = steps(alloc, rows)?;
+    let trace = run_steps(alloc, limits, steps.as_slice())?;
+    Ok(tells(&trace, expected) && trace.catalog.place() == events)
+}
+
+const E: &str = ".create table E (k:long)";
+
+const OTHER_E: &str = ".create table E (j:long)";
+
+const F: &str = ".create table F (k:long)";
 
 #[test]
 fn the_first_to_finish_makes_the_table(rt: HostRuntime) -> Result<(), Fail> {
-    let alloc = rt.alloc();
-    for (winner, loser) in [(FIRST, SECOND), (SECOND, FIRST)] {
-        let steps = vec![in alloc;
-            begin(alloc, FIRST, b".create table E (k:long)")?,
-            begin(alloc, SECOND, b".create table E (k:long)")?,
-            Step::Finish(winner),
-            Step::Finish(loser),
-        ]?;
-        let trace = run_steps(alloc, Limits::full(), steps.as_slice())?;
-        assert_eq!(rt; trace.outcomes.len(), 2);
-        expect_outcome(&rt, &trace, 0, winner, &Reply::Done { cursor: 1 });
-        expect_outcome(&rt, &trace, 1, loser, &Reply::Kept { cursor: 1 });
+    for (winner, loser) in [(0, 1), (1, 0)] {
+        let rows = [(0, E), (1, E), (winner, ""), (loser, "")];
+        let expected = [(winner, b'd', 1), (loser, b'k', 1)];
+        let holds = come_to(rt.alloc(), Limits::full(), &rows, &expected, 1)?;
+        assert!(rt; holds, "{winner} first");
     }
     Ok(())
 }
 
 #[test]
 fn a_name_taken_between_begin_and_finish_is_refused(rt: HostRuntime) -> Result<(), Fail> {
-    let alloc = rt.alloc();
-    let steps = vec![in alloc;
-        begin(alloc, FIRST, b".create table E (k:long)")?,
-        begin(alloc, SECOND, b".create table E (j:long)")?,
-        Step::Finish(SECOND),
-        Step::Finish(FIRST),
-    ]?;
-    let trace = run_steps(alloc, Limits::full(), steps.as_slice())?;
-    assert_eq!(rt; trace.outcomes.len(), 2);
-    expect_outcome(&rt, &trace, 0, SECOND, &Reply::Done { cursor: 1 });
-    expect_outcome(
-        &rt,
-        &trace,
-        1,
-        FIRST,
-        &Reply::Refused(Refusal::Exists { at: 14 }),
-    );
+    let rows = [(0, E), (1, OTHER_E), (1, ""), (0, "")];
+    let expected = [(1, b'd', 1), (0, b'e', 14)];
+    let holds = come_to(rt.alloc(), Limits::full(), &rows, &expected, 1)?;
+    assert!(rt; holds);
     Ok(())
 }
 
 #[test]
 fn what_was_not_begun_is_not_finished(rt: HostRuntime) -> Result<(), Fail> {
-    let alloc = rt.alloc();
-    let steps = vec![in alloc;
-        Step::Finish(FIRST),
-        begin(alloc, FIRST, b".create table E (k:long)")?,
-        begin(alloc, FIRST, b".create table F (k:long)")?,
-        Step::Finish(FIRST),
-        Step::Finish(FIRST),
-        begin(alloc, FIRST, b".create table G (k:long)")?,
-    ]?;
-    let trace = run_steps(alloc, Limits::full(), steps.as_slice())?;
-    assert_eq!(rt; trace.outcomes.len(), 1);
-    assert_eq!(rt; trace.catalog.place(), 1);
-    expect_outcome(&rt, &trace, 0, FIRST, &Reply::Done { cursor: 1 });
+    let rows = [(0, ""), (0, E), (0, F), (0, ""), (0, ""), (0, F)];
+    let holds = come_to(rt.alloc(), Limits::full(), &rows, &[(0, b'd', 1)], 1)?;
+    assert!(rt; holds);
     Ok(())
 }
 
 #[test]
 fn a_limit_of_one_table_holds(rt: HostRuntime) -> Result<(), Fail> {
-    let alloc = rt.alloc();
     let mut limits = Limits::full();
     limits.tables = 1;
-    let steps = vec![in alloc;
-        begin(alloc, FIRST, b".create table E (k:long)")?,
-        Step::Finish(FIRST),
-        begin(alloc, SECOND, b".create table F (k:long)")?,
-        Step::Finish(SECOND),
-    ]?;
-    let trace = run_steps(alloc, limits, steps.as_slice())?;
-    assert_eq!(rt; trace.outcomes.len(), 2);
-    expect_outcome(&rt, &trace, 0, FIRST, &Reply::Done { cursor: 1 });
-    expect_outcome(
-        &rt,
-        &trace,
-        1,
-        SECOND,
-        &Reply::Refused(Refusal::Full { limit: 1 }),
-    );
+    let rows = [(0, E), (0, ""), (1, F), (1, "")];
+    let expected = [(0, b'd', 1), (1, b'f', 1)];
+    let holds = come_to(rt.alloc(), limits, &rows, &expected, 1)?;
+    assert!(rt; holds);
     Ok(())
 }

@@ -1,7 +1,6 @@
 use Rattle.std.proofs.Common.{rules, arith, ◌≡◌, [], length, refl, ap, sym, ◌∙◌, append-nil, length-append}
 use Rattle.std.specs.Vec.Iter.{into_iter_items}
 use Rattle.std.proofs.lemmas.List.{length_push}
-use Rattle.kq_world.proofs.Told.{AreTold-trans}
 use Rattle.kq_console.proofs.Opening.{Opening-none, Opening-next, Opening-asked, OpensByCause-from, AreOpened-all, nothing_left}
 use Rattle.kq_console.proofs.feeds.open_feeds.Goals as goal
 
@@ -10,7 +9,7 @@ loop-name-init g c = record {
   can_next = search rules;
   finite = search rules;
   left = search rules;
-  opening = Opening-none _ _ _ _ _ _ _ _ c.into_iter-name-iterator.ensures.into_iter_gives.0 c.in_ok-feeds.ensures.items;
+  opening = Opening-none _ _ _ _ _ _ _ c.into_iter-name-iterator.ensures.into_iter_gives.0 c.in_ok-feeds.ensures.items;
   begun = search rules;
   count = search rules;
   room = search rules;
@@ -22,7 +21,7 @@ returns-in-Err g c =
     let step = c.in-Err.ensures in
     record {
       opened = tt;
-      first = AreTold-trans _ _ _ at.opening.first_told step.first;
+      first = step.first ∙ at.opening.first_told;
       begun = step.begun ∙ at.begun;
       asked = Opening-asked (Unit {0}) (Unit {0}) _ _ _ _ _ _ _ _ _ _ _ _ _ _ _ _ _ c.in-Some.ensures.steps.0 c.as_str.ensures at.opening step.asked;
       cause = OpensByCause-from (Unit {0}) (Unit {0}) _ _ _ _ at.opening.counts step.cause;
@@ -45,7 +44,7 @@ loop-name-preserved g c =
       can_next = search rules;
       finite = search rules;
       left = omega (arith, short, steps.1, at.left);
-      opening = Opening-next _ _ _ _ _ _ _ _ _ _ _ _ _ _ _ _ _ _ _ _ _ _ _ c.requires steps.0 c.push_reserved.ensures.items c.as_str.ensures at.opening step.told step.source step.sink step.others step.first step.asked step.cause refl refl;
+      opening = Opening-next _ _ _ _ _ _ _ _ _ _ _ _ _ _ _ _ _ _ _ _ _ c.requires steps.0 c.push_reserved.ensures.items c.as_str.ensures at.opening step.told step.source step.sink step.others step.first step.asked step.cause refl;
       begun = step.begun ∙ at.begun;
       count = omega (arith, c.push_reserved.ensures.len, at.count, length_push c.loop-name.yielded c.in-Some.name);
       room = omega (arith, c.push_reserved.ensures.capacity, at.room);

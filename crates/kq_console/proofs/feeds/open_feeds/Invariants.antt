@@ -1,4 +1,4 @@
-use Rattle.std.proofs.Common.{◌≡◌, ◌≤◌, length, map, vec_capacity, vec_len}
+use Rattle.std.proofs.Common.{◌≡◌, ◌≤◌, length, vec_capacity, vec_len}
 use Rattle.std.specs.Vec.Iter.{into_iter_items, into_iter_len}
 use Rattle.kq_console.proofs.Opening.{Opening}
 use Rattle.kq_console.proofs.feeds.open_feeds.Given as goal
@@ -20,14 +20,7 @@ invariant-loop-name g l = record {
       l.fn.names.items
       l.yielded
       (into_iter_items l.name-iterator)
-      (map
-      (λ o. record {
-        name = o.name;
-        contents = record { left = g.W.Source.Source.left o.parts.source; written = g.W.Sink.Sink.written o.parts.sink; readings = g.W.Clock.Clock.readings o.parts.clock };
-        source_faults = g.W.Source.Source.faults o.parts.source;
-        sink_faults = g.W.Sink.Sink.faults o.parts.sink;
-      })
-      l.feeds.items);
+      l.feeds.items;
   begun : g.W.World.begun l.world ≡ g.W.World.begun l.fn.world;
   count : vec_len l.feeds ≡ length l.yielded;
   room : length l.fn.names.items ≤ vec_capacity l.feeds;

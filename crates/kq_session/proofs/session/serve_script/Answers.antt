@@ -1,39 +1,40 @@
-use Rattle.std.proofs.Common.{arith, ◌∙◌}
-use Rattle.kq_session.proofs.Turning.{MayGoOn-reading}
-use Rattle.kq_session.specs.Session.{command_bytes, input_bytes, blocks_of}
-use Rattle.kq_session.proofs.Serving.{SoFar-none, SoFar-push, Comes-end}
+use Rattle.std.proofs.Common.{◌∙◌, refl}
+use Rattle.kq_session.proofs.Turning.{MayGoOn-reading, Rises-end}
+use Rattle.kq_session.proofs.Serving.{SoFar-none, SoFar-push, Comes-end, progress}
 use Rattle.kq_session.proofs.session.serve_script.Goals as goal
 
 pub loop-number-init : goal.loop-number-init
 loop-number-init g c = record {
-  served = rw c.requires.fresh (SoFar-none c.args.service.now.shared.now.limits c.args.actor c.args.pass.now _ c.args.reader.now c.requires.reading);
-  source_later = omega arith;
-  sink_later = omega arith;
+  served = SoFar-none c.args.service.now.shared.now.limits c.args.actor _ c.args.reader.now c.requires.fresh c.requires.reading;
+  source_same = refl;
+  sink_same = refl;
 }
 
 pub turn-requires : goal.turn-requires
-turn-requires g c = record { of = c.loop-number.invariant.served.goes_on.of ∙ c.requires.of; goes_on = MayGoOn-reading command_bytes input_bytes c.loop-number.reader _ _ c.loop-number.invariant.served.taken _ c.loop-number.invariant.served.reading }
+turn-requires g c =
+    let so_far = c.loop-number.invariant.served in
+    record { of = so_far.goes_on.of ∙ c.requires.of; goes_on = MayGoOn-reading c.loop-number.reader _ (progress so_far) so_far.reading }
 
 pub loop-number-preserved : goal.loop-number-preserved
 loop-number-preserved g c =
     let so_far = c.loop-number.invariant.served in
-    let turn = rw c.in_default.is at (c.turn.ensures.turn _ so_far.taken (blocks_of so_far.turns) so_far.reading) in
+    let turn = rw c.in_default.is at (c.turn.ensures.turn (progress so_far) so_far.reading) in
+    let source = rw c.in_default.is at c.turn.ensures.source in
+    let sink = rw c.in_default.is at c.turn.ensures.sink in
     record {
-      served = SoFar-push c.args.service.now.shared.now.limits c.args.actor c.loop-number.number c.args.pass.now c.loop-number.pass c.turn.new.pass _ _ _ c.loop-number.reader c.turn.new.reader c.loop-number.receipts.items c.turn.new.receipts.items so_far turn;
-      source_later = omega (arith, c.turn.ensures.source.never_falls, c.loop-number.invariant.source_later);
-      sink_later = omega (arith, c.turn.ensures.sink.never_falls, c.loop-number.invariant.sink_later);
+      served = SoFar-push c.args.service.now.shared.now.limits c.args.actor c.loop-number.number _ _ _ c.loop-number.reader c.turn.new.reader so_far turn;
+      source_same = source.stays (λ e. cc) ∙ c.loop-number.invariant.source_same;
+      sink_same = sink.stays (λ e. cc) ∙ c.loop-number.invariant.sink_same;
     }
 
-pub returns-in-Some-clause-ends : goal.returns-in-Some-clause-ends
-returns-in-Some-clause-ends g c =
+pub returns-in-Some-clause-comes : goal.returns-in-Some-clause-comes
+returns-in-Some-clause-comes g c =
     let so_far = c.loop-number.invariant.served in
-    let turn = rw c.in-Some.is at (c.turn.ensures.turn _ so_far.taken (blocks_of so_far.turns) so_far.reading) in
-    let comes = Comes-end c.args.service.now.shared.now.limits c.args.actor c.loop-number.number c.args.pass.now c.loop-number.pass c.turn.new.pass _ _ _ c.loop-number.reader c.turn.new.reader c.loop-number.receipts.items c.turn.new.receipts.items c.in-Some.end so_far turn in
-    comes.ends
+    let turn = rw c.in-Some.is at (c.turn.ensures.turn (progress so_far) so_far.reading) in
+    Comes-end c.args.service.now.shared.now.limits c.args.actor c.loop-number.number _ _ _ c.loop-number.reader c.turn.new.reader c.in-Some.end so_far turn
 
-pub returns-in-Some-clause-pass : goal.returns-in-Some-clause-pass
-returns-in-Some-clause-pass g c =
-    let so_far = c.loop-number.invariant.served in
-    let turn = rw c.in-Some.is at (c.turn.ensures.turn _ so_far.taken (blocks_of so_far.turns) so_far.reading) in
-    let comes = Comes-end c.args.service.now.shared.now.limits c.args.actor c.loop-number.number c.args.pass.now c.loop-number.pass c.turn.new.pass _ _ _ c.loop-number.reader c.turn.new.reader c.loop-number.receipts.items c.turn.new.receipts.items c.in-Some.end so_far turn in
-    comes.goes_on
+pub returns-in-Some-clause-source : goal.returns-in-Some-clause-source
+returns-in-Some-clause-source g c = Rises-end _ _ _ c.in-Some.end _ c.loop-number.invariant.source_same (rw c.in-Some.is at c.turn.ensures.source)
+
+pub returns-in-Some-clause-sink : goal.returns-in-Some-clause-sink
+returns-in-Some-clause-sink g c = Rises-end _ _ _ c.in-Some.end _ c.loop-number.invariant.sink_same (rw c.in-Some.is at c.turn.ensures.sink)

@@ -1,0 +1,168 @@
+-- A session that nothing troubled is complete.
+use Rattle.std.proofs.Common.{◌≡◌, ◌⊎◌, ◌<◌, ◌+◌, ◌-◌, ℕ, ℤ, Bool, true, false, cond, List, [], ◌∷◌, length, take, All, Result, Ok, Err, refl, ap, sym, ◌∙◌, subst, inl, inr, arith, length-append}
+use Rattle.std.proofs.Math.Nat.{sub-zero}
+use Rattle.std.proofs.lemmas.List.Elements.{All-cons, All-nil}
+use Rattle.kq_world.specs.Told.{Adds}
+use Rattle.kq_world.specs.Outside.{Contents}
+use Rattle.kq_model.specs.declared.event.By.{By}
+use Rattle.kq_model.specs.declared.limits.Limits.{Limits}
+use Rattle.kq_model.specs.History.{History, log}
+use Rattle.kq_command.specs.declared.command.Command.{Command}
+use Rattle.kq_command.specs.declared.command.CommandFault.{CommandFault}
+use Rattle.kq_command.specs.Reads.{Reads}
+use Rattle.kq_reply.specs.Number.{number_of, kind_of}
+use Rattle.kq_reply.specs.declared.refusal.Refusal.{Refusal}
+use Rattle.kq_reply.specs.declared.refusal.Refusal.TheVariants as refusals
+use Rattle.kq_reply.specs.declared.reply.Reply.{Reply}
+use Rattle.kq_reply.specs.declared.reply.Reply.TheVariants as replies
+use Rattle.kq_script.specs.Script.{Block, command, too_long}
+use Rattle.kq_engine.specs.Fits.{FitsNow, IsDue}
+use Rattle.kq_engine.specs.Shared.{made_by}
+use Rattle.kq_engine.proofs.Accepting.{Accept-commit}
+use Rattle.kq_session.specs.declared.end.End.{End}
+use Rattle.kq_session.specs.declared.end.End.TheVariants.{Finished, Short, SourceFault, SinkFault, InputLimit}
+use Rattle.kq_session.specs.declared.receipt.Receipt.{Receipt}
+use Rattle.kq_session.specs.Blocks.{FitsRead, FitsBlock, Refuses, refusal_of}
+use Rattle.kq_session.specs.Complete.{AreAllBlocks, Completes, IsComplete, IsRefused, IsServed, IsValid}
+use Rattle.kq_session.specs.Ends.{status_of, wants_memory}
+use Rattle.kq_session.specs.Objects.{Objects, SessionView}
+use Rattle.kq_session.specs.Session.{Turn, AreTurns, Ends, Explained, blocks_of, texts_of, input_bytes}
+use Rattle.kq_session.specs.Turns.{Rises}
+
+-- ---- one turn
+
+-- no refusal, or one for want of memory
+abbrev IsGranted : Reply → Type 0
+IsGranted reply = (kind_of reply ≡ 0) ⊎ (kind_of reply ≡ 1)
+
+granted : (reply : Reply) → ((r : Refusal) → reply ≡ replies.Refused r → r ≡ refusals.Memory) → IsGranted reply
+granted (replies.Refused r) memory = inr (ap number_of (memory r refl))
+granted (replies.Done cursor) memory = inl refl
+granted (replies.Kept cursor) memory = inl refl
+granted (replies.Ingested cursor rows) memory = inl refl
+granted (replies.Skipped cursor) memory = inl refl
+granted (replies.Folded cursor) memory = inl refl
+granted (replies.Merged extents) memory = inl refl
+granted replies.Nothing memory = inl refl
+granted (replies.Rows text) memory = inl refl
+granted replies.Exporting memory = inl refl
+granted (replies.Exported from to rows) memory = inl refl
+
+same_refusal : (r q : Refusal) → replies.Refused r ≡ replies.Refused q → r ≡ q
+same_refusal r q e = cc
+
+-- a refusal of a text alone
+refused_alone : (limits : Limits) (answers h : History) (block : Block) (place : ℕ) (own : Bool) (reply : Reply) (r : Refusal) → IsValid limits answers block → ((q : Refusal) → q ≡ r → IsRefused limits answers block q) → Refuses h place own reply r → IsGranted reply
+refused_alone limits answers h block place own reply r valid due refuses = granted reply (λ q is. by_reason q is refuses.reason)
+  where
+    by_reason : (q : Refusal) → reply ≡ replies.Refused q → (reply ≡ replies.Refused r) ⊎ (reply ≡ replies.Refused refusals.Memory) → q ≡ refusals.Memory
+    by_reason q is (inl e) = valid q (due q (same_refusal q r (sym is ∙ e)))
+    by_reason q is (inr e) = same_refusal q refusals.Memory (sym is ∙ e)
+
+-- what the engine answered
+granted_now : (limits : Limits) (h : History) (mark : By) (text : List ℕ) (asked : Command) (now : ℤ) (place : ℕ) (own : Bool) (reply : Reply) → Reads text (Ok asked) → FitsNow limits (take place h) mark asked now own reply → IsValid limits (take (place - made_by own) h) (command text) → IsGranted reply
+granted_now limits h mark text asked now place true reply reads fits valid = inl (Accept-commit limits (log fits.0) asked reply fits.1 fits.3)
+granted_now limits h mark text asked now place false reply reads fits valid = granted reply (λ r is. by_answer r is fits)
+  where
+    here : IsValid limits (take place h) (command text)
+    here = subst (λ (n : ℕ). IsValid limits (take n h) (command text)) (sub-zero place) valid
+
+    by_answer : (r : Refusal) → reply ≡ replies.Refused r → (reply ≡ replies.Refused refusals.Memory) ⊎ IsDue limits (take place h) asked reply → r ≡ refusals.Memory
+    by_answer r is (inl e) = same_refusal r refusals.Memory (sym is ∙ e)
+    by_answer r is (inr due) = here r (Ok asked, reads, subst (λ (a : Reply). IsDue limits (take place h) asked a) is due)
+
+granted_read : (limits : Limits) (h : History) (mark : By) (text : List ℕ) (read : Result Command CommandFault) (now : ℤ) (place : ℕ) (own : Bool) (reply : Reply) → Reads text read → FitsRead limits h mark read now place own reply → IsValid limits (take (place - made_by own) h) (command text) → IsGranted reply
+granted_read limits h mark text (Ok asked) now place own reply reads fits valid = granted_now limits h mark text asked now place own reply reads fits.at valid
+granted_read limits h mark text (Err fault) now place own reply reads fits valid =
+    refused_alone limits (take (place - made_by own) h) h (command text) place own reply (refusal_of fault) valid (λ q is. (Err fault, reads, is)) fits
+
+granted_block : (limits : Limits) (h : History) (mark : By) (block : Block) (now : ℤ) (place : ℕ) (own : Bool) (reply : Reply) → FitsBlock limits h mark block now place own reply → IsValid limits (take (place - made_by own) h) block → IsGranted reply
+granted_block limits h mark (command text) now place own reply fits valid = granted_read limits h mark text fits.read now place own reply fits.reads fits.fits valid
+granted_block limits h mark (too_long bytes) now place own reply fits valid =
+    refused_alone limits (take (place - made_by own) h) h (too_long bytes) place own reply (refusals.TooLong bytes) valid (λ q is. is) (record { within = fits.within; not_own = fits.not_own; reason = inl fits.refused })
+
+AreTurns-served : (limits : Limits) (h : History) (actor n q : ℕ) (ts : List Turn) → AreTurns limits h actor n q ts → All (IsServed limits h) ts
+AreTurns-served limits h actor n q [] all = All-nil (IsServed limits h)
+AreTurns-served limits h actor n q (t ∷ ts) all =
+    let r = t.receipt in
+    let turn = all.2 in
+    All-cons (IsServed limits h) t ts
+    (record { granted = λ valid. subst (λ (k : ℕ). (k ≡ 0) ⊎ (k ≡ 1)) (sym turn.kind) (granted_block limits h _ t.block r.moment r.place r.own t.reply turn.fits valid) })
+    (AreTurns-served limits h actor (n + 1) r.place ts all.3)
+
+-- ---- a session
+
+complete_with : (limits : Limits) (h : History) (actor : ℕ) (before : Contents) (s : SessionView) (end : End) (ends : Ends limits h actor before s.objects.contents s.receipts end)
+    → (s.status ≡ 0) ⊎ (s.status ≡ 1) → s.status ≡ status_of end s.receipts → AreAllBlocks end ends.bytes s.objects.contents.source.ended (blocks_of ends.turns) → Adds before.accepted s.objects.contents.accepted (texts_of ends.turns) → IsComplete limits h actor before s
+complete_with limits h actor before s end ends status by_end blocks written = record {
+  status = status;
+  turns = ends.turns;
+  bytes = ends.bytes;
+  of_turns = ends.of_turns;
+  each = ends.each;
+  gave = ends.gave;
+  end = end;
+  by_end = by_end;
+  blocks = blocks;
+  all_at_end = ends.all_at_end;
+  served = AreTurns-served limits h actor 0 0 ends.turns ends.each;
+  written = written;
+}
+
+abbrev IsGood : ℕ → Type 0
+IsGood status = (status ≡ 0) ⊎ (status ≡ 1)
+
+zero_or_one : (b : Bool) → IsGood (cond b 1 0)
+zero_or_one true = inr refl
+zero_or_one false = inl refl
+
+pub complete_by : (limits : Limits) (h : History) (actor : ℕ) (before : Objects) (s : SessionView) (end : End) → Ends limits h actor before.contents s.objects.contents s.receipts end → s.status ≡ status_of end s.receipts → ¬ (s.status ≡ 3) → ¬ (s.status ≡ 4) → length s.objects.contents.source.taken < length before.contents.source.taken + input_bytes → IsComplete limits h actor before.contents s
+complete_by limits h actor before s Finished ends is source sink few =
+    complete_with limits h actor before.contents s Finished ends (subst IsGood (sym is) (zero_or_one (wants_memory s.receipts))) is (ends.at_end.ended, ends.blocks.0) ends.written
+complete_by limits h actor before s Short ends is source sink few = complete_with limits h actor before.contents s Short ends (inr is) is ends.blocks ends.written
+complete_by limits h actor before s SourceFault ends is source sink few = absurd (source is)
+complete_by limits h actor before s SinkFault ends is source sink few = absurd (sink is)
+complete_by limits h actor before s InputLimit ends is source sink few =
+    let all = ap length ends.gave.taken in
+    absurd (omega (arith, all, length-append before.contents.source.taken ends.bytes, ends.blocks.1, few))
+
+pub Completes-explained : (limits : Limits) (h : History) (actor : ℕ) (before : Objects) (s : SessionView) → Explained limits h actor before.contents s → Rises before.source_faults s.objects.source_faults (s.status ≡ 3) → Rises before.sink_faults s.objects.sink_faults (s.status ≡ 4) → Completes limits h actor before s
+Completes-explained limits h actor before s explained source sink untroubled =
+    complete_by limits h actor before s explained.end explained.ends explained.by_end (λ e. untroubled.source (source.rose e)) (λ e. untroubled.sink (sink.rose e)) untroubled.few
+
+-- ---- faults and statuses
+
+abbrev Is : ℕ → ℕ → Type 0
+Is code status = status ≡ code
+
+not_finished : (b : Bool) (code : ℕ) → 1 < code → Is code (cond b 1 0) → ⊥
+not_finished true code above e = omega (arith, above, e)
+not_finished false code above e = omega (arith, above, e)
+
+source_fault : (end : End) (receipts : List Receipt) → Is 3 (status_of end receipts) → end ≡ SourceFault
+source_fault Finished receipts e = absurd (not_finished (wants_memory receipts) 3 (omega arith) e)
+source_fault Short receipts e = absurd (omega (arith, e))
+source_fault SourceFault receipts e = refl
+source_fault SinkFault receipts e = absurd (omega (arith, e))
+source_fault InputLimit receipts e = absurd (omega (arith, e))
+
+sink_fault : (end : End) (receipts : List Receipt) → Is 4 (status_of end receipts) → end ≡ SinkFault
+sink_fault Finished receipts e = absurd (not_finished (wants_memory receipts) 4 (omega arith) e)
+sink_fault Short receipts e = absurd (omega (arith, e))
+sink_fault SourceFault receipts e = absurd (omega (arith, e))
+sink_fault SinkFault receipts e = refl
+sink_fault InputLimit receipts e = absurd (omega (arith, e))
+
+pub Rises-source : (before now : ℕ) (end : End) (receipts : List Receipt) (status : ℕ) → status ≡ status_of end receipts → Rises before now (end ≡ SourceFault) → Rises before now (status ≡ 3)
+Rises-source before now end receipts status is rises = record {
+  never_falls = rises.never_falls;
+  rose = λ e. rises.rose (source_fault end receipts (sym is ∙ e));
+  stays = λ other. rises.stays (λ e. other (is ∙ ap (λ (x : End). status_of x receipts) e));
+}
+
+pub Rises-sink : (before now : ℕ) (end : End) (receipts : List Receipt) (status : ℕ) → status ≡ status_of end receipts → Rises before now (end ≡ SinkFault) → Rises before now (status ≡ 4)
+Rises-sink before now end receipts status is rises = record {
+  never_falls = rises.never_falls;
+  rose = λ e. rises.rose (sink_fault end receipts (sym is ∙ e));
+  stays = λ other. rises.stays (λ e. other (is ∙ ap (λ (x : End). status_of x receipts) e));
+}

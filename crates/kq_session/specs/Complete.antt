@@ -1,0 +1,83 @@
+-- What a session comes to that nothing troubled: each command of its script has its reply.
+use Rattle.std.specs.Prelude.{◌≡◌, ◌⊎◌, ◌<◌, ◌+◌, ◌-◌, ℕ, Bool, true, List, length, take, map, All, Result, Ok, Err}
+use Rattle.kq_world.specs.Told.{Adds}
+use Rattle.kq_world.specs.Outside.{Contents, Gives, Rose}
+use Rattle.kq_model.specs.declared.limits.Limits.{Limits}
+use Rattle.kq_model.specs.History.{History}
+use Rattle.kq_command.specs.declared.command.Command.{Command}
+use Rattle.kq_command.specs.declared.command.CommandFault.{CommandFault}
+use Rattle.kq_command.specs.Reads.{Reads}
+use Rattle.kq_reply.specs.declared.refusal.Refusal.{Refusal}
+use Rattle.kq_reply.specs.declared.refusal.Refusal.TheVariants as refusals
+use Rattle.kq_reply.specs.declared.reply.Reply.TheVariants as replies
+use Rattle.kq_script.specs.Script.{Block, command, too_long, script_blocks}
+use Rattle.kq_script.specs.Reading.{IsPrefix as Begins}
+use Rattle.kq_engine.specs.Fits.{IsDue}
+use Rattle.kq_engine.specs.Shared.{made_by}
+use Rattle.kq_session.specs.declared.end.End.{End}
+use Rattle.kq_session.specs.declared.end.End.TheVariants.{Finished, Short, SourceFault, SinkFault, InputLimit}
+use Rattle.kq_session.specs.declared.receipt.Receipt.{Receipt}
+use Rattle.kq_session.specs.Blocks.{refusal_of}
+use Rattle.kq_session.specs.Ends.{status_of}
+use Rattle.kq_session.specs.Objects.{Objects, SessionView}
+use Rattle.kq_session.specs.Session.{Turn, AreTurns, AreAllAtEnd, blocks_of, texts_of, command_bytes, input_bytes}
+
+-- ---- valid commands
+
+-- the refusal is due over this history to the command, or is that of the text
+abbrev pub RefusesRead : Limits → History → Result Command CommandFault → Refusal → Type 0
+RefusesRead limits h (Ok asked) r = IsDue limits h asked (replies.Refused r)
+RefusesRead limits h (Err fault) r = r ≡ refusal_of fault
+
+-- the refusal is due over this history to the block
+abbrev pub IsRefused : Limits → History → Block → Refusal → Type 0
+IsRefused limits h (command text) r = (read : Result Command CommandFault) × Reads text read × RefusesRead limits h read r
+IsRefused limits h (too_long bytes) r = r ≡ refusals.TooLong bytes
+
+-- no refusal is due to the block but want of memory
+abbrev pub IsValid : Limits → History → Block → Type 0
+IsValid limits h block = (r : Refusal) → IsRefused limits h block r → r ≡ refusals.Memory
+
+-- the history that answers a command: the one up to its place, without its own commit
+abbrev pub answering : History → Receipt → History
+answering h r = take (r.place - made_by r.own) h
+
+-- a valid command has a reply that is no refusal, or one for want of memory
+pub record IsServed (limits : Limits) (h : History) (t : Turn) : Type 0 where
+  pub granted : IsValid limits (answering h t.receipt) t.block → (t.receipt.kind ≡ 0) ⊎ (t.receipt.kind ≡ 1)
+
+-- ---- sessions
+
+-- neither the source nor the sink failed, and the source gave fewer bytes than a session takes
+pub record IsUntroubled (before now : Objects) : Type 0 where
+  pub source : ¬ Rose before.source_faults now.source_faults
+  pub sink : ¬ Rose before.sink_faults now.sink_faults
+  pub few : length now.contents.source.taken < length before.contents.source.taken + input_bytes
+
+-- the end was read and all blocks have their turns, or room for the next receipt was wanting
+abbrev pub AreAllBlocks : End → List ℕ → Bool → List Block → Type 0
+AreAllBlocks Finished bytes ended blocks = (ended ≡ true) × (blocks ≡ script_blocks command_bytes bytes true)
+AreAllBlocks Short bytes ended blocks = Begins blocks (script_blocks command_bytes bytes ended)
+AreAllBlocks SourceFault bytes ended blocks = ⊥
+AreAllBlocks SinkFault bytes ended blocks = ⊥
+AreAllBlocks InputLimit bytes ended blocks = ⊥
+
+-- a session is complete: its status is 0 or 1, the blocks of the bytes that its source gave have one reply each, in order,
+-- which fits, and is no refusal where the command is valid, but for want of memory; and all replies were written
+pub record IsComplete (limits : Limits) (h : History) (actor : ℕ) (before : Contents) (s : SessionView) : Type 0 where
+  pub status : (s.status ≡ 0) ⊎ (s.status ≡ 1)
+  pub turns : List Turn
+  pub bytes : List ℕ
+  pub of_turns : s.receipts ≡ map (λ (t : Turn). t.receipt) turns
+  pub each : AreTurns limits h actor 0 0 turns
+  pub gave : Gives before.source s.objects.contents.source bytes
+  pub end : End
+  pub by_end : s.status ≡ status_of end s.receipts
+  pub blocks : AreAllBlocks end bytes s.objects.contents.source.ended (blocks_of turns)
+  pub all_at_end : AreAllAtEnd before.source.ended s.objects.contents.source.ended bytes (blocks_of turns)
+  pub served : All (IsServed limits h) turns
+  pub written : Adds before.accepted s.objects.contents.accepted (texts_of turns)
+
+-- a session that nothing troubled is complete
+abbrev pub Completes : Limits → History → ℕ → Objects → SessionView → Type 0
+Completes limits h actor before s = IsUntroubled before s.objects → IsComplete limits h actor before.contents s

@@ -1,0 +1,28 @@
+// What a session hands back.
+use crate::receipt::Receipts;
+use kq_engine::Pass;
+use kq_world::{Clock, Parts, Sink, Source};
+use std::marker::Model;
+
+/// What a session hands back. Its status is 0 where the script was read to its end and no reply was for want of
+/// memory; else 1 for want of memory, 3 for a fault of the source, 4 of the sink, and 6 where 2^32 bytes were taken
+/// without an end.
+#[derive(Drop)]
+pub struct Served<S: Source, K: Sink, C: Clock> {
+    pub pass: Pass,
+    pub parts: Parts<S, K, C>,
+    pub receipts: Receipts,
+    pub status: u8,
+}
+
+impl<S: Source, K: Sink, C: Clock> Model for Served<S, K, C> {
+    ghost use Rattle.std.specs.Coded.{codes};
+    ghost use Rattle.kq_value.specs.contracts.value.Value as cell;
+    ghost use Rattle.kq_session.specs.Objects.{ServedView, objects};
+
+    ghost Value = { ServedView };
+
+    ghost coded = { Prim.hlevel (codes, cell.the_row.coded) };
+
+    ghost view = { λ s. record { pass = s.pass; session = record { objects = objects S.told S.faults K.accepted K.faults C.readings s.parts; receipts = s.receipts; status = s.status } } };
+}
