@@ -1,0 +1,177 @@
+// Which commands texts are.
+
+use crate::page::Page;
+use crate::reading::{Reader, assert_reads, assert_rows, repeated};
+use kq_command::{Column, Columns, Command, Identifier, read_command};
+use std::alloc::{AllocError, Global};
+use std::test::Fail;
+
+fn put_identifier(page: &mut Page<'_>, name: &Identifier) {
+    page.put_place(name.text.as_str(), name.at);
+}
+
+fn put_columns(page: &mut Page<'_>, columns: &[Column]) {
+    for column in columns {
+        page.put(" ");
+        put_identifier(page, &column.name);
+        page.put_rank(column.ty.rank());
+    }
+}
+
+/// A table to be made as `NAME@PLACE` and then each column as ` NAME@PLACE:TYPE`, TYPE by its place in the order of types; an
+/// ingestion as `NAME@PLACE < ROWS`; a query as `NAME@PLACE rows` or `NAME@PLACE count`.
+pub fn put_command(page: &mut Page<'_>, command: &Command) {
+    match command {
+        Command::Unbuilt => page.put("unbuilt"),
+        Command::Ingest { table, body } => {
+            put_identifier(page, table);
+            page.put(" < ");
+            page.put(std::str::from_utf8(body.as_slice()).unwrap_or("no text"));
+        }
+        Command::Query(query) => {
+            put_identifier(page, &query.table);
+            page.put(if query.counted { " count" } else { " rows" });
+        }
+        Command::CreateTable { name, columns } => {
+            put_identifier(page, name);
+            put_columns(page, columns.as_slice());
+        }
+    }
+}
+
+#[test]
+fn texts_read_as_their_commands(rt: HostRuntime) -> Result<(), Fail> {
+    let rows = "\
+.create table E (k:long) => E@14 k@17:0
+.create table T (a:int64,b:int,c:string,d:bool,e:boolean) => T@14 a@17:0 b@25:1 c@31:2 d@40:3 e@47:3
+.create table T (a:datetime,b:date,c:timespan,d:time,e:dynamic) => T@14 a@17:4 b@28:4 c@35:5 d@46:5 e@53:6
+.create table ['my table'] ([ \"by\" ]:long, [@'it''s']:string) => my table@14 by@28:0 it's@43:2
+.create table count (kind:long, with:long, ['by']:long, from:long, print:long) => count@14 kind@21:0 with@32:0 by@43:0 from@56:0 print@67:0
+ . create table _t9(date:date) => _t9@16 date@20:4
+.create table By(k:long,k:int) => By@14 k@17:0 k@24:1
+.ingest inline into table E <| => E@26 < 
+E => E@0 rows
+E; => E@0 rows
+E | count => E@0 count
+E|count; => E@0 count
+count | count => count@0 count
+with => with@0 rows
+";
+    Ok(assert_rows(&rt, rt.alloc(), Reader::Command, rows)?)
+}
+
+#[test]
+fn commands_go_over_lines(rt: HostRuntime) -> Result<(), Fail> {
+    for (text, want) in [
+        (
+            ".create\ntable\tE\r\n(\n  k\t:\rlong\n,v : long )\n ",
+            "E@14 k@21:0 v@31:0",
+        ),
+        (
+            "// t\n.// (\ncreate // table\ntable//\n//\nE//\n(//\nk// :\n://\nlong//\n,v://'\nint)// end",
+            "E@38 k@46:0 v@64:1",
+        ),
+        (".ingest inline into table E <|\n1,2", "E@26 < 1,2"),
+        (".ingest inline into table E<| \t\r\n 1 \n", "E@26 < 1 \n"),
+        (
+            ".ingest // 1\ninline\ninto // <|\ntable\n['my table'] // x\n<| // 'a",
+            "my table@37 < // 'a",
+        ),
+        (" E\n", "E@1 rows"),
+        ("// all\n[ 'my table' ] // of it", "my table@7 rows"),
+        ("['by'] // rows\n|\n\n// their number\ncount", "by@0 count"),
+    ] {
+        assert_reads(&rt, rt.alloc(), Reader::Command, text, want)?;
+    }
+    Ok(())
+}
+
+#[test]
+fn other_forms_are_not_built_yet(rt: HostRuntime) -> Result<(), Fail> {
+    let rows = "\
+.alter table E policy update '[]'
+.alter-merge table E (k:long)
+.create materialized-view V on table E { E | summarize n = count() by k }
+.create async ifnotexists materialized-view with (backfill=true) with on table E { E }
+.show materialized-view V
+.show ingestion failures
+.show table E extents
+.show journal
+# fold V
+#merge E
+#export X
+#export X over E { E }
+.ingest inline into table E with (format='csv') <| 1
+.ingest inline into table E with (tags='', ignoreFirstRecord=false, format=@\"csv\", ingestIfNotExists='') <|
+(E)
+E | count | count
+E | where a > 1
+let x = 1; E
+let x = print; E
+let print = E | count; ['print'];
+print + 1
+print has(1)
+union print
+union kind, with
+range from from 1 to 9 step 2
+E | join kind=['inner'] (F) on k
+E | summarize by (k)
+materialized_view('V')
+datatable (kind: long) [1, -2,]
+";
+    for text in rows.lines() {
+        assert_reads(&rt, rt.alloc(), Reader::Command, text, "unbuilt")?;
+    }
+    Ok(())
+}
+
+#[test]
+fn as_many_as_120_brackets_are_read(rt: HostRuntime) -> Result<(), Fail> {
+    let view = ".create materialized-view V on table E { print a[";
+    for pieces in [
+        [("print ", 1), ("(", 120), ("1", 1), (")", 120)],
+        [(view, 1), ("a[f(", 59), (")]", 59), ("] }", 1)],
+    ] {
+        let text = repeated(rt.alloc(), &pieces)?;
+        assert_reads(&rt, rt.alloc(), Reader::Command, text.as_str(), "unbuilt")?;
+    }
+    Ok(())
+}
+
+/// The number of columns, twice, and of fields, the first field, and the place of the first repeated name.
+fn columns_printed(alloc: Global, columns: Columns) -> Result<String, AllocError> {
+    let schema = columns.schema()?;
+    let repeated = columns.repeated();
+    let first = &schema.as_slice()[0];
+    let (name, ty) = (first.name.as_str(), first.ty.rank());
+    let length = columns.len();
+    let all = columns.into_vec().len();
+    format!(in alloc; "{length} {all} {} {name}:{ty} {repeated:?}", schema.len())
+}
+
+fn facts(alloc: Global, text: &str) -> Result<String, AllocError> {
+    match read_command(alloc, text.as_bytes()) {
+        Ok(Command::CreateTable { name: _, columns }) => columns_printed(alloc, columns),
+        _ => String::from_str(alloc, "no table"),
+    }
+}
+
+#[test]
+fn columns_tell_their_schema_and_the_first_repeated_name(rt: HostRuntime) -> Result<(), Fail> {
+    for (text, want) in [
+        (".create table E (a:long)", "1 1 1 a:0 None"),
+        (".create table E (a:long, b:int, A:int)", "3 3 3 a:0 None"),
+        (
+            ".create table E (a:long, b:int, b:long, a:long)",
+            "4 4 4 a:0 Some(2)",
+        ),
+        (
+            ".create table E (a:long, b:int, a:long)",
+            "3 3 3 a:0 Some(2)",
+        ),
+    ] {
+        let got = facts(rt.alloc(), text)?;
+        assert_eq!(rt; got.as_str(), want, "at {text:?}");
+    }
+    Ok(())
+}

@@ -1,0 +1,12 @@
+use Rattle.std.proofs.Common.{◌≡◌, ◌+◌, ◌≤◌}
+use Rattle.kq_turn.specs.Passes.{IsIdle}
+use Rattle.world_tests.proofs.tests.turns.add_all.Given as goal
+
+abbrev pub invariant-loop-x : goal.invariant-loop-x
+invariant-loop-x g l = record {
+  of : l.pass.of ≡ l.fn.pass.of;
+  idle : IsIdle l.pass;
+  worth : l.pass.worth ≡ l.fn.pass.worth;
+  made : l.pass.made ≡ l.fn.pass.made + l.count;
+  count : l.count ≤ l.x;
+}

@@ -1,0 +1,8 @@
+mod answers;
+mod feeds;
+mod hold;
+mod objects;
+mod replies;
+mod scripts;
+mod turns;
+mod words;
