@@ -23,7 +23,7 @@ pub use dyn_box::DynBox;
 pub use dynamic::{Dyn, DynBag, DynList, Member};
 pub use record::Record;
 pub use record_id::RecordId;
-pub use row::{Row, Rows};
+pub use row::Row;
 pub use schema::{Field, Schema};
 pub use tags::Tags;
 pub use text::Text;

@@ -32,25 +32,6 @@ impl Model for Row {
     ghost view = { λ r. r.cells.items };
 }
 
-/// Records. Contracts see the list of their rows.
-#[derive(Drop)]
-pub struct Rows {
-    rows: Vec<Row>,
-}
-
-impl Model for Rows {
-    ghost use Rattle.std.specs.Prelude.{List};
-    ghost use Rattle.kq_value.specs.declared.value.Value.{Value as Cell};
-    ghost use Rattle.std.specs.Coded.{coded_list};
-    ghost use Rattle.kq_value.specs.contracts.value.Value as cell;
-
-    ghost Value = { List (List Cell) };
-
-    ghost coded = { coded_list (coded_list cell.the_row.coded) };
-
-    ghost view = { λ r. r.rows.items };
-}
-
 fn compare(a: &[Value], b: &[Value]) -> Ordering
     ensures { result ≡ row_cmp a.now b.now }
 {
@@ -173,67 +154,5 @@ impl Clone for Row {
 
     fn clone(&self) -> Result<Row, Memory> {
         self.clone_in()
-    }
-}
-
-impl Rows {
-    pub fn new(alloc: Global) -> Rows
-        ensures { result ≡ [] }
-    {
-        Rows {
-            rows: Vec::new(alloc),
-        }
-    }
-
-    pub fn from_vec(rows: Vec<Row>) -> Rows
-        ensures { result ≡ rows.items }
-    {
-        Rows { rows }
-    }
-
-    pub fn into_vec(self) -> Vec<Row>
-        ensures { result.items ≡ self }
-    {
-        self.rows
-    }
-
-    pub fn as_slice(&self) -> &[Row]
-        ensures { result.now ≡ self.now }
-    {
-        self.rows.as_slice()
-    }
-
-    pub fn len(&self) -> usize
-        ensures count { result ≡ length self.now }
-        ensures small { result < 2 ^ 63 }
-    {
-        self.rows.len()
-    }
-
-    pub fn is_empty(&self) -> bool
-        ensures { IsTrue result ↔ (self.now ≡ []) }
-    {
-        self.rows.is_empty()
-    }
-
-    pub fn row(&self, index: usize) -> &Row
-        requires { index < length self.now }
-        ensures { slice_get self.now index ≡ Some result.now }
-    {
-        &self.rows[index]
-    }
-
-    pub fn push(&mut self, row: Row) -> Result<(), Memory>
-        ensures ok { OnOk result (self.new ≡ self.old ++ row ∷ []) }
-        ensures err { OnErr result (self.new ≡ self.old) }
-    {
-        push_to(&mut self.rows, row)
-    }
-
-    pub fn clone_in(&self) -> Result<Rows, Memory>
-        ensures { IfOk result (λ r. r ≡ self.now) }
-    {
-        let rows = copy_of(&self.rows)?;
-        Ok(Rows { rows })
     }
 }
