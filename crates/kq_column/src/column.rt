@@ -1,0 +1,74 @@
+// Columns.
+ghost use Rattle.std.specs.Prelude.{◌≡◌, ◌↔◌, ◌<◌, ◌^◌, [], All, length, IfOk, IfSome, IsNone, Some, slice_get};
+ghost use Rattle.kq_value.specs.Typed.{HasType};
+ghost use Rattle.kq_column.specs.Bounds.{AreBounds};
+ghost use Rattle.kq_column.specs.Cells.{cells_present, column_of, IsAtMost, IsWider};
+
+use crate::form::Form;
+use kq_rows::Rows;
+use kq_value::{Memory, Ty, Value};
+use std::alloc::Global;
+use std::marker::Model;
+
+/// The cells of one column, none of which changes. Contracts see their list.
+#[derive(Drop)]
+pub struct Column {
+    form: Form,
+    zone: Option<(Value, Value)>,
+}
+
+impl Model for Column {
+    ghost use Rattle.std.specs.Prelude.{List, IsTrue};
+    ghost use Rattle.kq_value.specs.declared.value.Value.{Value as Cell};
+    ghost use Rattle.std.specs.Coded.{coded_list};
+    ghost use Rattle.kq_value.specs.contracts.value.Value as cell;
+    ghost use Rattle.kq_column.specs.Forms.{cells_in};
+    ghost use Rattle.kq_column.specs.Zones.{is_zone};
+
+    ghost Value = { List Cell };
+
+    ghost coded = { coded_list cell.the_row.coded };
+
+    ghost view = { λ c. cells_in c.form };
+
+    ghost invariant = { λ c. IsTrue (is_zone (cells_in c.form) c.zone) };
+}
+
+impl Column {
+    /// The cells that the rows have at `column`, all of one type.
+    pub fn build(alloc: Global, ty: Ty, rows: &Rows, column: usize) -> Result<Column, Memory>
+        requires wide { All (IsWider column) rows.now }
+        requires typed { All (HasType ty) (column_of column rows.now) }
+        ensures { IfOk result (λ c. c ≡ column_of column rows.now) }
+    {
+        let form = Form::build(alloc, ty, rows, column)?;
+        let zone = form.zone(rows, column)?;
+        Ok(Column { form, zone })
+    }
+
+    pub fn len(&self) -> usize
+        ensures count { result ≡ length self.now }
+        ensures small { result < 2 ^ 63 }
+    {
+        self.form.len()
+    }
+
+    /// A copy of a cell, which shares its text or its dynamic.
+    pub fn cell(&self, index: usize) -> Result<Value, Memory>
+        requires { index < length self.now }
+        ensures { IfOk result (λ v. slice_get self.now index ≡ Some v) }
+    {
+        self.form.cell(index)
+    }
+
+    /// The least and the greatest cell in the total order, nulls aside. None where all are null.
+    pub fn zone(&self) -> Option<(&Value, &Value)>
+        ensures none { IsNone result ↔ (cells_present self.now ≡ []) }
+        ensures bounds { IfSome result (λ zone. AreBounds IsAtMost (cells_present self.now) zone.0.now zone.1.now) }
+    {
+        match &self.zone {
+            None => None,
+            Some((least, greatest)) => Some((least, greatest)),
+        }
+    }
+}
