@@ -1,0 +1,4 @@
+pub mod Rows
+pub mod Joined
+pub mod Around
+pub mod Sent
