@@ -1,3 +1,6 @@
-pub mod More
-pub mod Order
-pub mod Widen
+pub mod Across
+pub mod Bounded
+pub mod Filters
+pub mod Named
+pub mod Sent
+pub mod Walked

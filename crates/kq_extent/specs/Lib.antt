@@ -1,3 +1,5 @@
-pub mod Bounds
 pub mod Cells
+pub mod Columns
+pub mod Runs
 pub mod Seen
+pub mod Split

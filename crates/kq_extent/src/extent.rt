@@ -1,42 +1,58 @@
 // Extents.
-ghost use Rattle.std.specs.Prelude.{◌≡◌, ◌↔◌, ◌<◌, ◌≤◌, ◌^◌, [], IfOk, IfSome, IsNone, IsTrue, Some, length, map, slice_get};
-ghost use Rattle.kq_extent.specs.Bounds.{AreBounds};
-ghost use Rattle.kq_extent.specs.Cells.{cells_at, cursors_of, IsAtMost};
+ghost use Rattle.std.specs.Prelude.{◌≡◌, ◌↔◌, ◌<◌, ◌≤◌, ◌++◌, ◌^◌, [], IfSome, IsNone, IsTrue, OnOk, OnErr, Some, length, map, slice_get};
+ghost use Rattle.kq_rows.specs.Chunks.{same_width};
+ghost use Rattle.kq_column.specs.Bounds.{AreBounds};
+ghost use Rattle.kq_column.specs.Cells.{IsAtMost};
+ghost use Rattle.kq_extent.specs.Cells.{cells_at, cursors_of};
 
-use crate::cells::{cell_at, greater, lesser};
-use kq_value::{Memory, Record, RecordId, Row, Tags, Value};
+use crate::columns::Columns;
+use crate::runs::Runs;
+use kq_rows::Rows;
+use kq_value::{Memory, RecordId, Tags, Value};
 use std::marker::Model;
 
-/// Records that were put in together. None of it changes.
+/// Records that were put in together, column by column. None of it changes.
 #[derive(Drop)]
 pub struct Extent {
     id: u64,
-    records: Vec<Record>,
+    runs: Runs,
+    columns: Columns,
     tags: Tags,
 }
 
 impl Model for Extent {
+    ghost use Rattle.std.specs.Prelude.{◌≡◌, length};
     ghost use Rattle.std.specs.Coded.{codes};
     ghost use Rattle.kq_value.specs.contracts.record.Record as held;
     ghost use Rattle.kq_extent.specs.Seen.{ExtentView};
+    ghost use Rattle.kq_extent.specs.Runs.{named};
 
     ghost Value = { ExtentView };
 
     ghost coded = { Prim.hlevel (codes, held.the_row.coded) };
 
-    ghost view = { λ e. record { id = e.id; records = e.records.items; tags = e.tags } };
+    ghost view = { λ e. record { id = e.id; records = named e.runs e.columns; tags = e.tags } };
+
+    ghost invariant = { λ e. length e.runs ≡ length e.columns };
 }
 
 impl Extent {
     ghost use Rattle.kq_extent.specs.Seen.{row_of, id_of};
+    ghost use Rattle.kq_extent.specs.Runs.{named};
 
-    pub(crate) fn from_records(id: u64, records: Vec<Record>, tags: Tags) -> Extent
-        ensures { result ≡ record { id = id; records = records.items; tags = tags } }
+    pub(crate) fn from_parts(id: u64, runs: Runs, columns: Columns, tags: Tags) -> Extent
+        requires { length runs ≡ length columns }
+        ensures { result ≡ record { id = id; records = named runs columns; tags = tags } }
     {
-        Extent { id, records, tags }
+        Extent {
+            id,
+            runs,
+            columns,
+            tags,
+        }
     }
 
-    /// The same records and tags under another id.
+    /// The same records and tags under another id. It takes no memory.
     pub fn with_id(self, id: u64) -> Extent
         ensures { result ≡ record { id = id; records = self.records; tags = self.tags } }
     {
@@ -54,21 +70,13 @@ impl Extent {
         ensures count { result ≡ length self.now.records }
         ensures small { result < 2 ^ 63 }
     {
-        self.records.len()
+        self.columns.len()
     }
 
     pub fn is_empty(&self) -> bool
         ensures { IsTrue result ↔ (self.now.records ≡ []) }
     {
-        self.records.is_empty()
-    }
-
-    /// A copy of the row of a record.
-    pub fn row(&self, index: usize) -> Result<Row, Memory>
-        requires { index < length self.now.records }
-        ensures { IfOk result (λ row. slice_get (map row_of self.now.records) index ≡ Some row) }
-    {
-        self.records[index].row.clone_in()
+        self.len() == 0
     }
 
     /// The id of a record.
@@ -76,7 +84,7 @@ impl Extent {
         requires { index < length self.now.records }
         ensures { slice_get (map id_of self.now.records) index ≡ Some result }
     {
-        self.records[index].id
+        self.runs.id_of(index)
     }
 
     pub fn tags(&self) -> &Tags
@@ -85,22 +93,21 @@ impl Extent {
         &self.tags
     }
 
-    /// The least and the greatest cell of a column, nulls aside.
+    /// Adds the rows of all records behind others.
+    pub fn add_rows(&self, rows: &mut Rows) -> Result<(), Memory>
+        requires { same_width (rows.old ++ map row_of self.now.records) }
+        ensures ok { OnOk result (rows.new ≡ rows.old ++ map row_of self.now.records) }
+        ensures err { OnErr result (rows.new ≡ rows.old) }
+    {
+        self.columns.add_rows(rows)
+    }
+
+    /// The least and the greatest cell of a column, nulls aside. It was found as the extent was built.
     pub fn zone(&self, column: usize) -> Option<(&Value, &Value)>
         ensures none { IsNone result ↔ (cells_at column self.now.records ≡ []) }
         ensures bounds { IfSome result (λ zone. AreBounds IsAtMost (cells_at column self.now.records) zone.0.now zone.1.now) }
     {
-        let mut zone: Option<(&Value, &Value)> = None;
-        for record in &self.records {
-            let Some(cell) = cell_at(&record.row, column) else {
-                continue;
-            };
-            zone = Some(match zone {
-                None => (cell, cell),
-                Some((least, greatest)) => (lesser(cell, least), greater(cell, greatest)),
-            });
-        }
-        zone
+        self.columns.zone(column)
     }
 
     /// The least and the greatest cursor of the records.
@@ -108,14 +115,6 @@ impl Extent {
         ensures none { IsNone result ↔ (self.now.records ≡ []) }
         ensures bounds { IfSome result (λ cursors. AreBounds ◌≤◌ (cursors_of self.now.records) cursors.0 cursors.1) }
     {
-        let mut cursors: Option<(u64, u64)> = None;
-        for record in &self.records {
-            let cursor = record.id.cursor;
-            cursors = Some(match cursors {
-                None => (cursor, cursor),
-                Some((least, greatest)) => (cursor.min(least), cursor.max(greatest)),
-            });
-        }
-        cursors
+        self.runs.cursors()
     }
 }

@@ -1,15 +1,18 @@
-//! Extents: records that were put in together, kept unchanged under one id with their tags, and lists of extents that
-//! share them.
+//! Extents: records that were put in together, kept unchanged and column by column under one id with their tags; extents
+//! that aren't yet part of a commit; and the extents of a table, the small ones apart.
 //!
-//! Which extents a table has, and which records a query reads, is left to the crates above.
+//! Which tables there are, what a commit makes, and which records a query reads, is left to the crates above.
 #![tactic(auto)]
 
-mod builder;
-mod cells;
+mod columns;
+mod draft;
 mod extent;
-mod list;
+mod run;
+mod runs;
+mod table_extents;
+mod walk;
 
-pub use builder::ExtentBuilder;
+pub use draft::Draft;
 pub use extent::Extent;
 pub use kq_value::RecordId;
-pub use list::ExtentList;
+pub use table_extents::TableExtents;

@@ -1,15 +1,15 @@
-use Rattle.std.proofs.Common.{◌≤◌, min, max}
-use Rattle.kq_extent.proofs.More.{cursors_of-more}
-use Rattle.kq_extent.proofs.Widen.{AreBounds-one, AreBounds-more, nothing_so_far, found_so_far, IsLesser-min, IsGreater-max, le-trans, le-refl}
+use Rattle.std.proofs.Common.{◌≡◌, map, ap, sym, ◌∙◌}
+use Rattle.kq_extent.specs.Seen.{ExtentView}
+use Rattle.kq_extent.specs.Cells.{cursor_of, cursors_of}
+use Rattle.kq_extent.proofs.Named.{ids-named, named-nil, nil-named}
 use Rattle.kq_extent.proofs.extent.Extent.cursors.Goals as goal
-use Rattle.kq_extent.proofs.extent.Extent.cursors.Goals.{in-None, in-Some}
 
-pub loop-record-preserved : goal.loop-record-preserved
-loop-record-preserved c =
-    let more = cursors_of-more c.deref-record-items.result.now c.loop-record.record-index c.record-item.result c.loop-record-test.true c.record-item.is in
-    let cursor = c.record-item.result.id.cursor in
-    elim c.match-cursors.branch [
-      | in-None w ↦ rw (w.cursors-is, more, nothing_so_far c.loop-record.cursors _ _ w.in-None.is c.loop-record.invariant) (AreBounds-one ◌≤◌ cursor (le-refl cursor))
-      | in-Some w ↦ rw (w.cursors-is, more, w.min.ensures, w.max.ensures)
-          (AreBounds-more ◌≤◌ le-trans _ cursor w.in-Some.least w.in-Some.greatest (min cursor w.in-Some.least) (max cursor w.in-Some.greatest) (found_so_far c.loop-record.cursors _ _ _ w.in-Some.is c.loop-record.invariant) (IsLesser-min cursor w.in-Some.least) (IsGreater-max cursor w.in-Some.greatest))
-    ]
+pub returns : goal.returns
+returns c =
+    let s = c.self.inside in
+    let records = ap (λ (e : ExtentView). e.records) (sym c.self.view_is) in
+    let same : cursors_of c.args.self.now.records ≡ map cursor_of s.runs = ap cursors_of records ∙ ap (map cursor_of) (ids-named s.runs s.columns c.self.invariant) in
+    record {
+      none = (λ none. records ∙ nil-named s.runs s.columns (c.cursors.ensures.none.0 none), λ nil. c.cursors.ensures.none.1 (named-nil s.runs s.columns c.self.invariant (sym records ∙ nil)));
+      bounds = rw same c.cursors.ensures.bounds;
+    }

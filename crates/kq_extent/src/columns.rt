@@ -1,0 +1,125 @@
+// Rows that are kept column by column.
+ghost use Rattle.std.specs.Prelude.{◌≡◌, ◌↔◌, ◌<◌, ◌++◌, ◌^◌, [], IfOk, IfSome, IsNone, OnOk, OnErr, Some, length, map, slice_get, take};
+ghost use Rattle.std.specs.List.{All, range_with_len};
+ghost use Rattle.kq_value.specs.Typed.{HasTypes};
+ghost use Rattle.kq_rows.specs.Chunks.{same_width};
+ghost use Rattle.kq_column.specs.Bounds.{AreBounds};
+ghost use Rattle.kq_column.specs.Cells.{column_of, IsAtMost};
+ghost use Rattle.kq_extent.specs.Cells.{cells_of};
+
+use kq_column::Column;
+use kq_rows::Rows;
+use kq_value::{Memory, Schema, Value};
+use std::alloc::Global;
+use std::marker::Model;
+
+// The columns of rows, and how many rows there are. Contracts see the list of the rows.
+#[derive(Drop)]
+pub(crate) struct Columns {
+    columns: Vec<Column>,
+    count: usize,
+}
+
+impl Model for Columns {
+    ghost use Rattle.std.specs.Prelude.{List};
+    ghost use Rattle.kq_value.specs.declared.value.Value.{Value as Cell};
+    ghost use Rattle.std.specs.Coded.{coded_list};
+    ghost use Rattle.kq_value.specs.contracts.value.Value as cell;
+    ghost use Rattle.kq_extent.specs.Columns.{rows_across, AreWhole};
+
+    ghost Value = { List (List Cell) };
+
+    ghost coded = { coded_list (coded_list cell.the_row.coded) };
+
+    ghost view = { λ c. rows_across c.columns.items c.count };
+
+    ghost invariant = { λ c. AreWhole c.columns.items c.count };
+}
+
+fn columns_of(alloc: Global, schema: &Schema, rows: &Rows) -> Result<Vec<Column>, Memory>
+    requires { All (HasTypes schema.now) rows.now }
+    ensures { IfOk result (λ cs. cs.items ≡ map (λ j. column_of j rows.now) (range_with_len 0 (length schema.now))) }
+{
+    let mut columns = Vec::new(alloc);
+    let fields = schema.as_slice();
+    for j in 0..fields.len() {
+        let column = Column::build(alloc, fields[j].ty, rows, j)?;
+        columns.push(column)?;
+    }
+    Ok(columns)
+}
+
+impl Columns {
+    pub fn build(alloc: Global, schema: &Schema, rows: &Rows) -> Result<Columns, Memory>
+        requires { All (HasTypes schema.now) rows.now }
+        ensures { IfOk result (λ c. c ≡ rows.now) }
+    {
+        let columns = columns_of(alloc, schema, rows)?;
+        Ok(Columns {
+            columns,
+            count: rows.len(),
+        })
+    }
+
+    pub fn len(&self) -> usize
+        ensures count { result ≡ length self.now }
+        ensures small { result < 2 ^ 63 }
+    {
+        self.count
+    }
+
+    /// The least and the greatest cell of a column, nulls aside.
+    pub fn zone(&self, column: usize) -> Option<(&Value, &Value)>
+        ensures none { IsNone result ↔ (cells_of column self.now ≡ []) }
+        ensures bounds { IfSome result (λ zone. AreBounds IsAtMost (cells_of column self.now) zone.0.now zone.1.now) }
+    {
+        if column < self.columns.len() {
+            self.columns[column].zone()
+        } else {
+            None
+        }
+    }
+
+    // Fills a row that is empty with the cells of one row.
+    fn fill(&self, index: usize, row: &mut Vec<Value>) -> Result<(), Memory>
+        requires place { index < length self.now }
+        requires empty { row.old.items ≡ [] }
+        ensures { OnOk result (slice_get self.now index ≡ Some row.new.items) }
+    {
+        for column in &self.columns {
+            let cell = column.cell(index)?;
+            row.push(cell)?;
+        }
+        Ok(())
+    }
+
+    // Adds all rows behind others, or some of them where memory is refused.
+    fn push_rows(&self, rows: &mut Rows) -> Result<(), Memory>
+        requires { same_width (rows.old ++ self.now) }
+        ensures ok { OnOk result (rows.new ≡ rows.old ++ self.now) }
+        ensures kept { OnErr result (take (length rows.old) rows.new ≡ rows.old) }
+    {
+        let mut row = Vec::new(*self.columns.allocator());
+        for index in 0..self.len() {
+            self.fill(index, &mut row)?;
+            rows.push_from(&mut row)?;
+        }
+        Ok(())
+    }
+
+    /// Adds all rows behind others.
+    pub fn add_rows(&self, rows: &mut Rows) -> Result<(), Memory>
+        requires { same_width (rows.old ++ self.now) }
+        ensures ok { OnOk result (rows.new ≡ rows.old ++ self.now) }
+        ensures err { OnErr result (rows.new ≡ rows.old) }
+    {
+        let before = rows.len();
+        match self.push_rows(rows) {
+            Ok(()) => Ok(()),
+            Err(memory) => {
+                rows.truncate(before);
+                Err(memory)
+            }
+        }
+    }
+}
