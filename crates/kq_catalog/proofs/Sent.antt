@@ -1,18 +1,21 @@
--- A catalogue may go to another thread. The lemma on each type is found from those on its parts.
+-- A catalogue, a snapshot and what was staged may go to another thread, and many threads may share them. The lemma on each type
+-- is found from those on its parts.
 use denote.Param.Send.{IsSend, IsSync, sendable}
 use Rattle.std.proofs.Crossing.{crosses}
-use Rattle.kq_value.proofs.dynamic.DynBag.TheLaws.TheKnot as knot
 use Rattle.kq_value.specs.contracts.text.Text as text
 use Rattle.kq_value.specs.contracts.tags.Tags as tags
-use Rattle.kq_value.specs.contracts.dynamic.Dyn as dynamic
-use Rattle.kq_value.specs.contracts.dyn_box.DynBox as boxed
-use Rattle.kq_value.specs.contracts.value.Value as value
-use Rattle.kq_value.specs.contracts.row.Row as row
-use Rattle.kq_value.specs.contracts.record.Record as held
-use Rattle.kq_extent.specs.contracts.extent.Extent as extent
-use Rattle.kq_extent.specs.contracts.list.ExtentList as list
-use Rattle.kq_catalog.specs.contracts.header.Header as header
+use Rattle.kq_rows.proofs.Sent.{recorded_send, recorded_sync}
+use Rattle.kq_shared.proofs.Sent.{list_send, list_sync}
+use Rattle.kq_shared.specs.contracts.list.SharedList as list
+use Rattle.kq_names.specs.contracts.names.Names as names
+use Rattle.kq_extent.proofs.Sent.{held_send, held_sync}
+use Rattle.kq_model.specs.contracts.event.Event as event
+use Rattle.kq_catalog.specs.contracts.held.HeldTable as table
+use Rattle.kq_catalog.specs.contracts.tables.Tables as tables
+use Rattle.kq_catalog.specs.contracts.state.State as state
+use Rattle.kq_catalog.specs.contracts.snapshot.Snapshot as snapshot
 use Rattle.kq_catalog.specs.contracts.catalog.Catalog as catalog
+use Rattle.kq_catalog.specs.contracts.catalog.Staged as staged
 
 text_send : IsSend text.the_row
 text_send = search (sendable, crosses) depth 40 fits 5000
@@ -26,50 +29,62 @@ tags_send = search (text_send, sendable, crosses) depth 40 fits 5000
 tags_sync : IsSync tags.the_row
 tags_sync = search (text_sync, sendable, crosses) depth 40 fits 5000
 
-dynamic_send : IsSend dynamic.the_row
-dynamic_send = search (knot.crosses, crosses, sendable) depth 60 fits 20000
+names_send : IsSend names.the_row
+names_send = search (text_send, sendable, crosses) depth 40 fits 5000
 
-dynamic_sync : IsSync dynamic.the_row
-dynamic_sync = search (knot.crosses, crosses, sendable) depth 60 fits 20000
+names_sync : IsSync names.the_row
+names_sync = search (text_sync, sendable, crosses) depth 40 fits 5000
 
-boxed_send : IsSend boxed.the_row
-boxed_send = search (dynamic_send, dynamic_sync, sendable, crosses) depth 40 fits 5000
+table_send : IsSend table.the_row
+table_send = search (text_send, text_sync, held_send, sendable, crosses) depth 40 fits 5000
 
-boxed_sync : IsSync boxed.the_row
-boxed_sync = search (dynamic_send, dynamic_sync, sendable, crosses) depth 40 fits 5000
+table_sync : IsSync table.the_row
+table_sync = search (text_send, text_sync, held_sync, sendable, crosses) depth 40 fits 5000
 
-value_send : IsSend value.the_row
-value_send = search (text_send, boxed_send, sendable, crosses) depth 40 fits 5000
+held_tables_send : IsSend (list.the_row table.the_row)
+held_tables_send = list_send table.the_row table_send table_sync
 
-value_sync : IsSync value.the_row
-value_sync = search (text_sync, boxed_sync, sendable, crosses) depth 40 fits 5000
+held_tables_sync : IsSync (list.the_row table.the_row)
+held_tables_sync = list_sync table.the_row table_send table_sync
 
-row_send : IsSend row.the_row
-row_send = search (value_send, sendable, crosses) depth 40 fits 5000
+tables_send : IsSend tables.the_row
+tables_send = search (held_tables_send, names_send, names_sync, sendable, crosses) depth 40 fits 5000
 
-row_sync : IsSync row.the_row
-row_sync = search (value_sync, sendable, crosses) depth 40 fits 5000
+tables_sync : IsSync tables.the_row
+tables_sync = search (held_tables_sync, names_send, names_sync, sendable, crosses) depth 40 fits 5000
 
-held_send : IsSend held.the_row
-held_send = search (row_send, sendable, crosses) depth 40 fits 5000
+event_send : IsSend event.the_row
+event_send = search (text_send, tags_send, recorded_send, sendable, crosses) depth 40 fits 5000
 
-held_sync : IsSync held.the_row
-held_sync = search (row_sync, sendable, crosses) depth 40 fits 5000
+event_sync : IsSync event.the_row
+event_sync = search (text_sync, tags_sync, recorded_sync, sendable, crosses) depth 40 fits 5000
 
-extent_send : IsSend extent.the_row
-extent_send = search (held_send, tags_send, sendable, crosses) depth 40 fits 5000
+journal_send : IsSend (list.the_row event.the_row)
+journal_send = list_send event.the_row event_send event_sync
 
-extent_sync : IsSync extent.the_row
-extent_sync = search (held_sync, tags_sync, sendable, crosses) depth 40 fits 5000
+journal_sync : IsSync (list.the_row event.the_row)
+journal_sync = list_sync event.the_row event_send event_sync
 
-list_send : IsSend list.the_row
-list_send = search (extent_send, extent_sync, sendable, crosses) depth 40 fits 5000
+state_send : IsSend state.the_row
+state_send = search (journal_send, tables_send, sendable, crosses) depth 40 fits 5000
 
-header_send : IsSend header.the_row
-header_send = search (text_send, tags_send, sendable, crosses) depth 40 fits 5000
+state_sync : IsSync state.the_row
+state_sync = search (journal_sync, tables_sync, sendable, crosses) depth 40 fits 5000
 
-header_sync : IsSync header.the_row
-header_sync = search (text_sync, tags_sync, sendable, crosses) depth 40 fits 5000
+pub snapshot_send : IsSend snapshot.the_row
+snapshot_send = search (state_send, state_sync, sendable, crosses) depth 40 fits 5000
+
+pub snapshot_sync : IsSync snapshot.the_row
+snapshot_sync = search (state_send, state_sync, sendable, crosses) depth 40 fits 5000
 
 pub catalog_send : IsSend catalog.the_row
-catalog_send = search (header_send, header_sync, list_send, sendable, crosses) depth 40 fits 5000
+catalog_send = search (snapshot_send, sendable, crosses) depth 40 fits 5000
+
+pub catalog_sync : IsSync catalog.the_row
+catalog_sync = search (snapshot_sync, sendable, crosses) depth 40 fits 5000
+
+pub staged_send : IsSend staged.the_row
+staged_send = search (snapshot_send, sendable, crosses) depth 40 fits 5000
+
+pub staged_sync : IsSync staged.the_row
+staged_sync = search (snapshot_sync, sendable, crosses) depth 40 fits 5000

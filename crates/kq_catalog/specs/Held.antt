@@ -1,20 +1,37 @@
--- The records and items of extents that are held.
-use Rattle.std.specs.Prelude.{ℕ, List, [], map, slice_index_or}
-use Rattle.std.specs.List.{flat_map}
-use Rattle.kq_value.specs.declared.record.Record.{Record}
-use Rattle.kq_extent.specs.Seen.{ExtentView, ListView}
+-- What is held of a table, and when it is what a history says of the table.
+use Rattle.std.specs.Prelude.{◌≡◌, Bool, not, List, length, map, All, nat_lt}
+use Rattle.std.specs.List.{filter}
+use Rattle.std.specs.List.Sorted.{IsPermutation}
+use Rattle.kq_value.specs.Typed.{HasTypes}
+use Rattle.kq_extent.specs.Seen.{ExtentView, HeldExtents, held_records, row_of}
+use Rattle.kq_model.specs.declared.table.Table.{Table}
 use Rattle.kq_model.specs.Records.{ExtentItem, ids_of}
+use Rattle.kq_model.specs.Tables.{TableState}
 
--- the records of extents, in order
-abbrev pub records_in : List ExtentView → List Record
-records_in = flat_map (λ (e : ExtentView). e.records)
+-- a table, and its extents
+pub record HeldTable : Type 0 where
+  pub table : Table
+  pub extents : HeldExtents
 
+abbrev pub tables_in : List HeldTable → List Table
+tables_in = map (λ (h : HeldTable). h.table)
+
+-- an extent by the ids of its records
 abbrev pub item_by : ExtentView → ExtentItem
 item_by e = record { id = e.id; records = ids_of e.records; tags = e.tags }
 
-abbrev pub extents_in : List ListView → List (List ExtentView)
-extents_in = map (λ (l : ListView). l.extents)
+-- an extent of fewer records is small
+abbrev pub is_small_item : ExtentItem → Bool
+is_small_item i = nat_lt (length i.records) 4096
 
--- the extents of a table by its number
-abbrev pub extents_at : ℕ → List (List ExtentView) → List ExtentView
-extents_at t held = slice_index_or held t []
+-- the extents of a history are those that are held: the small ones in order, and the others in order
+pub record AreItems (items : List ExtentItem) (held : HeldExtents) : Type 0 where
+  pub small : map item_by held.small ≡ filter is_small_item items
+  pub big : map item_by held.big ≡ filter (λ i. not (is_small_item i)) items
+
+-- what is held of a table is what the history says of it: each of its records stands once in the extents and nothing else does, the extents are those of the history, and the rows have the table's types
+pub record IsHeld (held : HeldTable) (state : TableState) : Type 0 where
+  pub table : held.table ≡ state.table
+  pub once : IsPermutation (held_records held.extents) state.records
+  pub in_order : AreItems state.items held.extents
+  pub typed : All (HasTypes state.table.schema) (map row_of state.records)

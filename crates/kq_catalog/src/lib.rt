@@ -1,21 +1,21 @@
-//! The catalogue: the one mutable state, whose type keeps that its journal is lawful, that its tables are the journal's,
-//! and that each record that the journal gives stands once in its table's extents.
+//! The catalogue: the one mutable state, whose type keeps that its journal is lawful, and that of each table it holds what
+//! the journal says of it.
 //!
-//! A commit is staged on the catalogue as it stands, room for it is made, and then it can't fail. Which commit a command
-//! is due is left to the engine.
+//! What stands is one state that nothing changes, and a snapshot is a handle of it. A commit is staged: the next state is
+//! made beside the one that stands, edit by edit. Then it is put in its place, which can't fail. Which commit a command is
+//! due is left to the engine.
 #![tactic(auto)]
 
 mod catalog;
-mod change;
+mod edit;
 mod grows;
-mod handles;
-mod header;
-mod lists;
-mod placing;
+mod held;
+mod intent;
+mod plan;
 mod snapshot;
+mod state;
 mod tables;
 
-pub use catalog::Catalog;
-pub use change::{CatalogFault, Change, Makes, Placed};
-pub use header::{Entry, Header, Inserted};
+pub use catalog::{Catalog, Staged};
+pub use intent::{Intent, Part};
 pub use snapshot::Snapshot;

@@ -1,25 +1,135 @@
-// Looking for a table.
-ghost use Rattle.std.specs.Prelude.{◌≡◌, ◌<◌, ◌^◌, MatchOption, Some, None, length, map};
+// The tables by number and by name.
+ghost use Rattle.std.specs.Prelude.{◌≡◌, ◌<◌, ◌++◌, ◌∷◌, [], IfOk, OnOk, MatchOption, Some, None, length, slice_get};
 ghost use Rattle.std.specs.Arc.{arc_value};
+ghost use Rattle.kq_model.specs.Edits.{Fits, FitAll, changed};
+ghost use Rattle.kq_model.specs.Edits.Edit.{NewTable};
 ghost use Rattle.kq_model.specs.History.{table_numbered};
+ghost use Rattle.kq_catalog.specs.Edits.{edit_of, edits_by, empty_table, with_extent, put_in, put_all};
+ghost use Rattle.kq_catalog.specs.Held.{tables_in};
 
+use crate::edit::Change;
+use crate::held::HeldTable;
+use kq_extent::Extent;
 use kq_model::Table;
-use kq_value::Text;
+use kq_names::Names;
+use kq_shared::SharedList;
+use kq_value::{Memory, Text};
 use std::alloc::Global;
+use std::marker::Model;
 use std::sync::Arc;
 
-/// The table of a name, with its number.
-pub(crate) fn table_in<'a>(
-    tables: &'a [Arc<Table, Global>],
-    name: &Text,
-) -> Option<(u32, &'a Table)>
-    requires { length tables.now < 2 ^ 32 }
-    ensures { MatchOption result (table_numbered name.now (map arc_value tables.now) ≡ None) (λ p. table_numbered name.now (map arc_value tables.now) ≡ Some (record { number = p.0; table = p.1.now })) }
-{
-    for i in 0..tables.len() {
-        if tables[i].name.same(name) {
-            return Some((i as u32, &*tables[i]));
+/// The tables in the order of their creation. Copies share them.
+#[derive(Drop)]
+pub(crate) struct Tables {
+    held: SharedList<HeldTable>,
+    names: Arc<Names, Global>,
+}
+
+impl Model for Tables {
+    ghost use Rattle.std.specs.Prelude.{◌≡◌, List, map};
+    ghost use Rattle.std.specs.Arc.{arc_value};
+    ghost use Rattle.std.specs.Coded.{codes};
+    ghost use Rattle.kq_value.specs.contracts.value.Value as cell;
+    ghost use Rattle.kq_catalog.specs.Held.{HeldTable as Seen};
+
+    ghost Value = { List Seen };
+
+    ghost coded = { Prim.hlevel (codes, cell.the_row.coded) };
+
+    ghost view = { λ t. t.held };
+
+    // the names are the tables'
+    ghost invariant = { λ t. arc_value t.names ≡ map (λ (h : Seen). h.table.name) t.held };
+}
+
+impl Tables {
+    pub(crate) fn new(alloc: Global) -> Result<Tables, Memory>
+        ensures { IfOk result (λ tables. tables ≡ []) }
+    {
+        Ok(Tables {
+            held: SharedList::new(alloc),
+            names: Arc::new(alloc, Names::new(alloc))?,
+        })
+    }
+
+    pub(crate) fn len(&self) -> usize
+        ensures { result ≡ length self.now }
+    {
+        self.held.len()
+    }
+
+    /// The table of a number.
+    pub(crate) fn get(&self, number: u32) -> &HeldTable
+        requires { number < length self.now }
+        ensures { slice_get self.now number ≡ Some result.now }
+    {
+        self.held.get(number as usize)
+    }
+
+    /// The table of a name, with its number.
+    pub(crate) fn find(&self, name: &Text) -> Option<(u32, &Table)>
+        ensures { MatchOption result (table_numbered name.now (tables_in self.now) ≡ None) (λ p. table_numbered name.now (tables_in self.now) ≡ Some (record { number = p.0; table = p.1.now })) }
+    {
+        match self.names.find(name) {
+            Some(number) => Some((number, self.held.get(number as usize).table())),
+            None => None,
         }
     }
-    None
+
+    fn put_table(&mut self, alloc: Global, table: Arc<Table, Global>) -> Result<(), Memory>
+        requires { Fits (tables_in self.old) (NewTable (arc_value table)) }
+        ensures { OnOk result (self.new ≡ self.old ++ empty_table (arc_value table) ∷ []) }
+    {
+        let names = Arc::new(alloc, self.names.with(&table.name)?)?;
+        let held = Arc::new(alloc, HeldTable::new(alloc, table))?;
+        self.held.push(held)?;
+        self.names = names;
+        Ok(())
+    }
+
+    fn put_extent(
+        &mut self,
+        alloc: Global,
+        table: u32,
+        extent: Arc<Extent, Global>,
+    ) -> Result<(), Memory>
+        requires { table < length self.old }
+        ensures { OnOk result (self.new ≡ changed (with_extent (arc_value extent)) table self.old) }
+    {
+        let number = table as usize;
+        let held = self.held.get(number).with_extent(extent)?;
+        self.held.set(number, Arc::new(alloc, held)?)?;
+        Ok(())
+    }
+
+    /// Makes one change.
+    pub(crate) fn put(&mut self, alloc: Global, change: Change) -> Result<(), Memory>
+        requires { Fits (tables_in self.old) (edit_of change) }
+        ensures { OnOk result (self.new ≡ put_in self.old change) }
+    {
+        match change {
+            Change::PutTable(table) => self.put_table(alloc, table),
+            Change::PutExtent { table, extent } => self.put_extent(alloc, table, extent),
+        }
+    }
+
+    /// The tables after some changes.
+    pub(crate) fn with_all(&self, alloc: Global, changes: Vec<Change>) -> Result<Tables, Memory>
+        requires { FitAll (tables_in self.now) (edits_by changes.items) }
+        ensures { IfOk result (λ tables. tables ≡ put_all self.now changes.items) }
+    {
+        let mut tables = self.share()?;
+        for change in changes {
+            tables.put(alloc, change)?;
+        }
+        Ok(tables)
+    }
+
+    fn share(&self) -> Result<Tables, Memory>
+        ensures { IfOk result (λ tables. tables ≡ self.now) }
+    {
+        let held = self.held.share()?;
+        let names = Arc::try_clone(&self.names)?;
+        Ok(Tables { held, names })
+    }
 }

@@ -2,10 +2,11 @@
 use Rattle.std.proofs.Common.{◌≡◌, ◌≤◌, ℕ, ◌+◌, Bool, true, false, cond, List, [], ◌∷◌, ◌++◌, length, map, nat_eq, refl, ap, sym, ◌∙◌, subst, append_assoc, append-nil, length-append, arith, add-zero, zero-add}
 use Rattle.kq_value.specs.declared.record.Record.{Record}
 use Rattle.kq_value.specs.declared.value.Value.{Value}
+use Rattle.kq_rows.specs.Numbered.{numbered}
 use Rattle.kq_model.specs.declared.batch.Batch.{Batch}
 use Rattle.kq_model.specs.declared.event.Commit.{Commit}
 use Rattle.kq_model.specs.History.{Log}
-use Rattle.kq_model.specs.Records.{numbered, given_by, given, rows_to, records_from, records, ExtentItem, item_of, items_by, items, made_by, made_in, extents_from}
+use Rattle.kq_model.specs.Records.{given_by, given, rows_to, records_from, records, ExtentItem, items, made_by, made_in, extents_from}
 
 records_from-push : (t n : ℕ) (l : Log) (c : Commit) → records_from t n (l ++ c ∷ []) ≡ records_from t n l ++ given t (n + length l + 1) c
 records_from-push t n [] c = rw add-zero (append-nil (given t (n + 1) c))
@@ -36,59 +37,9 @@ extents_from-push t n id (x ∷ l) c =
 pub extents-push : (l : Log) (t : ℕ) (c : Commit) → extents_from t 0 1 (l ++ c ∷ []) ≡ extents_from t 0 1 l ++ items t (length l + 1) (1 + made_in l) c
 extents-push l t c = subst (λ (k : ℕ). extents_from t 0 1 (l ++ c ∷ []) ≡ extents_from t 0 1 l ++ items t (k + 1) (1 + made_in l) c) (zero-add (length l)) (extents_from-push t 0 1 l c)
 
--- what one batch gives a table after some rows
-abbrev pub given_last : ℕ → ℕ → ℕ → Batch → List Record
-given_last t cursor ordinal b = cond (nat_eq b.table t) (numbered cursor ordinal b.rows) []
-
-abbrev pub item_last : ℕ → ℕ → ℕ → ℕ → Batch → List ExtentItem
-item_last t cursor ordinal id b = cond (nat_eq b.table t) (item_of id cursor ordinal b ∷ []) []
-
 pub rows_to-push : (t : ℕ) (bs : List Batch) (b : Batch) → rows_to t (bs ++ b ∷ []) ≡ rows_to t bs + cond (nat_eq b.table t) (length b.rows) 0
 rows_to-push t [] b = omega arith
 rows_to-push t (x ∷ bs) b = let more = rows_to-push t bs b in omega (arith, more)
-
--- one more batch gives its rows last
-pub given_by-push : (t cursor ordinal : ℕ) (bs : List Batch) (b : Batch) → given_by t cursor ordinal (bs ++ b ∷ []) ≡ given_by t cursor ordinal bs ++ given_last t cursor (ordinal + rows_to t bs) b
-given_by-push t cursor ordinal [] b = by_test (nat_eq b.table t)
-  where
-    by_test : (is : Bool) → cond is (numbered cursor ordinal b.rows ++ []) [] ≡ cond is (numbered cursor (ordinal + 0) b.rows) []
-    by_test true = rw add-zero (append-nil _)
-    by_test false = refl
-given_by-push t cursor ordinal (x ∷ bs) b = by_test (nat_eq x.table t) (given_by-push t cursor (ordinal + length x.rows) bs b) (given_by-push t cursor ordinal bs b)
-  where
-    by_test : (is : Bool) → given_by t cursor (ordinal + length x.rows) (bs ++ b ∷ []) ≡ given_by t cursor (ordinal + length x.rows) bs ++ given_last t cursor (ordinal + length x.rows + rows_to t bs) b
-        → given_by t cursor ordinal (bs ++ b ∷ []) ≡ given_by t cursor ordinal bs ++ given_last t cursor (ordinal + rows_to t bs) b
-        → cond is (numbered cursor ordinal x.rows ++ given_by t cursor (ordinal + length x.rows) (bs ++ b ∷ [])) (given_by t cursor ordinal (bs ++ b ∷ []))
-        ≡ cond is (numbered cursor ordinal x.rows ++ given_by t cursor (ordinal + length x.rows) bs) (given_by t cursor ordinal bs) ++ given_last t cursor (ordinal + (cond is (length x.rows) 0 + rows_to t bs)) b
-    by_test true more same =
-        let at : ordinal + length x.rows + rows_to t bs ≡ ordinal + (length x.rows + rows_to t bs) = omega arith in
-        ap (λ (rs : List Record). numbered cursor ordinal x.rows ++ rs) (more ∙ ap (λ (k : ℕ). given_by t cursor (ordinal + length x.rows) bs ++ given_last t cursor k b) at)
-        ∙ sym (append_assoc (numbered cursor ordinal x.rows) (given_by t cursor (ordinal + length x.rows) bs) _)
-    by_test false more same = same ∙ ap (λ (k : ℕ). given_by t cursor ordinal bs ++ given_last t cursor (ordinal + k) b) (sym (zero-add (rows_to t bs)))
-
--- one more batch is one more extent
-pub items_by-push : (t cursor ordinal id : ℕ) (bs : List Batch) (b : Batch) → items_by t cursor ordinal id (bs ++ b ∷ []) ≡ items_by t cursor ordinal id bs ++ item_last t cursor (ordinal + rows_to t bs) (id + length bs) b
-items_by-push t cursor ordinal id [] b = by_test (nat_eq b.table t)
-  where
-    by_test : (is : Bool) → cond is (item_of id cursor ordinal b ∷ []) [] ≡ cond is (item_of (id + 0) cursor (ordinal + 0) b ∷ []) []
-    by_test true = rw (add-zero, add-zero) refl
-    by_test false = refl
-items_by-push t cursor ordinal id (x ∷ bs) b = by_test (nat_eq x.table t) (items_by-push t cursor (ordinal + length x.rows) (id + 1) bs b) (items_by-push t cursor ordinal (id + 1) bs b)
-  where
-    next : id + 1 + length bs ≡ id + length (x ∷ bs)
-    next = omega arith
-
-    by_test : (is : Bool) → items_by t cursor (ordinal + length x.rows) (id + 1) (bs ++ b ∷ []) ≡ items_by t cursor (ordinal + length x.rows) (id + 1) bs ++ item_last t cursor (ordinal + length x.rows + rows_to t bs) (id + 1 + length bs) b
-        → items_by t cursor ordinal (id + 1) (bs ++ b ∷ []) ≡ items_by t cursor ordinal (id + 1) bs ++ item_last t cursor (ordinal + rows_to t bs) (id + 1 + length bs) b
-        → cond is (item_of id cursor ordinal x ∷ items_by t cursor (ordinal + length x.rows) (id + 1) (bs ++ b ∷ [])) (items_by t cursor ordinal (id + 1) (bs ++ b ∷ []))
-        ≡ cond is (item_of id cursor ordinal x ∷ items_by t cursor (ordinal + length x.rows) (id + 1) bs) (items_by t cursor ordinal (id + 1) bs) ++ item_last t cursor (ordinal + (cond is (length x.rows) 0 + rows_to t bs)) (id + length (x ∷ bs)) b
-    by_test true more same =
-        let at : ordinal + length x.rows + rows_to t bs ≡ ordinal + (length x.rows + rows_to t bs) = omega arith in
-        ap (λ (es : List ExtentItem). item_of id cursor ordinal x ∷ es)
-        (more ∙ ap (λ (k : ℕ). items_by t cursor (ordinal + length x.rows) (id + 1) bs ++ item_last t cursor k (id + 1 + length bs) b) at
-        ∙ ap (λ (k : ℕ). items_by t cursor (ordinal + length x.rows) (id + 1) bs ++ item_last t cursor (ordinal + (length x.rows + rows_to t bs)) k b) next)
-    by_test false more same = same ∙ ap (λ (k : ℕ). items_by t cursor ordinal (id + 1) bs ++ item_last t cursor (ordinal + k) (id + 1 + length bs) b) (sym (zero-add (rows_to t bs)))
-        ∙ ap (λ (k : ℕ). items_by t cursor ordinal (id + 1) bs ++ item_last t cursor (ordinal + (0 + rows_to t bs)) k b) next
 
 length-numbered : (cursor ordinal : ℕ) (rows : _) → length (numbered cursor ordinal rows) ≡ length rows
 length-numbered cursor ordinal [] = refl
@@ -101,24 +52,6 @@ given_by-one t cursor b = by_test (nat_eq b.table t)
     by_test : (is : Bool) → length (cond is (numbered cursor 0 b.rows ++ []) []) ≤ length b.rows
     by_test true = let n = length-numbered cursor 0 b.rows in omega (arith, n, length-append (numbered cursor 0 b.rows) [])
     by_test false = omega arith
-
--- one more row has the next ordinal
-pub numbered-push : (cursor ordinal : ℕ) (rows : List (List Value)) (r : List Value) → numbered cursor ordinal (rows ++ r ∷ []) ≡ numbered cursor ordinal rows ++ record { id = record { cursor = cursor; ordinal = ordinal + length rows }; row = r } ∷ []
-numbered-push cursor ordinal [] r = ap (λ (o : ℕ). let x : Record = record { id = record { cursor = cursor; ordinal = o }; row = r } in x ∷ []) (sym (add-zero ordinal))
-numbered-push cursor ordinal (x ∷ rows) r =
-    let same : ordinal + 1 + length rows ≡ ordinal + length (x ∷ rows) = omega arith in
-    ap (λ (rs : List Record). record { id = record { cursor = cursor; ordinal = ordinal }; row = x } ∷ rs)
-    (numbered-push cursor (ordinal + 1) rows r ∙ ap (λ (o : ℕ). numbered cursor (ordinal + 1) rows ++ record { id = record { cursor = cursor; ordinal = o }; row = r } ∷ []) same)
-
--- as many records as rows
-pub length-given_by : (t cursor ordinal : ℕ) (bs : List Batch) → length (given_by t cursor ordinal bs) ≡ rows_to t bs
-length-given_by t cursor ordinal [] = refl
-length-given_by t cursor ordinal (b ∷ bs) = by_test (nat_eq b.table t) (length-given_by t cursor (ordinal + length b.rows) bs) (length-given_by t cursor ordinal bs)
-  where
-    by_test : (is : Bool) → length (given_by t cursor (ordinal + length b.rows) bs) ≡ rows_to t bs → length (given_by t cursor ordinal bs) ≡ rows_to t bs
-        → length (cond is (numbered cursor ordinal b.rows ++ given_by t cursor (ordinal + length b.rows) bs) (given_by t cursor ordinal bs)) ≡ cond is (length b.rows) 0 + rows_to t bs
-    by_test true more same = let n = length-numbered cursor ordinal b.rows in omega (arith, n, more, length-append (numbered cursor ordinal b.rows) (given_by t cursor (ordinal + length b.rows) bs))
-    by_test false more same = omega (arith, same)
 
 pub numbered-rows : (cursor ordinal : ℕ) (rows : List (List Value)) → map (λ (r : Record). r.row) (numbered cursor ordinal rows) ≡ rows
 numbered-rows cursor ordinal [] = refl

@@ -1,4 +1,5 @@
 pub mod Derived
+pub mod Edits
 pub mod Gives
 pub mod History
 pub mod Lawful
@@ -6,3 +7,4 @@ pub mod Limits
 pub mod Marks
 pub mod Names
 pub mod Records
+pub mod Tables

@@ -3,15 +3,11 @@ use Rattle.std.specs.Prelude.{ℕ, ◌+◌, List, [], ◌∷◌, ◌++◌, lengt
 use Rattle.kq_value.specs.declared.record_id.RecordId.{RecordId}
 use Rattle.kq_value.specs.declared.value.Value.{Value}
 use Rattle.kq_value.specs.declared.record.Record.{Record}
+use Rattle.kq_rows.specs.Numbered.{numbered}
 use Rattle.kq_model.specs.declared.batch.Batch.{Batch}
 use Rattle.kq_model.specs.declared.event.Commit.{Commit}
 use Rattle.kq_model.specs.declared.event.Commit.TheVariants.{CreateTable, Ingest}
 use Rattle.kq_model.specs.History.{History, Log, log}
-
--- rows that one commit gives a table, under the ordinals from a number on
-abbrev pub numbered : ℕ → ℕ → List (List Value) → List Record
-numbered cursor ordinal [] = []
-numbered cursor ordinal (r ∷ rows) = record { id = record { cursor = cursor; ordinal = ordinal }; row = r } ∷ numbered cursor (ordinal + 1) rows
 
 -- the batches of one commit give a table their rows, numbered through from an ordinal on
 abbrev pub given_by : ℕ → ℕ → ℕ → List Batch → List Record

@@ -1,5 +1,6 @@
 // Answers.
-use kq_value::{Rows, Schema};
+use kq_rows::Rows;
+use kq_value::Schema;
 
 /// What a query gives: its columns and its rows, and whether their order is part of it.
 #[derive(Drop)]

@@ -2,16 +2,17 @@
 ghost use Rattle.std.specs.Prelude.{◌≡◌, List, [], ◌∷◌, ◌++◌, OnOk, OnErr, length};
 
 use crate::cause::Cause;
-use kq_value::{Memory, Rows, Tags};
+use kq_rows::RecordedRows;
+use kq_value::{Memory, Tags};
 use std::alloc::Global;
 use std::marker::Model;
 
 /// Rows that one commit gives a table, with the tags of their extent. A table's number is its place, from 0, in the
-/// order of creation.
+/// order of creation. Contracts alone see the rows, which the table's extents hold; the program keeps their number.
 #[derive(Drop)]
 pub struct Batch {
     pub table: u32,
-    pub rows: Rows,
+    pub rows: RecordedRows,
     pub tags: Tags,
 }
 
@@ -62,7 +63,7 @@ impl Batches {
         ensures { result ≡ own_rows self.now }
     {
         match self.batches.first() {
-            Some(own) => own.rows.len() as u64,
+            Some(own) => own.rows.len(),
             None => 0,
         }
     }

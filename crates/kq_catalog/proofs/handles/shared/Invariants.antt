@@ -1,6 +1,0 @@
-use Rattle.std.proofs.Common.{◌≡◌, take, map}
-use Rattle.std.specs.Arc.{arc_value}
-use Rattle.kq_catalog.proofs.handles.shared.Given as goal
-
-abbrev pub invariant-loop-item : goal.invariant-loop-item
-invariant-loop-item g l = map arc_value l.all.items ≡ map arc_value (take l.item-index l.items)

@@ -1,0 +1,52 @@
+-- Edits as the program makes them, and what each leaves of the tables that are held.
+use Rattle.std.specs.Prelude.{◌≡◌, ℕ, List, [], ◌∷◌, ◌++◌, length, map, sum_by}
+use Rattle.std.specs.Arc.{arc_value}
+use Rattle.kq_extent.specs.Seen.{ExtentView}
+use Rattle.kq_extent.specs.Split.{put}
+use Rattle.kq_model.specs.declared.batch.Batch.{Batch}
+use Rattle.kq_model.specs.declared.event.Commit.{Commit}
+use Rattle.kq_model.specs.declared.table.Table.{Table}
+use Rattle.kq_model.specs.Edits.{Edit, edits_of, changed}
+use Rattle.kq_model.specs.Edits.Edit.{NewTable, NewExtent}
+use Rattle.kq_model.specs.Records.{made_by}
+use Rattle.kq_catalog.specs.declared.edit.Change.{Change}
+use Rattle.kq_catalog.specs.declared.edit.Change.TheVariants.{PutTable, PutExtent}
+use Rattle.kq_catalog.specs.declared.plan.Plan.{Plan}
+use Rattle.kq_catalog.specs.Held.{HeldTable}
+
+abbrev pub edit_with : ℕ → ExtentView → Edit
+edit_with n e = NewExtent n e.id e.records e.tags
+
+-- the edit of the history that a change makes
+abbrev pub edit_of : Change → Edit
+edit_of (PutTable table) = NewTable (arc_value table)
+edit_of (PutExtent n extent) = edit_with n (arc_value extent)
+
+abbrev pub edits_by : List Change → List Edit
+edits_by = map edit_of
+
+-- a table before it has extents
+abbrev pub empty_table : Table → HeldTable
+empty_table table = record { table = table; extents = record { small = []; big = [] } }
+
+-- a table with an extent more
+abbrev pub with_extent : ExtentView → HeldTable → HeldTable
+with_extent e h = record h { extents = put h.extents e }
+
+abbrev pub put_in : List HeldTable → Change → List HeldTable
+put_in hs (PutTable table) = hs ++ empty_table (arc_value table) ∷ []
+put_in hs (PutExtent n extent) = changed (with_extent (arc_value extent)) n hs
+
+-- one change after another
+abbrev pub put_all : List HeldTable → List Change → List HeldTable
+put_all hs [] = hs
+put_all hs (c ∷ cs) = put_all (put_in hs c) cs
+
+-- the plan has the commit, the changes that are its edits, and the number of extents that it makes
+pub record IsPlan (cursor id : ℕ) (commit : Commit) (plan : Plan) : Type 0 where
+  pub is : plan.commit ≡ commit
+  pub edits : edits_by plan.changes.items ≡ edits_of cursor id commit
+  pub made : plan.made ≡ made_by commit
+
+abbrev pub total_rows : List Batch → ℕ
+total_rows = sum_by (λ (b : Batch). length b.rows)

@@ -1,0 +1,25 @@
+// What commits are made from.
+use kq_extent::Draft;
+use kq_model::Failures;
+use kq_value::{Schema, Text};
+
+/// What a commit is to make, with the extents that its batches become.
+#[derive(Drop)]
+pub enum Intent {
+    CreateTable {
+        name: Text,
+        schema: Schema,
+    },
+    /// A part for each batch, in the order of the cascade, the source's first.
+    Ingest {
+        parts: Vec<Part>,
+        failures: Failures,
+    },
+}
+
+/// Rows for a table, by its number.
+#[derive(Drop)]
+pub struct Part {
+    pub table: u32,
+    pub draft: Draft,
+}

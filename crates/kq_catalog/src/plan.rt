@@ -1,0 +1,90 @@
+// Commits with their edits.
+ghost use Rattle.std.specs.Prelude.{ℕ, ◌≡◌, ◌<◌, ◌+◌, ◌^◌, IfOk, length, map};
+ghost use Rattle.kq_model.specs.Records.{rows_to};
+ghost use Rattle.kq_model.specs.declared.event.Commit.TheVariants.{CreateTable, Ingest};
+ghost use Rattle.kq_catalog.specs.Edits.{IsPlan, total_rows};
+ghost use Rattle.kq_catalog.specs.Intents.{batch_of};
+
+use crate::edit::Change;
+use crate::intent::Part;
+use kq_model::{Batch, Batches, Commit, Failures, Table};
+use kq_value::{Memory, Schema, Text};
+use std::alloc::Global;
+use std::sync::Arc;
+
+/// A commit, the changes that it makes, and the number of extents among them.
+#[derive(Drop)]
+pub(crate) struct Plan {
+    pub commit: Commit,
+    pub changes: Vec<Change>,
+    pub made: u64,
+}
+
+/// The plan of a new table.
+pub(crate) fn plan_table(
+    alloc: Global,
+    cursor: u64,
+    name: Text,
+    schema: Schema,
+) -> Result<Plan, Memory>
+    ensures { (id : ℕ) → IfOk result (IsPlan cursor id (CreateTable name schema)) }
+{
+    let table = Table {
+        name: name.clone_in()?,
+        schema: schema.clone_in()?,
+        made: cursor,
+    };
+    let mut changes = Vec::with_capacity(alloc, 1)?;
+    changes.push(Change::PutTable(Arc::new(alloc, table)?))?;
+    Ok(Plan {
+        commit: Commit::CreateTable { name, schema },
+        changes,
+        made: 0,
+    })
+}
+
+// The number of rows that batches give a table.
+fn rows_given(batches: &[Batch], table: u32) -> u64
+    requires { total_rows batches.now < 2 ^ 63 }
+    ensures { result ≡ rows_to table batches.now }
+{
+    let mut rows = 0;
+    for batch in batches {
+        if batch.table == table {
+            rows += batch.rows.len();
+        }
+    }
+    rows
+}
+
+/// The plan of an ingestion: each part becomes an extent, under the ids from `id` on.
+pub(crate) fn plan_parts(
+    alloc: Global,
+    cursor: u64,
+    id: u64,
+    parts: Vec<Part>,
+    failures: Failures,
+) -> Result<Plan, Memory>
+    requires rows { total_rows (map batch_of parts.items) < 2 ^ 63 }
+    requires ids { id + length parts.items < 2 ^ 63 }
+    ensures { IfOk result (IsPlan cursor id (Ingest (map batch_of parts.items) failures)) }
+{
+    let mut batches = Batches::new(alloc);
+    let mut changes = Vec::with_capacity(alloc, parts.len())?;
+    let mut next = id;
+    for part in parts {
+        let Part { table, draft } = part;
+        let first = rows_given(batches.as_slice(), table);
+        let tags = draft.tags().clone_in()?;
+        let rows = draft.recorded();
+        let extent = Arc::new(alloc, draft.stamp(next, cursor, first))?;
+        changes.push(Change::PutExtent { table, extent })?;
+        batches.push(Batch { table, rows, tags })?;
+        next += 1;
+    }
+    Ok(Plan {
+        commit: Commit::Ingest { batches, failures },
+        made: changes.len() as u64,
+        changes,
+    })
+}

@@ -1,0 +1,169 @@
+// The states of a catalogue.
+ghost use Rattle.std.specs.Prelude.{◌≡◌, ◌<◌, ◌+◌, ◌^◌, ◌++◌, ◌∷◌, [], All, IfOk, MatchOption, Some, None, length, map, slice_get};
+ghost use Rattle.std.specs.List.Sorted.{IsPermutation};
+ghost use Rattle.std.specs.Arc.{arc_value};
+ghost use Rattle.kq_value.specs.Typed.{HasTypes};
+ghost use Rattle.kq_shared.specs.Standing.{StandsAt};
+ghost use Rattle.kq_extent.specs.Seen.{held_records};
+ghost use Rattle.kq_model.specs.declared.table.Table.{Table as Described};
+ghost use Rattle.kq_model.specs.declared.event.Operation.TheVariants as operation;
+ghost use Rattle.kq_model.specs.History.{log, cursor as cursor_of, tables, table_numbered};
+ghost use Rattle.kq_model.specs.Lawful.{LawfulCommit};
+ghost use Rattle.kq_model.specs.Records.{records, rows_in, extents, made_in};
+ghost use Rattle.kq_catalog.specs.Edits.{IsPlan};
+ghost use Rattle.kq_catalog.specs.Held.{AreItems};
+ghost use Rattle.kq_catalog.specs.Intents.{commit_of, event_by};
+ghost use Rattle.kq_catalog.specs.Seen.{Sound};
+
+use crate::intent::Intent;
+use crate::plan::{Plan, plan_parts, plan_table};
+use crate::tables::Tables;
+use kq_extent::TableExtents;
+use kq_model::{By, Commit, Event, Limits, Operation, Table};
+use kq_shared::SharedList;
+use kq_value::{Memory, Text};
+use std::alloc::Global;
+use std::marker::Model;
+use std::sync::Arc;
+
+/// What stands after some events. None of it changes.
+#[derive(Drop)]
+pub(crate) struct State {
+    alloc: Global,
+    limits: Limits,
+    journal: SharedList<Event>,
+    tables: Tables,
+    cursor: u64,
+    made: u64,
+}
+
+impl Model for State {
+    ghost use Rattle.std.specs.Coded.{codes};
+    ghost use Rattle.kq_value.specs.contracts.value.Value as cell;
+    ghost use Rattle.kq_catalog.specs.Seen.{CatalogView, Holds};
+
+    ghost Value = { CatalogView };
+
+    ghost coded = { Prim.hlevel (codes, cell.the_row.coded) };
+
+    ghost view = { λ s. record { limits = s.limits; history = s.journal; held = s.tables } };
+
+    ghost invariant = { λ s. Holds (record { limits = s.limits; history = s.journal; held = s.tables }) s.cursor s.made };
+}
+
+impl State {
+    pub(crate) fn new(alloc: Global, limits: Limits) -> Result<State, Memory>
+        ensures limits { IfOk result (λ s. s.limits ≡ limits) }
+        ensures history { IfOk result (λ s. s.history ≡ []) }
+    {
+        Ok(State {
+            alloc,
+            limits,
+            journal: SharedList::new(alloc),
+            tables: Tables::new(alloc)?,
+            cursor: 0,
+            made: 0,
+        })
+    }
+
+    pub(crate) fn place(&self) -> u64
+        ensures place { result ≡ length self.now.history }
+        ensures sound { Sound self.now }
+    {
+        self.journal.len() as u64
+    }
+
+    pub(crate) fn cursor(&self) -> u64
+        ensures cursor { result ≡ cursor_of self.now.history }
+        ensures sound { Sound self.now }
+    {
+        self.cursor
+    }
+
+    pub(crate) fn allocator(&self) -> Global {
+        self.alloc
+    }
+
+    pub(crate) fn limits(&self) -> Limits
+        ensures { result ≡ self.now.limits }
+    {
+        self.limits
+    }
+
+    pub(crate) fn table_count(&self) -> u32
+        ensures { result ≡ length (tables (log self.now.history)) }
+    {
+        self.tables.len() as u32
+    }
+
+    pub(crate) fn table(&self, name: &Text) -> Option<(u32, &Table)>
+        ensures { MatchOption result (table_numbered name.now (tables (log self.now.history)) ≡ None) (λ p. table_numbered name.now (tables (log self.now.history)) ≡ Some (record { number = p.0; table = p.1.now })) }
+    {
+        self.tables.find(name)
+    }
+
+    pub(crate) fn events_from(&self, at: usize) -> &[Arc<Event, Global>]
+        requires { at < length self.now.history }
+        ensures some { 0 < length result.now }
+        ensures items { StandsAt self.now.history at (map arc_value result.now) }
+    {
+        self.journal.part_from(at)
+    }
+
+    pub(crate) fn extents(&self, table: u32) -> &TableExtents
+        requires { table < length (tables (log self.now.history)) }
+        ensures records { IsPermutation (held_records result.now) (records (log self.now.history) table) }
+        ensures items { AreItems (extents self.now.history table) result.now }
+        ensures typed { (t : Described) → slice_get (tables (log self.now.history)) table ≡ Some t → All (HasTypes t.schema) (rows_in self.now.history table) }
+        ensures small { length (records (log self.now.history) table) < 2 ^ 63 }
+    {
+        self.tables.get(table).extents()
+    }
+
+    // The commit with its edits, under the next cursor and the next ids of extents.
+    fn plan(&self, intent: Intent) -> Result<Plan, Memory>
+        requires { LawfulCommit self.now.limits (log self.now.history) (commit_of intent) }
+        ensures { IfOk result (IsPlan (cursor_of self.now.history + 1) (1 + made_in (log self.now.history)) (commit_of intent)) }
+    {
+        let cursor = self.cursor + 1;
+        match intent {
+            Intent::CreateTable { name, schema } => plan_table(self.alloc, cursor, name, schema),
+            Intent::Ingest { parts, failures } => {
+                plan_parts(self.alloc, cursor, self.made + 1, parts, failures)
+            }
+        }
+    }
+
+    /// The state after one event more.
+    pub(crate) fn with_event(&self, by: By, intent: Intent) -> Result<State, Memory>
+        requires { LawfulCommit self.now.limits (log self.now.history) (commit_of intent) }
+        ensures limits { IfOk result (λ s. s.limits ≡ self.now.limits) }
+        ensures history { IfOk result (λ s. s.history ≡ self.now.history ++ event_by by intent ∷ []) }
+    {
+        let Plan {
+            commit,
+            changes,
+            made,
+        } = self.plan(intent)?;
+        let tables = self.tables.with_all(self.alloc, changes)?;
+        let journal = self.journal_with(by, commit)?;
+        Ok(State {
+            alloc: self.alloc,
+            limits: self.limits,
+            journal,
+            tables,
+            cursor: self.cursor + 1,
+            made: self.made + made,
+        })
+    }
+
+    // The journal with the event of a commit.
+    fn journal_with(&self, by: By, commit: Commit) -> Result<SharedList<Event>, Memory>
+        ensures { IfOk result (λ events. events ≡ self.now.history ++ record { by = by; operation = operation.Commit commit } ∷ []) }
+    {
+        let operation = Operation::Commit(commit);
+        let mut journal = self.journal.share()?;
+        journal.push(Arc::new(self.alloc, Event { by, operation })?)?;
+        Ok(journal)
+    }
+}

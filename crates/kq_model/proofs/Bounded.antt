@@ -1,0 +1,149 @@
+-- What holds of each lawful history: its numbers are small, and no table that isn't there has records.
+use Rattle.std.proofs.Common.{◌≡◌, ◌<◌, ◌≤◌, refl, subst, Option, None, Some, ◌+◌, ◌*◌, ℕ, Bool, true, false, cond, List, [], ◌∷◌, ◌++◌, length, nat_lt, ap, sym, ◌∙◌, length-append, append_assoc, append-nil, arith}
+use Rattle.std.proofs.lemmas.Bool.{ltb-true, ltb-false, ne_eqb}
+use Rattle.std.proofs.lemmas.List.{length_push}
+use Rattle.std.proofs.lemmas.Option.{slice_get_within}
+use Rattle.kq_value.specs.declared.record.Record.{Record}
+use Rattle.kq_value.specs.declared.schema.Field.{Field}
+use Rattle.kq_rows.specs.Numbered.{numbered}
+use Rattle.kq_model.specs.declared.batch.Batch.{Batch}
+use Rattle.kq_model.specs.declared.limits.Limits.{Limits}
+use Rattle.kq_model.specs.declared.table.Table.{Table}
+use Rattle.kq_model.specs.declared.event.Commit.{Commit}
+use Rattle.kq_model.specs.declared.event.Commit.TheVariants.{CreateTable, Ingest}
+use Rattle.kq_model.specs.declared.event.Event.{Event}
+use Rattle.kq_model.specs.declared.event.Operation.{Operation}
+use Rattle.kq_model.specs.declared.event.Operation.TheVariants as operation
+use Rattle.kq_model.specs.History.{History, Log, log, tables, table_named, commits_of}
+use Rattle.kq_model.specs.Lawful.{Lawful, LawfulOperation, LawfulCommit, AreLawful, AreLawfulAfter, bar_to_name, bar_to_table, bar_to_batch, own_rows}
+use Rattle.kq_model.specs.Lawful.Bar.{TooWide, TooMany, TooLong, NoCommits}
+use Rattle.kq_model.specs.Records.{records, given, given_by, items, items_by, item_of, extents_from, made_by, made_in, ExtentItem}
+use Rattle.kq_model.proofs.Histories.{log-push, tables-push}
+use Rattle.kq_model.proofs.Records.{records-push, extents-push, made_in-push, given_by-one}
+
+-- what no bar means
+two_tests : {X : Type 0} (s t : Bool) (x y : X) → cond s (Some x) (cond t None (Some y)) ≡ None → (s ≡ false) × (t ≡ true)
+two_tests true t x y e = cc
+two_tests false true x y e = (refl, refl)
+two_tests false false x y e = cc
+
+pub free_batch : (limits : Limits) (l : Log) (n : ℕ) → bar_to_batch limits l n ≡ None → (n ≤ limits.batch) × (length l < limits.commits)
+free_batch limits l n e =
+    let tests = two_tests (nat_lt limits.batch n) (nat_lt (length l) limits.commits) TooLong NoCommits e in
+    (ltb-false limits.batch n tests.0, ltb-true (length l) limits.commits tests.1)
+
+-- the name is new, and a table and a commit more are within the limits
+pub record IsFree (limits : Limits) (l : Log) (found : Option Table) : Type 0 where
+  pub name : found ≡ None
+  pub tables : length (tables l) < limits.tables
+  pub commits : length l < limits.commits
+
+free_name : (limits : Limits) (l : Log) (found : Option Table) → bar_to_name limits l found ≡ None → IsFree limits l found
+free_name limits l (Some t) e = cc
+free_name limits l None e = by_tests (nat_lt (length (tables l)) limits.tables) (nat_lt (length l) limits.commits) refl refl e
+  where
+    by_tests : (s t : Bool) → nat_lt (length (tables l)) limits.tables ≡ s → nat_lt (length l) limits.commits ≡ t → cond s (cond t None (Some NoCommits)) (Some TooMany) ≡ None → IsFree limits l None
+    by_tests true true p q e = record { name = refl; tables = ltb-true (length (tables l)) limits.tables p; commits = ltb-true (length l) limits.commits q }
+    by_tests true false p q e = cc
+    by_tests false t p q e = cc
+
+pub free_table : (limits : Limits) (l : Log) (name : List ℕ) (schema : List Field) → bar_to_table limits l name schema ≡ None → IsFree limits l (table_named name (tables l))
+free_table limits l name schema e = by_test (nat_lt limits.columns (length schema)) e
+  where
+    by_test : (s : Bool) → cond s (Some TooWide) (bar_to_name limits l (table_named name (tables l))) ≡ None → IsFree limits l (table_named name (tables l))
+    by_test true e = cc
+    by_test false e = free_name limits l (table_named name (tables l)) e
+
+-- what a lawful commit adds
+room_left : (limits : Limits) (l : Log) (c : Commit) → LawfulCommit limits l c → length l < limits.commits
+room_left limits l (CreateTable name schema) lawful = (free_table limits l name schema lawful.2).commits
+room_left limits l (Ingest batches failures) lawful = (free_batch limits l (own_rows batches) lawful.1).1
+
+more_tables : (limits : Limits) (l : Log) (c : Commit) → LawfulCommit limits l c → length (tables l) ≤ limits.tables → length (tables (l ++ c ∷ [])) ≤ limits.tables
+more_tables limits l (CreateTable name schema) lawful before =
+    let free = (free_table limits l name schema lawful.2).tables in
+    let longer = ap length (tables-push l (CreateTable name schema)) ∙ length_push (tables l) _ in
+    omega (arith, free, longer)
+more_tables limits l (Ingest batches failures) lawful before = let same = ap length (tables-push l (Ingest batches failures)) in omega (arith, before, same)
+
+-- as many tables as before, or more
+no_fewer : (l : Log) (c : Commit) → length (tables l) ≤ length (tables (l ++ c ∷ []))
+no_fewer l (CreateTable name schema) = let longer = ap length (tables-push l (CreateTable name schema)) ∙ length_push (tables l) _ in omega (arith, longer)
+no_fewer l (Ingest batches failures) = let same = ap length (tables-push l (Ingest batches failures)) in omega (arith, same)
+
+own_few : (limits : Limits) (l : Log) (batches : List Batch) (failures : _) → (lawful : LawfulCommit limits l (Ingest batches failures)) → length (lawful.0.own).rows ≤ 1048576
+own_few limits l batches failures lawful =
+    let free = (free_batch limits l (own_rows batches) lawful.1).0 in
+    let rows : own_rows batches ≡ length (lawful.0.own).rows = ap own_rows lawful.0.derived.alone in
+    omega (arith, free, rows, limits.small_batch)
+
+few_given : (limits : Limits) (l : Log) (t n : ℕ) (c : Commit) → LawfulCommit limits l c → length (given t n c) ≤ 1048576
+few_given limits l t n (CreateTable name schema) lawful = omega arith
+few_given limits l t n (Ingest batches failures) lawful =
+    let same = ap (λ (bs : List Batch). length (given_by t n 0 bs)) lawful.0.derived.alone in
+    omega (arith, same, own_few limits l batches failures lawful, given_by-one t n lawful.0.own)
+
+pub one_made : (limits : Limits) (l : Log) (c : Commit) → LawfulCommit limits l c → made_by c ≤ 1
+one_made limits l (CreateTable name schema) lawful = omega arith
+one_made limits l (Ingest batches failures) lawful = let one = ap length lawful.0.derived.alone in omega (arith, one)
+
+given_past : (limits : Limits) (l : Log) (t n : ℕ) (c : Commit) → LawfulCommit limits l c → length (tables l) ≤ t → given t n c ≡ []
+given_past limits l t n (CreateTable name schema) lawful past = refl
+given_past limits l t n (Ingest batches failures) lawful past =
+    let own = lawful.0.own in
+    let within = slice_get_within (tables l) own.table lawful.0.table lawful.0.stands in
+    ap (given_by t n 0) lawful.0.derived.alone ∙ ap (λ (b : Bool). cond b (numbered n 0 own.rows ++ []) []) (ne_eqb own.table t (λ same. absurd (omega (arith, within, past, same))))
+
+items_past : (limits : Limits) (l : Log) (t n id : ℕ) (c : Commit) → LawfulCommit limits l c → length (tables l) ≤ t → items t n id c ≡ []
+items_past limits l t n id (CreateTable name schema) lawful past = refl
+items_past limits l t n id (Ingest batches failures) lawful past =
+    let own = lawful.0.own in
+    let within = slice_get_within (tables l) own.table lawful.0.table lawful.0.stands in
+    ap (items_by t n 0 id) lawful.0.derived.alone ∙ ap (λ (b : Bool). cond b (item_of id n 0 own ∷ []) []) (ne_eqb own.table t (λ same. absurd (omega (arith, within, past, same))))
+
+-- what each lawful event keeps holds of each lawful history
+pub AreLawful-induct : (limits : Limits) (P : History → Type 0) → P [] → ((h : History) (e : Event) → P h → Lawful limits h e → P (h ++ e ∷ [])) → (h : History) → AreLawful limits h → P h
+AreLawful-induct limits P none one h all = go [] h none all
+  where
+    go : (before h : History) → P before → AreLawfulAfter limits before h → P (before ++ h)
+    go before [] p all = subst P (sym (append-nil before)) p
+    go before (e ∷ h) p all = subst P (append_assoc before (e ∷ []) h) (go (before ++ e ∷ []) h (one before e p all.0) all.1)
+
+pub record IsBounded (limits : Limits) (l : Log) : Type 0 where
+  pub few_tables : length (tables l) ≤ limits.tables
+  pub few_commits : length l ≤ limits.commits
+  pub few_records : (t : ℕ) → length (records l t) ≤ length l * 1048576
+  pub few_made : made_in l ≤ length l
+  pub no_records : (t : ℕ) → length (tables l) ≤ t → records l t ≡ []
+  pub no_items : (t : ℕ) → length (tables l) ≤ t → extents_from t 0 1 l ≡ []
+
+bounded_none : (limits : Limits) → IsBounded limits []
+bounded_none limits = record { few_tables = omega arith; few_commits = omega arith; few_records = λ t. omega arith; few_made = omega arith; no_records = λ t past. refl; no_items = λ t past. refl }
+
+bounded_more : (limits : Limits) (l : Log) (c : Commit) → IsBounded limits l → LawfulCommit limits l c → IsBounded limits (l ++ c ∷ [])
+bounded_more limits l c before lawful =
+    let longer = length_push l c in
+    let fewer = no_fewer l c in
+    record {
+      few_tables = more_tables limits l c lawful before.few_tables;
+      few_commits = let left = room_left limits l c lawful in omega (arith, left, longer);
+      few_records = λ t.
+          let more = ap length (records-push l t c) ∙ length-append (records l t) (given t (length l + 1) c) in
+          omega (arith, more, before.few_records t, few_given limits l t (length l + 1) c lawful, longer);
+      few_made = let more = made_in-push l c in omega (arith, more, before.few_made, one_made limits l c lawful, longer);
+      no_records = λ t past.
+          let still : length (tables l) ≤ t = omega (arith, fewer, past) in
+          records-push l t c ∙ ap (λ (rs : List Record). rs ++ given t (length l + 1) c) (before.no_records t still) ∙ given_past limits l t (length l + 1) c lawful still;
+      no_items = λ t past.
+          let still : length (tables l) ≤ t = omega (arith, fewer, past) in
+          extents-push l t c ∙ ap (λ (is : List ExtentItem). is ++ items t (length l + 1) (1 + made_in l) c) (before.no_items t still) ∙ items_past limits l t (length l + 1) (1 + made_in l) c lawful still;
+    }
+
+event_more : (limits : Limits) (h : History) (e : Event) → IsBounded limits (log h) → Lawful limits h e → IsBounded limits (log (h ++ e ∷ []))
+event_more limits h e before lawful = subst (IsBounded limits) (sym (log-push h e)) (by_operation e.operation lawful.operation)
+  where
+    by_operation : (o : Operation) → LawfulOperation limits h o → IsBounded limits (log h ++ commits_of o)
+    by_operation (operation.Commit c) lawful = bounded_more limits (log h) c before lawful
+
+pub IsBounded-lawful : (limits : Limits) (h : History) → AreLawful limits h → IsBounded limits (log h)
+IsBounded-lawful limits h all = AreLawful-induct limits (λ (g : History). IsBounded limits (log g)) (bounded_none limits) (event_more limits) h all

@@ -1,0 +1,177 @@
+-- The tables of a history with one more event are those before it, edited.
+use Rattle.std.proofs.Common.{◌≡◌, ◌≢◌, ◌≤◌, ◌⊎◌, inl, inr, refl, ℕ, zero, suc, ◌+◌, Bool, true, false, cond, List, [], ◌∷◌, ◌++◌, length, map, nat_eq, ap, sym, ◌∙◌, append_assoc, append-nil, add-zero, zero-add, arith}
+use Rattle.std.proofs.lemmas.Bool.{eq-eqb, ne_eqb}
+use Rattle.std.proofs.lemmas.Bool.Decides.{eqb_tells}
+use Rattle.kq_value.specs.declared.record.Record.{Record}
+use Rattle.kq_rows.specs.Numbered.{numbered}
+use Rattle.kq_model.specs.declared.batch.Batch.{Batch}
+use Rattle.kq_model.specs.declared.limits.Limits.{Limits}
+use Rattle.kq_model.specs.declared.table.Table.{Table}
+use Rattle.kq_model.specs.declared.event.Commit.{Commit}
+use Rattle.kq_model.specs.declared.event.Commit.TheVariants.{CreateTable, Ingest}
+use Rattle.kq_model.specs.declared.event.Event.{Event}
+use Rattle.kq_model.specs.declared.event.Operation.{Operation}
+use Rattle.kq_model.specs.declared.event.Operation.TheVariants as operation
+use Rattle.kq_model.specs.Edits.{changed, edited_by, edits_of, item_with, new_extents, with_records}
+use Rattle.kq_model.specs.History.{History, Log, log, cursor, tables, commits_of}
+use Rattle.kq_model.specs.Lawful.{AreLawful}
+use Rattle.kq_model.specs.Records.{records, extents_from, extents, given_by, items_by, item_of, rows_to, made_in, ExtentItem}
+use Rattle.kq_model.specs.Tables.{TableState, states_from, table_states}
+use Rattle.kq_model.proofs.Bounded.{IsBounded, IsBounded-lawful}
+use Rattle.kq_model.proofs.Histories.{log-push, tables-push}
+use Rattle.kq_model.proofs.Records.{records-push, extents-push, rows_to-push}
+
+-- the tables from a number on, with the records and items that two functions give
+abbrev states_by : ℕ → List Table → (ℕ → List Record) → (ℕ → List ExtentItem) → List TableState
+states_by n [] rs is = []
+states_by n (t ∷ ts) rs is = record { table = t; records = rs n; items = is n } ∷ states_by (n + 1) ts rs is
+
+abbrev state_with : Table → List Record → List ExtentItem → TableState
+state_with t rs is = record { table = t; records = rs; items = is }
+
+-- functions that agree from the first number on give the same
+states_same : (n : ℕ) (ts : List Table) (rs qs : ℕ → List Record) (is js : ℕ → List ExtentItem) → ((m : ℕ) → n ≤ m → rs m ≡ qs m) → ((m : ℕ) → n ≤ m → is m ≡ js m) → states_by n ts rs is ≡ states_by n ts qs js
+states_same n [] rs qs is js same_rs same_is = refl
+states_same n (t ∷ ts) rs qs is js same_rs same_is =
+    ap (λ (x : List Record). state_with t x (is n) ∷ states_by (n + 1) ts rs is) (same_rs n (omega arith))
+    ∙ ap (λ (x : List ExtentItem). state_with t (qs n) x ∷ states_by (n + 1) ts rs is) (same_is n (omega arith))
+    ∙ ap (λ (ss : List TableState). state_with t (qs n) (js n) ∷ ss)
+    (states_same (n + 1) ts rs qs is js (λ m past. same_rs m (omega (arith, past))) (λ m past. same_is m (omega (arith, past))))
+
+states_from-by : (n : ℕ) (ts : List Table) (h : History) → states_from n ts h ≡ states_by n ts (records (log h)) (extents h)
+states_from-by n [] h = refl
+states_from-by n (t ∷ ts) h = ap (λ (ss : List TableState). state_with t (records (log h) n) (extents h n) ∷ ss) (states_from-by (n + 1) ts h)
+
+states_by-push : (n : ℕ) (ts : List Table) (t : Table) (rs : ℕ → List Record) (is : ℕ → List ExtentItem) → states_by n (ts ++ t ∷ []) rs is ≡ states_by n ts rs is ++ state_with t (rs (n + length ts)) (is (n + length ts)) ∷ []
+states_by-push n [] t rs is = ap (λ (k : ℕ). state_with t (rs k) (is k) ∷ []) (sym (add-zero n))
+states_by-push n (x ∷ ts) t rs is =
+    let same : n + 1 + length ts ≡ n + length (x ∷ ts) = omega arith in
+    ap (λ (ss : List TableState). state_with x (rs n) (is n) ∷ ss)
+    (states_by-push (n + 1) ts t rs is ∙ ap (λ (k : ℕ). states_by (n + 1) ts rs is ++ state_with t (rs k) (is k) ∷ []) same)
+
+-- what functions give when one table has more
+abbrev more_records : ℕ → List Record → (ℕ → List Record) → ℕ → List Record
+more_records k new rs m = rs m ++ cond (nat_eq k m) new []
+
+abbrev more_items : ℕ → ExtentItem → (ℕ → List ExtentItem) → ℕ → List ExtentItem
+more_items k new is m = is m ++ cond (nat_eq k m) (new ∷ []) []
+
+-- an extent more of the table that has the number j
+one_extent : (n k j : ℕ) (ts : List Table) (rs : ℕ → List Record) (is : ℕ → List ExtentItem) (id : ℕ) (new : List Record) (tags : List (List ℕ)) → j ≡ n + k
+    → changed (with_records id new tags) k (states_by n ts rs is) ≡ states_by n ts (more_records j new rs) (more_items j (item_with id new tags) is)
+one_extent n k j [] rs is id new tags at = refl
+one_extent n zero j (t ∷ ts) rs is id new tags at =
+    let item = item_with id new tags in
+    let here : nat_eq j n ≡ true = eq-eqb j n (omega (arith, at)) in
+    let others : (m : ℕ) → n + 1 ≤ m → nat_eq j m ≡ false = λ m past. ne_eqb j m (λ same. absurd (omega (arith, at, past, same))) in
+    ap (λ (b : Bool). state_with t (rs n ++ cond b new []) (is n ++ cond b (item ∷ []) []) ∷ states_by (n + 1) ts rs is) (sym here)
+    ∙ ap (λ (ss : List TableState). state_with t (more_records j new rs n) (more_items j item is n) ∷ ss)
+    (states_same (n + 1) ts rs (more_records j new rs) is (more_items j item is)
+    (λ m past. sym (append-nil (rs m)) ∙ ap (λ (b : Bool). rs m ++ cond b new []) (sym (others m past)))
+    (λ m past. sym (append-nil (is m)) ∙ ap (λ (b : Bool). is m ++ cond b (item ∷ []) []) (sym (others m past))))
+one_extent n (suc k) j (t ∷ ts) rs is id new tags at =
+    let item = item_with id new tags in
+    let there : nat_eq j n ≡ false = ne_eqb j n (λ same. absurd (omega (arith, at, same))) in
+    let rest = states_by (n + 1) ts (more_records j new rs) (more_items j item is) in
+    ap (λ (ss : List TableState). state_with t (rs n) (is n) ∷ ss) (one_extent (n + 1) k j ts rs is id new tags (omega (arith, at)))
+    ∙ ap (λ (x : List Record). state_with t x (is n) ∷ rest) (sym (append-nil (rs n)))
+    ∙ ap (λ (x : List ExtentItem). state_with t (rs n ++ []) x ∷ rest) (sym (append-nil (is n)))
+    ∙ ap (λ (b : Bool). state_with t (rs n ++ cond b new []) (is n ++ cond b (item ∷ []) []) ∷ rest) (sym there)
+
+-- a batch gives its rows behind what was given
+one_given : (xs : List Record) (m cursor : ℕ) (before : List Batch) (b : Batch) (bs : List Batch)
+    → (xs ++ cond (nat_eq b.table m) (numbered cursor (rows_to b.table before) b.rows) []) ++ given_by m cursor (rows_to m (before ++ b ∷ [])) bs ≡ xs ++ given_by m cursor (rows_to m before) (b ∷ bs)
+one_given xs m cursor before b bs =
+    ap (λ (k : ℕ). (xs ++ cond (nat_eq b.table m) (numbered cursor (rows_to b.table before) b.rows) []) ++ given_by m cursor k bs) (rows_to-push m before b) ∙ by_case (eqb_tells b.table m)
+  where
+    by_case : ((nat_eq b.table m ≡ true) × (b.table ≡ m)) ⊎ ((nat_eq b.table m ≡ false) × (b.table ≢ m))
+        → (xs ++ cond (nat_eq b.table m) (numbered cursor (rows_to b.table before) b.rows) []) ++ given_by m cursor (rows_to m before + cond (nat_eq b.table m) (length b.rows) 0) bs
+        ≡ xs ++ cond (nat_eq b.table m) (numbered cursor (rows_to m before) b.rows ++ given_by m cursor (rows_to m before + length b.rows) bs) (given_by m cursor (rows_to m before) bs)
+    by_case (inl h) =
+        rw h.0
+        (append_assoc xs (numbered cursor (rows_to b.table before) b.rows) (given_by m cursor (rows_to m before + length b.rows) bs)
+        ∙ ap (λ (k : ℕ). xs ++ (numbered cursor (rows_to k before) b.rows ++ given_by m cursor (rows_to m before + length b.rows) bs)) h.1)
+    by_case (inr h) =
+        rw h.0
+        (ap (λ (ys : List Record). ys ++ given_by m cursor (rows_to m before + 0) bs) (append-nil xs) ∙ ap (λ (k : ℕ). xs ++ given_by m cursor k bs) (add-zero (rows_to m before)))
+
+-- and is an extent behind those that were there
+one_item : (xs : List ExtentItem) (m cursor id : ℕ) (before : List Batch) (b : Batch) (bs : List Batch)
+    → (xs ++ cond (nat_eq b.table m) (item_with id (numbered cursor (rows_to b.table before) b.rows) b.tags ∷ []) []) ++ items_by m cursor (rows_to m (before ++ b ∷ [])) (id + 1) bs ≡ xs ++ items_by m cursor (rows_to m before) id (b ∷ bs)
+one_item xs m cursor id before b bs =
+    ap (λ (k : ℕ). (xs ++ cond (nat_eq b.table m) (item_with id (numbered cursor (rows_to b.table before) b.rows) b.tags ∷ []) []) ++ items_by m cursor k (id + 1) bs) (rows_to-push m before b) ∙ by_case (eqb_tells b.table m)
+  where
+    by_case : ((nat_eq b.table m ≡ true) × (b.table ≡ m)) ⊎ ((nat_eq b.table m ≡ false) × (b.table ≢ m))
+        → (xs ++ cond (nat_eq b.table m) (item_with id (numbered cursor (rows_to b.table before) b.rows) b.tags ∷ []) []) ++ items_by m cursor (rows_to m before + cond (nat_eq b.table m) (length b.rows) 0) (id + 1) bs
+        ≡ xs ++ cond (nat_eq b.table m) (item_of id cursor (rows_to m before) b ∷ items_by m cursor (rows_to m before + length b.rows) (id + 1) bs) (items_by m cursor (rows_to m before) (id + 1) bs)
+    by_case (inl h) =
+        rw h.0
+        (append_assoc xs (item_of id cursor (rows_to b.table before) b ∷ []) (items_by m cursor (rows_to m before + length b.rows) (id + 1) bs)
+        ∙ ap (λ (k : ℕ). xs ++ item_of id cursor (rows_to k before) b ∷ items_by m cursor (rows_to m before + length b.rows) (id + 1) bs) h.1)
+    by_case (inr h) =
+        rw h.0
+        (ap (λ (ys : List ExtentItem). ys ++ items_by m cursor (rows_to m before + 0) (id + 1) bs) (append-nil xs) ∙ ap (λ (k : ℕ). xs ++ items_by m cursor k (id + 1) bs) (add-zero (rows_to m before)))
+
+-- all batches of a commit
+all_extents : (ts : List Table) (rs : ℕ → List Record) (is : ℕ → List ExtentItem) (cursor id : ℕ) (before bs : List Batch)
+    → edited_by (states_by 0 ts rs is) (new_extents cursor id before bs) ≡ states_by 0 ts (λ m. rs m ++ given_by m cursor (rows_to m before) bs) (λ m. is m ++ items_by m cursor (rows_to m before) id bs)
+all_extents ts rs is cursor id before [] =
+    states_same 0 ts rs (λ m. rs m ++ []) is (λ m. is m ++ []) (λ m past. sym (append-nil (rs m))) (λ m past. sym (append-nil (is m)))
+all_extents ts rs is cursor id before (b ∷ bs) =
+    let new : List Record = numbered cursor (rows_to b.table before) b.rows in
+    let item = item_with id new b.tags in
+    ap (λ (ss : List TableState). edited_by ss (new_extents cursor (id + 1) (before ++ b ∷ []) bs)) (one_extent 0 b.table b.table ts rs is id new b.tags (sym (zero-add b.table)))
+    ∙ all_extents ts (more_records b.table new rs) (more_items b.table item is) cursor (id + 1) (before ++ b ∷ []) bs
+    ∙ states_same 0 ts
+    (λ m. more_records b.table new rs m ++ given_by m cursor (rows_to m (before ++ b ∷ [])) bs) (λ m. rs m ++ given_by m cursor (rows_to m before) (b ∷ bs))
+    (λ m. more_items b.table item is m ++ items_by m cursor (rows_to m (before ++ b ∷ [])) (id + 1) bs) (λ m. is m ++ items_by m cursor (rows_to m before) id (b ∷ bs))
+    (λ m past. one_given (rs m) m cursor before b bs) (λ m past. one_item (is m) m cursor id before b bs)
+
+-- the extents of a table by the log alone
+abbrev items_at : Log → ℕ → List ExtentItem
+items_at l t = extents_from t 0 1 l
+
+abbrev states_at : Log → List TableState
+states_at l = states_by 0 (tables l) (records l) (items_at l)
+
+commit_more : (limits : Limits) (l : Log) (c : Commit) → IsBounded limits l → states_at (l ++ c ∷ []) ≡ edited_by (states_at l) (edits_of (length l + 1) (1 + made_in l) c)
+commit_more limits l (CreateTable name schema) bounded =
+    let c = CreateTable name schema in
+    let new : Table = record { name = name; schema = schema; made = length l + 1 } in
+    let n = 0 + length (tables l) in
+    let past : length (tables l) ≤ n = omega arith in
+    let same_rs : (m : ℕ) → records (l ++ c ∷ []) m ≡ records l m = λ m. records-push l m c ∙ append-nil (records l m) in
+    let same_is : (m : ℕ) → items_at (l ++ c ∷ []) m ≡ items_at l m = λ m. extents-push l m c ∙ append-nil (items_at l m) in
+    ap (λ (ts : List Table). states_by 0 ts (records (l ++ c ∷ [])) (items_at (l ++ c ∷ []))) (tables-push l c)
+    ∙ states_by-push 0 (tables l) new (records (l ++ c ∷ [])) (items_at (l ++ c ∷ []))
+    ∙ ap (λ (ss : List TableState). ss ++ state_with new (records (l ++ c ∷ []) n) (items_at (l ++ c ∷ []) n) ∷ [])
+    (states_same 0 (tables l) (records (l ++ c ∷ [])) (records l) (items_at (l ++ c ∷ [])) (items_at l) (λ m some. same_rs m) (λ m some. same_is m))
+    ∙ ap (λ (x : List Record). states_at l ++ state_with new x (items_at (l ++ c ∷ []) n) ∷ []) (same_rs n ∙ bounded.no_records n past)
+    ∙ ap (λ (x : List ExtentItem). states_at l ++ state_with new [] x ∷ []) (same_is n ∙ bounded.no_items n past)
+commit_more limits l (Ingest batches failures) bounded =
+    let c = Ingest batches failures in
+    ap (λ (ts : List Table). states_by 0 ts (records (l ++ c ∷ [])) (items_at (l ++ c ∷ []))) (tables-push l c)
+    ∙ states_same 0 (tables l)
+    (records (l ++ c ∷ [])) (λ m. records l m ++ given_by m (length l + 1) 0 batches)
+    (items_at (l ++ c ∷ [])) (λ m. items_at l m ++ items_by m (length l + 1) 0 (1 + made_in l) batches)
+    (λ m some. records-push l m c) (λ m some. extents-push l m c)
+    ∙ sym (all_extents (tables l) (records l) (items_at l) (length l + 1) (1 + made_in l) [] batches)
+
+states_of : (h : History) → table_states h ≡ states_at (log h)
+states_of h = states_from-by 0 (tables (log h)) h
+
+-- the states after a lawful history and a commit are those before, edited by the commit's edits
+pub table_states-push : (limits : Limits) (h : History) (e : Event) (c : Commit) → AreLawful limits h → e.operation ≡ operation.Commit c
+    → table_states (h ++ e ∷ []) ≡ edited_by (table_states h) (edits_of (cursor h + 1) (1 + made_in (log h)) c)
+table_states-push limits h e c lawful is =
+    let logged : log (h ++ e ∷ []) ≡ log h ++ c ∷ [] = log-push h e ∙ ap (λ (o : Operation). log h ++ commits_of o) is in
+    states_of (h ++ e ∷ []) ∙ ap states_at logged ∙ commit_more limits (log h) c (IsBounded-lawful limits h lawful)
+    ∙ ap (λ (ss : List TableState). edited_by ss (edits_of (cursor h + 1) (1 + made_in (log h)) c)) (sym (states_of h))
+
+-- the tables of the states are the history's
+states_by-tables : (n : ℕ) (ts : List Table) (h : History) → map (λ (s : TableState). s.table) (states_from n ts h) ≡ ts
+states_by-tables n [] h = refl
+states_by-tables n (t ∷ ts) h = ap (λ (xs : List Table). t ∷ xs) (states_by-tables (n + 1) ts h)
+
+pub table_states-tables : (h : History) → map (λ (s : TableState). s.table) (table_states h) ≡ tables (log h)
+table_states-tables h = states_by-tables 0 (tables (log h)) h
