@@ -1,5 +1,3 @@
-mod Choice
 mod OwnParts
 mod OwnSymbols
-mod Repeats
 mod Shapes

@@ -4,8 +4,9 @@ use Rattle.std.specs.Str.{IsUtf8}
 use Rattle.std.specs.Str.Lossy.{utf8_valid_len}
 use Rattle.kq_command.specs.declared.columns.Column.{Column}
 use Rattle.kq_command.specs.declared.columns.Identifier.{Identifier}
+use Rattle.kq_command.specs.declared.command.Change.TheVariants.{CreateTable, Ingest}
 use Rattle.kq_command.specs.declared.command.Command.{Command}
-use Rattle.kq_command.specs.declared.command.Command.TheVariants.{CreateTable, Ingest, Query, Unbuilt}
+use Rattle.kq_command.specs.declared.command.Command.TheVariants.{Query, Change, Unbuilt}
 use Rattle.kq_command.specs.declared.command.CommandFault.{CommandFault}
 use Rattle.kq_command.specs.declared.command.CommandFault.TheVariants as fault
 use Rattle.kq_command.specs.Meanings.{identifier_of, columns_of}
@@ -20,12 +21,12 @@ use Rattle.kq_parse.specs.declared.asking.ParseFault.TheVariants as parse
 -- ---- the forms that are built
 
 abbrev pub table_of : Identifier → Option (List Column) → Command
-table_of name (Some columns) = CreateTable name columns
+table_of name (Some columns) = Change (CreateTable name columns)
 table_of name None = Unbuilt
 
 abbrev pub control_command : List ℕ → ControlTree → Command
 control_command text (create_table n cs) = table_of (identifier_of text n) (columns_of text (cs.0 ∷ cs.1))
-control_command text (ingest n None t) = Ingest (identifier_of text n) (rows_after t.to text)
+control_command text (ingest n None t) = Change (Ingest (identifier_of text n) (rows_after t.to text))
 control_command text _ = Unbuilt
 
 abbrev pub plain_name : SourceTree → Option Name

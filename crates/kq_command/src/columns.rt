@@ -1,8 +1,10 @@
 // Columns as they are named in a text.
-ghost use Rattle.std.specs.Prelude.{◌≡◌, ◌<◌, IfOk, length};
-ghost use Rattle.kq_command.specs.Columns.{schema_of, column_names};
-ghost use Rattle.kq_model.specs.Names.{is_among as stands_among, repeat_of};
+ghost use Rattle.std.specs.Prelude.{◌≡◌, ◌<◌, IfErr, IfOk, length};
+ghost use Rattle.kq_command.specs.Columns.{column_names, field_of, schema_of};
+ghost use Rattle.kq_model.specs.Names.{repeat_of};
+ghost use Rattle.kq_value.specs.Schema.{same_field, same_fields};
 
+use kq_repeats::{Named, repeated_name};
 use kq_value::{Field, Memory, Schema, Text, Ty};
 use std::marker::Model;
 
@@ -39,6 +41,21 @@ impl Column {
             name: self.name.clone_in()?,
             ty: self.ty,
         })
+    }
+
+    // whether a column of a table has this name and this type
+    fn is(&self, field: &Field) -> bool
+        ensures { result ≡ same_field field.now (field_of self.now) }
+    {
+        field.name.same(&self.name.text) && field.ty.same(self.ty)
+    }
+}
+
+impl Named for Column {
+    ghost name_of = { λ c. c.name.text };
+
+    fn name(&self) -> &Text {
+        &self.name.text
     }
 }
 
@@ -89,16 +106,28 @@ impl Columns {
         self.columns.len()
     }
 
-    /// The place, from 0, of the first column whose name stands before it too. Takes no memory.
-    pub fn repeated(&self) -> Option<usize>
-        ensures { result ≡ repeat_of (column_names self.now) }
+    /// The place, from 0, of the first column whose name stands before it too. Takes no memory for 256 columns or fewer.
+    pub fn repeated(&self) -> Result<Option<usize>, Memory>
+        ensures place { IfOk result (λ place. place ≡ repeat_of (column_names self.now)) }
+        ensures memory { IfErr result (λ _. 256 < length self.now) }
     {
-        for i in 0..self.columns.len() {
-            if is_among(&self.columns[i].name.text, &self.columns[..i]) {
-                return Some(i);
+        repeated_name(*self.columns.allocator(), self.columns.as_slice())
+    }
+
+    /// Whether a table has these columns, in this order. Takes no memory.
+    pub fn are(&self, schema: &Schema) -> bool
+        ensures { result ≡ same_fields schema.now (schema_of self.now) }
+    {
+        let fields = schema.as_slice();
+        if fields.len() != self.columns.len() {
+            return false;
+        }
+        for i in 0..fields.len() {
+            if !self.columns[i].is(&fields[i]) {
+                return false;
             }
         }
-        None
+        true
     }
 
     /// The columns without their places.
@@ -125,15 +154,4 @@ impl Columns {
         }
         Ok(Columns { columns })
     }
-}
-
-fn is_among(name: &Text, columns: &[Column]) -> bool
-    ensures { result ≡ stands_among name.now (column_names columns.now) }
-{
-    for column in columns {
-        if column.name.text.same(name) {
-            return true;
-        }
-    }
-    false
 }

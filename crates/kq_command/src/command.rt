@@ -9,14 +9,21 @@ use std::alloc::{AllocError, AllocFailed};
 /// What a text asks for.
 #[derive(Drop)]
 pub enum Command {
+    /// A query.
+    Query(Query),
+    /// What changes the catalogue by a commit.
+    Change(Change),
+    /// A form that isn't built yet.
+    Unbuilt,
+}
+
+/// What changes the catalogue by a commit.
+#[derive(Drop)]
+pub enum Change {
     /// `.create table NAME (COLUMN:TYPE, ..)`
     CreateTable { name: Identifier, columns: Columns },
     /// `.ingest inline into table NAME <|` and the rows behind it, as bytes of CSV.
     Ingest { table: Identifier, body: Bytes },
-    /// A query.
-    Query(Query),
-    /// A form that isn't built yet.
-    Unbuilt,
 }
 
 /// `NAME` or `NAME | count`: a table's rows, or their number where `counted` is set.
@@ -37,20 +44,30 @@ impl Query {
     }
 }
 
+impl Change {
+    pub fn clone_in(&self) -> Result<Change, Memory>
+        ensures { IfOk result (λ c. c ≡ self.now) }
+    {
+        match self {
+            Change::CreateTable { name, columns } => Ok(Change::CreateTable {
+                name: name.clone_in()?,
+                columns: columns.clone_in()?,
+            }),
+            Change::Ingest { table, body } => Ok(Change::Ingest {
+                table: table.clone_in()?,
+                body: body.clone_in()?,
+            }),
+        }
+    }
+}
+
 impl Command {
     pub fn clone_in(&self) -> Result<Command, Memory>
         ensures { IfOk result (λ c. c ≡ self.now) }
     {
         match self {
-            Command::CreateTable { name, columns } => Ok(Command::CreateTable {
-                name: name.clone_in()?,
-                columns: columns.clone_in()?,
-            }),
-            Command::Ingest { table, body } => Ok(Command::Ingest {
-                table: table.clone_in()?,
-                body: body.clone_in()?,
-            }),
             Command::Query(query) => Ok(Command::Query(query.clone_in()?)),
+            Command::Change(change) => Ok(Command::Change(change.clone_in()?)),
             Command::Unbuilt => Ok(Command::Unbuilt),
         }
     }

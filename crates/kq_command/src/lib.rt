@@ -12,5 +12,5 @@ mod types;
 mod unsupported;
 
 pub use columns::{Column, Columns, Identifier};
-pub use command::{Command, CommandFault, Query};
+pub use command::{Change, Command, CommandFault, Query};
 pub use read::read_command;

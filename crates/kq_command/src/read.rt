@@ -11,7 +11,7 @@ ghost use Rattle.kq_control.specs.ControlViews.{columns_of as columns_view, cont
 ghost use Rattle.kq_grammar.specs.TabularViews.{operator_of, operators_of, query_of, source_of, tabular_of};
 
 use crate::columns::{Column, Columns, Identifier};
-use crate::command::{Command, CommandFault, Query};
+use crate::command::{Change, Command, CommandFault, Query};
 use crate::meanings::{identifier, piece};
 use crate::memory::Requests;
 use crate::types::ty_of;
@@ -89,14 +89,14 @@ fn built_control(memory: &mut Requests, text: &str, control: &Control) -> Result
         Control::CreateTable(name, columns) => {
             let name = identifier(memory, text, *name)?;
             match columns_in(memory, text, columns)? {
-                Some(columns) => Ok(Command::CreateTable { name, columns }),
+                Some(columns) => Ok(Command::Change(Change::CreateTable { name, columns })),
                 None => Ok(Command::Unbuilt),
             }
         }
-        Control::Ingest(table, None, mark) => Ok(Command::Ingest {
+        Control::Ingest(table, None, mark) => Ok(Command::Change(Change::Ingest {
             table: identifier(memory, text, *table)?,
             body: memory.bytes(rows_after(text, *mark))?,
-        }),
+        })),
         _ => Ok(Command::Unbuilt),
     }
 }

@@ -2,7 +2,7 @@
 
 use crate::page::Page;
 use crate::reading::{Reader, assert_reads, assert_rows, repeated};
-use kq_command::{Column, Columns, Command, Identifier, read_command};
+use kq_command::{Change, Column, Columns, Command, Identifier, read_command};
 use std::alloc::{AllocError, Global};
 use std::test::Fail;
 
@@ -23,7 +23,7 @@ fn put_columns(page: &mut Page<'_>, columns: &[Column]) {
 pub fn put_command(page: &mut Page<'_>, command: &Command) {
     match command {
         Command::Unbuilt => page.put("unbuilt"),
-        Command::Ingest { table, body } => {
+        Command::Change(Change::Ingest { table, body }) => {
             put_identifier(page, table);
             page.put(" < ");
             page.put(std::str::from_utf8(body.as_slice()).unwrap_or("no text"));
@@ -32,7 +32,7 @@ pub fn put_command(page: &mut Page<'_>, command: &Command) {
             put_identifier(page, &query.table);
             page.put(if query.counted { " count" } else { " rows" });
         }
-        Command::CreateTable { name, columns } => {
+        Command::Change(Change::CreateTable { name, columns }) => {
             put_identifier(page, name);
             put_columns(page, columns.as_slice());
         }
@@ -141,7 +141,7 @@ fn as_many_as_120_brackets_are_read(rt: HostRuntime) -> Result<(), Fail> {
 /// The number of columns, twice, and of fields, the first field, and the place of the first repeated name.
 fn columns_printed(alloc: Global, columns: Columns) -> Result<String, AllocError> {
     let schema = columns.schema()?;
-    let repeated = columns.repeated();
+    let repeated = columns.repeated()?;
     let first = &schema.as_slice()[0];
     let (name, ty) = (first.name.as_str(), first.ty.rank());
     let length = columns.len();
@@ -151,7 +151,9 @@ fn columns_printed(alloc: Global, columns: Columns) -> Result<String, AllocError
 
 fn facts(alloc: Global, text: &str) -> Result<String, AllocError> {
     match read_command(alloc, text.as_bytes()) {
-        Ok(Command::CreateTable { name: _, columns }) => columns_printed(alloc, columns),
+        Ok(Command::Change(Change::CreateTable { name: _, columns })) => {
+            columns_printed(alloc, columns)
+        }
         _ => String::from_str(alloc, "no table"),
     }
 }
