@@ -1,4 +1,5 @@
 pub mod Faults
+pub mod HasRead
 pub mod Longs
 pub mod Records
 pub mod RowLemmas

@@ -1,9 +1,9 @@
 -- The records of a text, taken one after another, are those that `records` says.
-use Rattle.std.proofs.Common.{◌≡◌, ◌≤◌, ℕ, zero, suc, ◌+◌, ◌-◌, Bool, true, false, cond, List, [], ◌∷◌, ◌++◌, length, Option, Some, None, refl, ap, ◌∙◌, arith}
+use Rattle.std.proofs.Common.{◌≡◌, ◌<◌, ◌≤◌, ℕ, zero, suc, ◌+◌, ◌-◌, Bool, true, false, cond, List, [], ◌∷◌, ◌++◌, length, Option, Some, None, refl, ap, ◌∙◌, arith}
 use Rattle.std.specs.Prelude.{◌==◌}
 use Rattle.std.proofs.lemmas.List.{append-nil}
 use Rattle.csv.specs.Machine.{Read, after_end, ends_at_end, in_field, is_end, next_record, start_field, start_record, step}
-use Rattle.csv.specs.Reading.{Reached, default_config, records, records_from}
+use Rattle.csv.specs.Reading.{NextIs, Reached, ReadsNext, default_config, records, records_from}
 use Rattle.csv.specs.declared.parser.Config.{Config}
 use Rattle.csv.specs.declared.parser.Terminator.{Terminator}
 use Rattle.csv.specs.declared.parser.Terminator.TheVariants as term
@@ -64,6 +64,9 @@ record ReadsOn (xs : List ℕ) (p : Read) : Type 0 where
   clean : ends_at_end p.1 ≡ false
   shorter : length p.2 ≤ length xs - 1
 
+no_flag : true ≡ false → ⊥
+no_flag e = cc
+
 some-is : {A : Type 0} (x y : A) → Some x ≡ Some y → x ≡ y
 some-is x y e = cc
 
@@ -99,6 +102,31 @@ reached-short cfg s xs (r ∷ rs) s2 ys clean h =
     let now = between cfg s xs p clean next in
     let later = reached-short cfg p.1 p.2 rs s2 ys (next-reads_on cfg s [] [] xs p next).clean more in
     omega (arith, now, later)
+
+-- a record leaves the machine between two
+reached-clean : (cfg : Config) (s : State) (xs : List ℕ) (seen : List (List (List ℕ))) (s2 : State) (ys : List ℕ) → ends_at_end s ≡ false → Reached cfg s xs seen s2 ys → ends_at_end s2 ≡ false
+unfolding Reached
+reached-clean cfg s xs [] s2 ys clean h = rw (← h.0) clean
+reached-clean cfg s xs (r ∷ rs) s2 ys clean h =
+    let (p, next, same, more) = h in
+    reached-clean cfg p.1 p.2 rs s2 ys (next-reads_on cfg s [] [] xs p next).clean more
+
+-- how many bytes are known to be left
+abbrev pub bytes_in : Option (List ℕ) → ℕ
+bytes_in None = 0
+bytes_in (Some bytes) = length bytes
+
+less_left : (cfg : Config) (s s2 : State) (xs ys : List ℕ) (fields : List (List ℕ)) (next : Option Read) → ends_at_end s ≡ false → next_record cfg s [] [] xs ≡ next
+    → NextIs next true fields s2 ys → length ys < length xs
+less_left cfg s s2 xs ys fields None clean is read = absurd (no_flag read)
+less_left cfg s s2 xs ys fields (Some p) clean is read = rw read.3 (omega (arith, between cfg s xs p clean is))
+
+-- a read of one more record leaves fewer bytes
+pub read-less : (s s2 : State) (xs ys : List ℕ) (after : Option (List ℕ)) (seen : List (List (List ℕ))) (fields : List (List ℕ)) → Reached default_config st.StartRecord xs seen s ys
+    → ReadsNext default_config s (Some ys) after true fields s2 → bytes_in after < length ys
+read-less s s2 xs ys None seen fields reached read = absurd read
+read-less s s2 xs ys (Some zs) seen fields reached read =
+    less_left default_config s s2 ys zs fields (next_record default_config s [] [] ys) (reached-clean default_config st.StartRecord xs seen s ys refl reached) refl read
 
 -- ---- the function
 

@@ -34,7 +34,7 @@ longs_first f fs h = h 0 f (omega arith)
 longs_rest : (f : Field) (fs : List Field) → AreLongs (f ∷ fs) → AreLongs fs
 longs_rest f fs h k d lt = h (suc k) d (omega arith)
 
-row_typed : (schema : List Field) (texts : List (List ℕ)) → AreLongs schema → HasTypes schema (row_of schema texts)
+pub row_typed : (schema : List Field) (texts : List (List ℕ)) → AreLongs schema → HasTypes schema (row_of schema texts)
 row_typed [] texts h = tt
 row_typed (f ∷ fs) [] h = (cell_typed f.ty None (longs_first f fs h), row_typed fs [] (longs_rest f fs h))
 row_typed (f ∷ fs) (text ∷ texts) h = (cell_typed f.ty (Some text) (longs_first f fs h), row_typed fs texts (longs_rest f fs h))

@@ -1,15 +1,17 @@
 // The records of a body, read as rows.
 ghost use Rattle.std.specs.Prelude.{◌≡◌, ◌≢◌, ◌↔◌, IsTrue, ◌<◌, ◌^◌, [], ◌∷◌, ◌++◌, true, false, length, Some, None, IfOk, IfErr, OnOk};
 ghost use Rattle.std.specs.List.{All};
-ghost use Rattle.csv.specs.Reading.{error_kind, stops_reader};
+ghost use Rattle.csv.specs.Reading.{ReadRecord, error_kind, stops_reader};
 ghost use Rattle.csv.specs.Records.{fields_of};
 ghost use Rattle.kq_value.specs.Typed.{HasTypes};
+ghost use Rattle.kq_ingest.specs.Reading.{IsPlain, known};
 ghost use Rattle.kq_ingest.specs.Ingestion.{AreLongs, IsFaultAt, first_fault, is_wide, row_of, rows_of};
 
 use crate::cell::read_cell;
 use crate::fault::IngestFault;
-use csv::{ByteRecord, Error, ErrorKind, ReaderBuilder};
-use kq_value::{Memory, Row, Rows, Schema, Ty};
+use csv::{ByteRecord, Error, ErrorKind, Reader, ReaderBuilder};
+use kq_rows::Rows;
+use kq_value::{Memory, Schema, Ty, Value};
 use std::alloc::Global;
 
 /// Whether all columns are long, as `read_rows` asks of them.
@@ -24,29 +26,33 @@ pub fn are_longs(schema: &Schema) -> bool
     true
 }
 
-fn read_row(alloc: Global, cells: &ByteRecord, schema: &Schema) -> Result<Row, Memory>
-    requires { AreLongs schema.now }
-    ensures { IfOk result (λ row. row ≡ row_of schema.now (fields_of cells.now)) }
+// Fills a row that has no cells yet with those of a record.
+fn fill_row(row: &mut Vec<Value>, cells: &ByteRecord, schema: &Schema) -> Result<(), Memory>
+    requires longs { AreLongs schema.now }
+    requires empty { row.old.items ≡ [] }
+    ensures { OnOk result (row.new.items ≡ row_of schema.now (fields_of cells.now)) }
 {
     let fields = schema.as_slice();
-    let mut row = Row::from_vec(Vec::with_capacity(alloc, fields.len())?);
     for i in 0..fields.len() {
         row.push(read_cell(fields[i].ty, cells.get(i)))?;
     }
-    Ok(row)
+    Ok(())
 }
 
-// Adds the record's row, unless it is too wide or one row too many.
+// Adds the record's row, unless it is too wide or one row too many. The row is read into `row` and moves on from there.
 fn add_row(
-    alloc: Global,
     rows: &mut Rows,
+    row: &mut Vec<Value>,
     cells: &ByteRecord,
     schema: &Schema,
     skip_first: bool,
     limit: u64,
 ) -> Result<(), IngestFault>
-    requires { AreLongs schema.now }
+    requires longs { AreLongs schema.now }
+    requires typed { All (HasTypes schema.now) rows.old }
+    requires empty { row.old.items ≡ [] }
     ensures added { OnOk result (rows.new ≡ rows.old ++ row_of schema.now (fields_of cells.now) ∷ []) }
+    ensures left { OnOk result (row.new.items ≡ []) }
     ensures narrow { OnOk result (is_wide schema.now (fields_of cells.now) ≡ false) }
     ensures room { OnOk result (length rows.old < limit) }
     ensures fault { IfErr result (λ e. IsFaultAt schema.now skip_first limit (length rows.old) (fields_of cells.now) e) }
@@ -60,7 +66,8 @@ fn add_row(
     if before >= limit {
         return Err(IngestFault::Full { limit });
     }
-    rows.push(read_row(alloc, cells, schema)?)?;
+    fill_row(row, cells, schema)?;
+    rows.push_from(row)?;
     Ok(())
 }
 
@@ -73,6 +80,19 @@ fn reading_fault(error: &Error) -> IngestFault
     match error.kind() {
         ErrorKind::Io(_) | ErrorKind::OutOfMemory => IngestFault::Memory,
         _ => unreachable!(),
+    }
+}
+
+// Reads the next record over the one before, and says whether there was one.
+fn read_record(reader: &mut Reader<&[u8]>, cells: &mut ByteRecord) -> Result<bool, IngestFault>
+    requires { IsPlain reader.old }
+    ensures read { IfOk result (λ found. ReadRecord known reader.old reader.new found (fields_of cells.new)) }
+    ensures plain { OnOk result (IsPlain reader.new) }
+    ensures fault { IfErr result (λ e. e ≡ IngestFault.Memory) }
+{
+    match reader.read_byte_record(cells) {
+        Ok(found) => Ok(found),
+        Err(error) => Err(reading_fault(&error)),
     }
 }
 
@@ -93,21 +113,19 @@ pub fn read_rows(
     ensures sound { OnOk result (first_fault schema.now skip_first limit body.now ≡ None) }
     ensures fault { IfErr result (λ e. e ≢ IngestFault.Memory → first_fault schema.now skip_first limit body.now ≡ Some e) }
 {
-    let reader = ReaderBuilder::new()
+    let mut reader = ReaderBuilder::new()
         .has_headers(false)
         .flexible(true)
         .from_reader(alloc, body);
+    let mut cells = ByteRecord::new(alloc);
     let mut rows = Rows::new(alloc);
+    let mut row = Vec::new(alloc);
     let mut skip = skip_first;
-    for cells in reader.into_byte_records() {
-        let cells = match cells {
-            Ok(cells) => cells,
-            Err(error) => return Err(reading_fault(&error)),
-        };
+    while read_record(&mut reader, &mut cells)? {
         if skip {
             skip = false;
         } else {
-            add_row(alloc, &mut rows, &cells, schema, skip_first, limit)?;
+            add_row(&mut rows, &mut row, &cells, schema, skip_first, limit)?;
         }
     }
     Ok(rows)

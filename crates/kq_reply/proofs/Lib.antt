@@ -1,4 +1,5 @@
+pub mod Cut
 pub mod Escapes
-pub mod Lines
+pub mod OneLine
 pub mod Printed
 pub mod Puts

@@ -1,12 +1,13 @@
 -- An answer is put together piece by piece.
 use Rattle.std.proofs.Common.{◌≡◌, ◌<◌, ◌+◌, ℕ, List, [], ◌∷◌, ◌++◌, All, IsSorted, length, map, take, get_or, slice_index_or, refl, sym, ap, ◌∙◌, append_assoc, length-take-le, arith}
-use Rattle.std.proofs.lemmas.List.{take_more, map-append, get_or-map, length-map}
+use Rattle.std.proofs.lemmas.List.{take_more, map_more, flat_map_more, map-append, get_or-map, length-map}
 use Rattle.std.proofs.lemmas.List.Elements.{All-cons, All-nil}
 use Rattle.std.specs.declared.cmp.Ordering.{Ordering}
 use Rattle.kq_value.specs.declared.schema.Field.{Field}
 use Rattle.kq_value.specs.declared.value.Value.{Value}
 use Rattle.kq_value.specs.Typed.{HasTypes, IsProper}
-use Rattle.kq_reply.specs.Answer.{tabbed, tab_before}
+use Rattle.std.specs.List.{flat_map}
+use Rattle.kq_reply.specs.Answer.{ended, tabbed, tab_before}
 
 tabbed-push : (pieces : List (List ℕ)) (p : List ℕ) → tabbed (pieces ++ p ∷ []) ≡ (tabbed pieces ++ tab_before (length pieces)) ++ p
 tabbed-push [] p = refl
@@ -27,14 +28,28 @@ tabbed-more {X} f xs i d within =
     length-taken : length (map f (take i xs)) ≡ i
     length-taken = length-map (take i xs) f ∙ length-take-le i xs (omega (arith, within))
 
--- a tab and a piece are put behind a line
-pub tabbed-put : {X : Type 0} (f : X → List ℕ) (xs : List X) (i : ℕ) (x : X) (old tab new : List ℕ) → i < length xs → x ≡ get_or xs i x
-    → old ≡ tabbed (map f (take i xs)) → tab ≡ old ++ tab_before i → new ≡ tab ++ f x → new ≡ tabbed (map f (take (i + 1) xs))
-tabbed-put {X} f xs i x old tab new within is before then last =
+-- a tab and a piece are put behind a line that was begun
+pub tabbed-put : {X : Type 0} (f : X → List ℕ) (xs : List X) (i : ℕ) (x : X) (start old tab new : List ℕ) → i < length xs → x ≡ get_or xs i x
+    → old ≡ start ++ tabbed (map f (take i xs)) → tab ≡ old ++ tab_before i → new ≡ tab ++ f x → new ≡ start ++ tabbed (map f (take (i + 1) xs))
+tabbed-put {X} f xs i x start old tab new within is before then last =
+    let line = tabbed (map f (take i xs)) in
     last
-    ∙ ap (λ (l : List ℕ). l ++ f x) (then ∙ ap (λ (l : List ℕ). l ++ tab_before i) before)
-    ∙ ap (λ (y : X). (tabbed (map f (take i xs)) ++ tab_before i) ++ f y) is
-    ∙ sym (tabbed-more f xs i x within)
+    ∙ ap (λ (l : List ℕ). l ++ f x) (then ∙ ap (λ (l : List ℕ). l ++ tab_before i) before ∙ append_assoc start line (tab_before i))
+    ∙ append_assoc start (line ++ tab_before i) (f x)
+    ∙ ap (λ (y : X). start ++ ((line ++ tab_before i) ++ f y)) is
+    ∙ ap (λ (l : List ℕ). start ++ l) (sym (tabbed-more f xs i x within))
+
+-- a line and its LF are put behind others
+pub ended-put : {X : Type 0} (f : X → List ℕ) (xs : List X) (i : ℕ) (x : X) (start old line new : List ℕ) → i < length xs → x ≡ get_or xs i x
+    → old ≡ start ++ flat_map ended (map f (take i xs)) → line ≡ old ++ f x → new ≡ line ++ 10 ∷ [] → new ≡ start ++ flat_map ended (map f (take (i + 1) xs))
+ended-put {X} f xs i x start old line new within is before then last =
+    let lines = map f (take i xs) in
+    last
+    ∙ ap (λ (l : List ℕ). l ++ 10 ∷ []) then
+    ∙ append_assoc old (f x) (10 ∷ [])
+    ∙ ap (λ (l : List ℕ). l ++ ended (f x)) before
+    ∙ flat_map_more ended start lines (f x)
+    ∙ ap (λ (ls : List (List ℕ)). start ++ flat_map ended ls) (ap (λ (y : X). lines ++ f y ∷ []) is ∙ sym (map_more f xs i x within))
 
 -- what is sorted by a key has sorted keys
 pub IsSorted-map : {X K : Type 0} (f : X → K) (cmp : K → K → Ordering) (xs : List X) → IsSorted (λ x y. cmp (f x) (f y)) xs → IsSorted cmp (map f xs)

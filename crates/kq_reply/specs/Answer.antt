@@ -42,6 +42,12 @@ abbrev pub AreArranged : Bool → List (List ℕ) → List (List ℕ) → Type 0
 AreArranged true rows lines = lines ≡ rows
 AreArranged false rows lines = IsPermutation rows lines × IsSorted (slice_cmp nat_cmp) lines
 
+-- rows are put behind a text, a line each, as they are to be arranged
+pub record PutsRows (ordered : Bool) (rows : List (List Value)) (old new : List ℕ) : Type 0 where
+  pub lines : List (List ℕ)
+  pub arranged : AreArranged ordered (map row_text rows) lines
+  pub whole : new ≡ old ++ flat_map ended lines
+
 -- the number of rows, the header, and a line for each row
 pub record Prints (answer : Answer) (text : List ℕ) : Type 0 where
   pub lines : List (List ℕ)

@@ -1,17 +1,20 @@
 // The printed form of an answer.
-ghost use Rattle.std.specs.Prelude.{◌≡◌, ◌++◌, IfOk, OnOk, All, codes, map, vec_items};
+ghost use Rattle.std.specs.Prelude.{◌≡◌, ◌++◌, IfOk, OnOk, All, codes, false, map};
 ghost use Rattle.std.specs.List.{flat_map};
 ghost use Rattle.kq_written.specs.Cells.{escaped, escaped_byte, reply_text_of};
 ghost use Rattle.kq_value.specs.Typed.{HasTypes, IsProper};
 ghost use Rattle.kq_reply.specs.Text.{counted};
-ghost use Rattle.kq_reply.specs.Answer.{Prints, AreArranged, column_text, ended, header_text, row_text, tab_before, type_name as name_of};
+ghost use Rattle.kq_reply.specs.Answer.{Prints, PutsRows, column_text, ended, header_text, row_text, tab_before, type_name as name_of};
+ghost use Rattle.kq_reply.specs.Lines.{AreLines};
 
 use crate::escape::escape_sign;
+use crate::lines::{Lines, sorted};
 use itoa::Buffer;
 use kq_dynamic::put_dyn;
 use kq_model::Answer;
+use kq_rows::Rows;
 use kq_time::{put_datetime, put_timespan};
-use kq_value::{Bytes, Field, Memory, Row, Rows, Schema, Ty, Value};
+use kq_value::{Bytes, Field, Memory, Schema, Ty, Value};
 use std::alloc::Global;
 
 /// The answer as it is printed: its number of rows, its header and its rows, each line with an LF at its end.
@@ -19,11 +22,10 @@ pub fn render(alloc: Global, answer: &Answer) -> Result<Bytes, Memory>
     requires { All (HasTypes answer.now.schema) answer.now.rows }
     ensures { IfOk result (Prints answer.now) }
 {
-    let lines = arranged(row_lines(alloc, &answer.rows)?, answer.ordered);
     let mut text = Bytes::new(alloc);
     put_count(&mut text, answer.rows.len())?;
-    put_line(&mut text, header(alloc, &answer.schema)?.as_slice())?;
-    put_lines(&mut text, lines.as_slice())?;
+    put_header(&mut text, &answer.schema)?;
+    put_rows(alloc, &mut text, &answer.rows, answer.ordered)?;
     Ok(text)
 }
 
@@ -42,60 +44,87 @@ fn put_line(text: &mut Bytes, line: &[u8]) -> Result<(), Memory>
     text.push(b'\n')
 }
 
-fn put_lines(text: &mut Bytes, lines: &[Vec<u8>]) -> Result<(), Memory>
-    ensures { OnOk result (text.new ≡ text.old ++ flat_map ended (map vec_items lines.now)) }
+fn put_header(text: &mut Bytes, schema: &Schema) -> Result<(), Memory>
+    ensures { OnOk result (text.new ≡ text.old ++ ended (header_text schema.now)) }
 {
-    for line in lines {
-        put_line(text, line.as_slice())?;
+    put_columns(text, schema.as_slice())?;
+    text.push(b'\n')
+}
+
+// The lines of the rows, in the order in which they are printed.
+fn put_rows(alloc: Global, text: &mut Bytes, rows: &Rows, ordered: bool) -> Result<(), Memory>
+    requires { All (All IsProper) rows.now }
+    ensures { OnOk result (PutsRows ordered rows.now text.old text.new) }
+{
+    if ordered {
+        put_in_order(alloc, text, rows)
+    } else {
+        put_sorted(alloc, text, rows)
+    }
+}
+
+fn put_in_order(alloc: Global, text: &mut Bytes, rows: &Rows) -> Result<(), Memory>
+    requires { All (All IsProper) rows.now }
+    ensures { OnOk result (text.new ≡ text.old ++ flat_map ended (map row_text rows.now)) }
+{
+    for i in 0..rows.len() {
+        put_row(alloc, text, rows.row(i))?;
+        text.push(b'\n')?;
     }
     Ok(())
 }
 
-// The lines in the order in which they are printed.
-fn arranged(mut lines: Vec<Vec<u8>>, ordered: bool) -> Vec<Vec<u8>>
-    ensures { AreArranged ordered (map vec_items lines.items) (map vec_items result.items) }
-{
-    if ordered {
-        return lines;
-    }
-    lines.sort_unstable();
-    lines
-}
-
-fn row_lines(alloc: Global, rows: &Rows) -> Result<Vec<Vec<u8>>, Memory>
+fn put_sorted(alloc: Global, text: &mut Bytes, rows: &Rows) -> Result<(), Memory>
     requires { All (All IsProper) rows.now }
-    ensures { IfOk result (λ lines. map vec_items lines.items ≡ map row_text rows.now) }
+    ensures { OnOk result (PutsRows false rows.now text.old text.new) }
 {
-    let mut lines = Vec::with_capacity(alloc, rows.len())?;
-    for row in rows.as_slice() {
-        lines.push(row_line(alloc, row)?.into_vec())?;
-    }
-    Ok(lines)
+    let held = row_lines(alloc, rows)?;
+    let lines = sorted(alloc, held.bytes.as_slice(), held.sizes.as_slice())?;
+    put_lines(text, lines.as_slice())
 }
 
-fn row_line(alloc: Global, row: &Row) -> Result<Bytes, Memory>
-    requires { All IsProper row.now }
-    ensures { IfOk result (λ line. line ≡ row_text row.now) }
+fn put_lines(text: &mut Bytes, lines: &[&[u8]]) -> Result<(), Memory>
+    ensures { OnOk result (text.new ≡ text.old ++ flat_map ended (map (λ line. line.now) lines.now)) }
 {
-    let cells = row.as_slice();
-    let mut line = Bytes::new(alloc);
+    for line in lines {
+        put_line(text, line)?;
+    }
+    Ok(())
+}
+
+fn row_lines(alloc: Global, rows: &Rows) -> Result<Lines, Memory>
+    requires { All (All IsProper) rows.now }
+    ensures { IfOk result (λ held. AreLines (map row_text rows.now) held.bytes held.sizes.items) }
+{
+    let mut bytes = Bytes::new(alloc);
+    let mut sizes = Vec::with_capacity(alloc, rows.len())?;
+    for i in 0..rows.len() {
+        let before = bytes.len();
+        put_row(alloc, &mut bytes, rows.row(i))?;
+        sizes.push(bytes.len() - before)?;
+    }
+    Ok(Lines { bytes, sizes })
+}
+
+fn put_row(alloc: Global, line: &mut Bytes, cells: &[Value]) -> Result<(), Memory>
+    requires { All IsProper cells.now }
+    ensures { OnOk result (line.new ≡ line.old ++ row_text cells.now) }
+{
     for i in 0..cells.len() {
-        put_tab(&mut line, i)?;
-        put_cell(alloc, &mut line, &cells[i])?;
+        put_tab(line, i)?;
+        put_cell(alloc, line, &cells[i])?;
     }
-    Ok(line)
+    Ok(())
 }
 
-fn header(alloc: Global, schema: &Schema) -> Result<Bytes, Memory>
-    ensures { IfOk result (λ line. line ≡ header_text schema.now) }
+fn put_columns(line: &mut Bytes, fields: &[Field]) -> Result<(), Memory>
+    ensures { OnOk result (line.new ≡ line.old ++ header_text fields.now) }
 {
-    let fields = schema.as_slice();
-    let mut line = Bytes::new(alloc);
     for i in 0..fields.len() {
-        put_tab(&mut line, i)?;
-        put_column(&mut line, &fields[i])?;
+        put_tab(line, i)?;
+        put_column(line, &fields[i])?;
     }
-    Ok(line)
+    Ok(())
 }
 
 // A tab before each piece of a line but the first.

@@ -5,6 +5,7 @@
 
 mod answer;
 mod escape;
+mod lines;
 mod refusal;
 mod reply;
 mod short;

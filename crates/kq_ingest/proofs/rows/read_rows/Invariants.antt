@@ -1,12 +1,13 @@
-use Rattle.std.proofs.Common.{◌≡◌, ◌<◌, ℕ, true, List, Some}
-use Rattle.csv.specs.Reading.{Reached, Ready, default_config, source_of, strip_bom}
-use Rattle.csv.specs.declared.parser.State.TheVariants as st
-use Rattle.csv.specs.declared.reader.Trim.TheVariants as trim
+use Rattle.std.proofs.Common.{◌≡◌, ℕ, List, []}
+use Rattle.csv.specs.Reading.{source_of}
+use Rattle.kq_ingest.specs.Reading.{known}
+use Rattle.kq_ingest.proofs.HasRead.{HasRead}
+use Rattle.kq_ingest.proofs.Records.{bytes_in}
 use Rattle.kq_ingest.proofs.Taking.{Taken}
 use Rattle.kq_ingest.proofs.rows.read_rows.Given as goal
 
-abbrev pub invariant-loop-cells : goal.invariant-loop-cells
-invariant-loop-cells l = (l.cells-iterator.rdr.trim ≡ trim.None) × Ready l.cells-iterator.rdr × (0 < l.cells-iterator.left) × (l.cells-iterator.rdr.config ≡ default_config) × (l.cells-iterator.rdr.flexible ≡ true)
-    × (y : List ℕ) × (source_of (λ s. Some s.now) l.cells-iterator.rdr ≡ Some y)
-    × (seen : List (List (List ℕ))) × Reached default_config st.StartRecord (strip_bom l.fn.body) seen l.cells-iterator.rdr.state y
-    × Taken l.fn.schema l.fn.skip_first l.skip l.fn.limit seen l.rows
+abbrev pub invariant-loop-row : goal.invariant-loop-row
+invariant-loop-row l = (l.row.items ≡ []) × (seen : List (List (List ℕ))) × (left : List ℕ) × HasRead l.fn.body l.reader seen left × Taken l.fn.schema l.fn.skip_first l.skip l.fn.limit seen l.rows
+
+abbrev pub decreases-loop-row : goal.decreases-loop-row
+decreases-loop-row l = bytes_in (source_of known l.reader)
