@@ -19,10 +19,11 @@ use Rattle.kq_reply.specs.declared.reply.Reply.{Reply}
 use Rattle.kq_engine.specs.declared.work.Work.{Work}
 use Rattle.kq_engine.specs.declared.work.Ready.{Ready}
 use Rattle.kq_engine.specs.declared.work.Ready.TheVariants as readies
-use Rattle.kq_engine.specs.Fits.{Fits, FitsNow, IsPrepared, IsRead, IsReady, Advances, MayWantMemory, TakesMemory, TakesRows, TakesToFinish, event_by, own_commit}
-use Rattle.kq_model.specs.declared.batch.Batch.{Batch}
+use Rattle.kq_engine.specs.Fits.{Fits, FitsNow, Advances, event_by, own_commit}
+use Rattle.kq_engine.specs.Found.{IsPrepared, IsReady, MayWantMemory, TakesMemory, TakesToFinish, WantsToFinish}
+use Rattle.kq_engine.proofs.Wanting.{commit_finds, found_wants}
+use Rattle.kq_catalog.specs.Intents.{commit_of}
 use Rattle.kq_command.specs.declared.command.Command.{Command}
-use Rattle.kq_command.specs.declared.command.Command.TheVariants.{CreateTable, Ingest, Query, Unbuilt}
 use Rattle.kq_reply.specs.declared.refusal.Refusal.{Refusal}
 use Rattle.kq_reply.specs.declared.refusal.Refusal.TheVariants as refusals
 use Rattle.kq_reply.specs.declared.reply.Reply.TheVariants as replies
@@ -45,7 +46,10 @@ Tells-later limits xs ys found more h new made os all is t told = record {
   found = place_of-append t.by xs ys found more t.began told.found;
   fits = subst (λ (n : History). Fits limits n t.by told.work.command told.work.now t.outcome.place t.outcome.own t.outcome.reply) (sym is) (Fits-append limits h made t.by told.work.command told.work.now t.outcome.place t.outcome.own t.outcome.reply told.fits);
   since = told.since;
-  memory = λ wants. subst (λ (n : History). MayWantMemory n told.work.command) (sym (ap (take t.began) is ∙ take-append-le t.began h made (omega (arith, told.since, told.fits.within)))) (told.memory wants);
+  memory = λ wants.
+      let began : take t.began new ≡ take t.began h = ap (take t.began) is ∙ take-append-le t.began h made (omega (arith, told.since, told.fits.within)) in
+      let place : take t.outcome.place new ≡ take t.outcome.place h = ap (take t.outcome.place) is ∙ take-append-le t.outcome.place h made told.fits.within in
+      subst (λ (n : History). MayWantMemory (take t.began new) n told.work.command) (sym place) (subst (λ (n : History). MayWantMemory n (take t.outcome.place h) told.work.command) (sym began) (told.memory wants));
   finished = still_bare t.by xs ys t told.finished;
 }
 
@@ -230,20 +234,13 @@ moved_gone false o o' t k e f (inr (q, one)) = cc
 some_given : (t : Told) (made : Option Operation) → t ∷ [] ≡ [] → made ≡ None
 some_given t made e = cc
 
--- rows were read only for a table that stands
-read_wants : (limits : Limits) (h : History) (command : Command) (batch : Batch) → IsRead limits h command batch → MayWantMemory h command
-read_wants limits h (Ingest table body) batch read = inl (subst TakesRows (sym read.named) read.longs)
-read_wants limits h (CreateTable name columns) batch read = absurd read
-read_wants limits h (Query query) batch read = absurd read
-read_wants limits h Unbuilt batch read = absurd read
-
-ready_wants : (limits : Limits) (h : History) (command : Command) (ready : Ready) → IsReady limits h command ready → TakesToFinish command ready → MayWantMemory h command
-ready_wants limits h command (readies.Answered reply) is takes = absurd takes
-ready_wants limits h command (readies.Read batch) is takes = read_wants limits h command batch is
-ready_wants limits h command readies.Pending is takes = inr takes
+ready_wants : (limits : Limits) (h now : History) (command : Command) (ready : Ready) → IsReady limits h command ready → TakesToFinish now command ready → MayWantMemory h now command
+ready_wants limits h now command (readies.Answered reply) is takes = absurd takes
+ready_wants limits h now command (readies.ToCommit intent) is takes = inl (found_wants h command is.0 (commit_finds limits h command (commit_of intent) is.1.due))
+ready_wants limits h now command readies.Pending is takes = inr takes
 
 -- open work is finished
-pub finish_open : (limits : Limits) (xs : List Step) (c : By) (old new : CatalogView) (open_ones : List Prepared) (outcomes : List Told) (i : ℕ) (p : Prepared) (outcome : Outcome) → IsAt (opens c) open_ones i → p ≡ slice_index_or open_ones i p → new.limits ≡ old.limits → Advances old.limits old.history new.history p.work p.place outcome → (outcome.reply ≡ replies.Refused refusals.Memory → TakesToFinish p.work.command p.ready) → IsRun limits xs old open_ones outcomes → IsRun limits (xs ++ Finish c ∷ []) new (remove open_ones i) (outcomes ++ record { by = c; began = p.place; outcome = outcome } ∷ [])
+pub finish_open : (limits : Limits) (xs : List Step) (c : By) (old new : CatalogView) (open_ones : List Prepared) (outcomes : List Told) (i : ℕ) (p : Prepared) (outcome : Outcome) → IsAt (opens c) open_ones i → p ≡ slice_index_or open_ones i p → new.limits ≡ old.limits → Advances old.limits old.history new.history p.work p.place outcome → WantsToFinish new.history p outcome → IsRun limits xs old open_ones outcomes → IsRun limits (xs ++ Finish c ∷ []) new (remove open_ones i) (outcomes ++ record { by = c; began = p.place; outcome = outcome } ∷ [])
 finish_open limits xs c old new open_ones outcomes i p outcome is_at value kept step takes run =
     let t : Told = record { by = c; began = p.place; outcome = outcome } in
     let mark : p.work.by ≡ c = same_by-true p.work.by c (ap (opens c) value ∙ is_at.1 p) in
@@ -270,7 +267,7 @@ finish_open limits xs c old new open_ones outcomes i p outcome is_at value kept 
       found = place_of-append c xs (Finish c ∷ []) run.found (length old.history ∷ []) p.place (subst (λ (m : By). place_of m xs run.found ≡ Some p.place) mark open_one.found);
       fits = subst (λ (m : By). Fits limits new.history m p.work.command p.work.now outcome.place outcome.own outcome.reply) mark (subst (λ (l : Limits). Fits l new.history p.work.by p.work.command p.work.now outcome.place outcome.own outcome.reply) run.same_limits step.fits);
       since = step.since;
-      memory = λ wants. subst (λ (n : History). MayWantMemory n p.work.command) (sym (ap (take p.place) is ∙ take-append-le p.place old.history made (omega (arith, open_one.prepared.at, length-take p.place old.history)))) (ready_wants limits (take p.place old.history) p.work.command p.ready open_one.prepared.is_ready (takes wants));
+      memory = λ wants. subst (λ (n : History). MayWantMemory n (take outcome.place new.history) p.work.command) (sym (ap (take p.place) is ∙ take-append-le p.place old.history made (omega (arith, open_one.prepared.at, length-take p.place old.history)))) (ready_wants limits (take p.place old.history) (take outcome.place new.history) p.work.command p.ready open_one.prepared.is_ready (takes wants));
       finished = inl (is_finished-now c xs p.work asked);
     }))
     (step.appends.commits ∙ ap (λ (m : By). commits_at old.history ++ own_commit outcome.own outcome.place m) mark ∙ ap (λ l. l ++ own_commit outcome.own outcome.place c) run.commits ∙ flat_map_more (λ (x : Told). own_commit x.outcome.own x.outcome.place x.by) [] outcomes t)

@@ -8,7 +8,8 @@ use Rattle.kq_model.specs.declared.limits.Limits.{Limits}
 use Rattle.kq_model.specs.History.{History, cursor}
 use Rattle.kq_engine.specs.declared.work.Outcome.{Outcome}
 use Rattle.kq_engine.specs.declared.work.Work.{Work}
-use Rattle.kq_engine.specs.Fits.{Advances, IsPrepared, IsReady, event_by}
+use Rattle.kq_engine.specs.Fits.{Advances, event_by}
+use Rattle.kq_engine.specs.Found.{IsPrepared, IsReady}
 use Rattle.kq_reply.specs.declared.reply.Reply.{Reply}
 use Rattle.kq_engine.specs.declared.work.Prepared.{Prepared}
 use Rattle.kq_engine.specs.declared.work.Ready.TheVariants as readies

@@ -7,12 +7,14 @@ use Rattle.kq_model.specs.declared.limits.Limits.{Limits}
 use Rattle.kq_model.specs.History.{History, CommitAt, commits_at}
 use Rattle.kq_model.specs.Marks.{same_by}
 use Rattle.kq_catalog.specs.Seen.{CatalogView, Sound}
+use Rattle.kq_engine.specs.declared.run.Running.{Running}
 use Rattle.kq_engine.specs.declared.run.Step.{Step}
 use Rattle.kq_engine.specs.declared.run.Step.TheVariants.{Begin, Finish}
 use Rattle.kq_engine.specs.declared.run.Told.{Told}
 use Rattle.kq_engine.specs.declared.work.Prepared.{Prepared}
 use Rattle.kq_engine.specs.declared.work.Work.{Work}
-use Rattle.kq_engine.specs.Fits.{Fits, IsPrepared, MayWantMemory, event_by, own_commit}
+use Rattle.kq_engine.specs.Fits.{Fits, event_by, own_commit}
+use Rattle.kq_engine.specs.Found.{IsPrepared, MayWantMemory}
 use Rattle.kq_reply.specs.declared.refusal.Refusal.TheVariants as refusals
 use Rattle.kq_reply.specs.declared.reply.Reply.TheVariants as replies
 
@@ -74,7 +76,7 @@ pub record Tells (limits : Limits) (m : Moment) (t : Told) : Type 0 where
   pub found : place_of t.by m.steps m.found ≡ Some t.began
   pub fits : Fits limits m.history t.by work.command work.now t.outcome.place t.outcome.own t.outcome.reply
   pub since : t.began ≤ t.outcome.place
-  pub memory : t.outcome.reply ≡ replies.Refused refusals.Memory → MayWantMemory (take t.began m.history) work.command
+  pub memory : t.outcome.reply ≡ replies.Refused refusals.Memory → MayWantMemory (take t.began m.history) (take t.outcome.place m.history) work.command
   pub finished : (is_finished t.by m.steps ≡ true) ⊎ IsBare t
 
 -- what holds at each moment: its commits are those of the outcomes with `own`, no mark has two outcomes, and each that was finished has one
@@ -146,3 +148,8 @@ pub record IsRun (limits : Limits) (steps : List Step) (catalog : CatalogView) (
   pub commits : commits_at catalog.history ≡ commits_told outcomes
   pub once : (b : By) → count_by (opens b) open_ones + count_by (tells b) outcomes ≡ one_if_some (work_of b steps)
   pub gone : (b : By) → is_finished b steps ≡ true → count_by (opens b) open_ones ≡ 0
+
+-- one more step of a run leads from one state of it to another
+abbrev pub GoesOn : Running → Step → Running → Type 0
+GoesOn old step new = (limits : Limits) (done : List Step)
+    → IsRun limits done old.catalog old.waiting.items old.outcomes.items → IsRun limits (done ++ step ∷ []) new.catalog new.waiting.items new.outcomes.items

@@ -5,6 +5,7 @@
 //! crates.
 #![tactic(auto)]
 
+mod changes;
 mod on_catalog;
 mod on_snapshot;
 mod query;

@@ -1,24 +1,23 @@
 // Queries.
-ghost use Rattle.std.specs.Prelude.{◌≡◌, ◌<◌, ◌++◌, ◌^◌, [], ◌∷◌, All, Some, IfOk, IfErr, OnOk, pos, false, length, map};
+ghost use Rattle.std.specs.Prelude.{◌≡◌, ◌<◌, ◌^◌, [], ◌∷◌, All, Some, IfOk, IfErr, pos, false};
 ghost use Rattle.kq_value.specs.declared.value.Value.TheVariants as values;
-ghost use Rattle.kq_extent.specs.Seen.{row_of};
 ghost use Rattle.kq_model.specs.Gives.{count_columns};
 ghost use Rattle.kq_command.specs.declared.command.Command.TheVariants as commands;
-ghost use Rattle.kq_catalog.specs.Held.{records_in};
 ghost use Rattle.kq_reply.specs.declared.refusal.Refusal.TheVariants as refusals;
 ghost use Rattle.kq_reply.specs.declared.reply.Reply.TheVariants as replies;
 ghost use Rattle.std.specs.List.{slice_get};
 ghost use Rattle.kq_value.specs.Typed.{HasTypes};
 ghost use Rattle.kq_model.specs.History.{log, tables, table_numbered};
-ghost use Rattle.kq_engine.specs.Fits.{Answers, TakesAnswer};
+ghost use Rattle.kq_engine.specs.Fits.{Answers};
+ghost use Rattle.kq_engine.specs.Found.{TakesAnswer};
 ghost use Rattle.kq_engine.specs.Queries.{AnswersQuery, Gives};
 
 use kq_catalog::Snapshot;
 use kq_command::Query;
-use kq_extent::{Extent, ExtentList};
 use kq_model::{Answer, Table};
 use kq_reply::{Refusal, Reply, render};
-use kq_value::{Field, Memory, Row, Rows, Schema, Text, Ty, Value};
+use kq_rows::Rows;
+use kq_value::{Field, Memory, Schema, Text, Ty, Value};
 use std::alloc::Global;
 
 /// The answer to a query, from the snapshot alone.
@@ -52,12 +51,12 @@ fn evaluate(
     let alloc = snapshot.allocator();
     let extents = snapshot.extents(number);
     if counted {
-        return count(alloc, rows_held(extents));
+        return count(alloc, extents.count_records());
     }
     Ok(Answer {
         schema: table.schema.clone_in()?,
         ordered: false,
-        rows: all_rows(alloc, extents)?,
+        rows: extents.all_rows(alloc)?,
     })
 }
 
@@ -71,45 +70,13 @@ fn count(alloc: Global, rows: u64) -> Result<Answer, Memory>
         name: Text::from_str(alloc, "Count")?,
         ty: Ty::Long,
     })?;
-    let mut row = Row::new(alloc);
+    let mut row = Vec::new(alloc);
     row.push(Value::Long(rows as i64))?;
     let mut rows = Rows::new(alloc);
-    rows.push(row)?;
+    rows.push_from(&mut row)?;
     Ok(Answer {
         schema,
         ordered: false,
         rows,
     })
-}
-
-// The number of records in the extents.
-fn rows_held(extents: &ExtentList) -> u64
-    requires { length (records_in extents.now.extents) < 2 ^ 63 }
-    ensures { result ≡ length (records_in extents.now.extents) }
-{
-    let mut rows = 0;
-    for extent in extents.as_slice() {
-        rows += extent.len() as u64;
-    }
-    rows
-}
-
-// The rows of the extents, one after another.
-fn all_rows(alloc: Global, extents: &ExtentList) -> Result<Rows, Memory>
-    ensures { IfOk result (λ rows. rows ≡ map row_of (records_in extents.now.extents)) }
-{
-    let mut rows = Rows::new(alloc);
-    for extent in extents.as_slice() {
-        add_rows(&mut rows, extent)?;
-    }
-    Ok(rows)
-}
-
-fn add_rows(rows: &mut Rows, extent: &Extent) -> Result<(), Memory>
-    ensures { OnOk result (rows.new ≡ rows.old ++ map row_of extent.now.records) }
-{
-    for i in 0..extent.len() {
-        rows.push(extent.row(i)?)?;
-    }
-    Ok(())
 }

@@ -1,8 +1,6 @@
 // Every interleaving.
-ghost use Rattle.std.specs.Prelude.{◌≡◌, ◌++◌, ◌∷◌, [], List, IfOk, OnOk, MatchOption, count_by};
-ghost use Rattle.kq_model.specs.declared.limits.Limits.{Limits as Bounds};
-ghost use Rattle.kq_engine.specs.Steps.{opens, tells, IsAt, AreWaiting, IsRun, IsTrace};
-ghost use Rattle.kq_engine.specs.declared.run.Step.{Step as Move};
+ghost use Rattle.std.specs.Prelude.{◌≡◌, IfOk, OnOk, MatchOption, count_by};
+ghost use Rattle.kq_engine.specs.Steps.{opens, tells, IsAt, AreWaiting, GoesOn, IsTrace};
 ghost use Rattle.kq_engine.specs.declared.run.Step.TheVariants as moves;
 
 use crate::on_catalog::{finish, told};
@@ -68,7 +66,7 @@ fn told_at(outcomes: &[Told], by: By) -> Option<usize>
 }
 
 fn begin_one(running: &mut Running, work: &Work) -> Result<(), Memory>
-    ensures { OnOk result ((limits : Bounds) (done : List Move) → IsRun limits done running.old.catalog running.old.waiting.items running.old.outcomes.items → IsRun limits (done ++ moves.Begin work.entry.now ∷ []) running.new.catalog running.new.waiting.items running.new.outcomes.items) }
+    ensures { OnOk result (GoesOn running.old (moves.Begin work.entry.now) running.new) }
 {
     if let Some(_at) = open_at(running.waiting.as_slice(), work.by) {
         return Ok(());
@@ -98,7 +96,7 @@ fn begin_one(running: &mut Running, work: &Work) -> Result<(), Memory>
 
 fn finish_one(running: &mut Running, by: By) -> Result<(), Memory>
     requires { AreWaiting running.old.catalog running.old.waiting.items }
-    ensures { OnOk result ((limits : Bounds) (done : List Move) → IsRun limits done running.old.catalog running.old.waiting.items running.old.outcomes.items → IsRun limits (done ++ moves.Finish by ∷ []) running.new.catalog running.new.waiting.items running.new.outcomes.items) }
+    ensures { OnOk result (GoesOn running.old (moves.Finish by) running.new) }
 {
     let Some(i) = open_at(running.waiting.as_slice(), by) else {
         return Ok(());
@@ -114,7 +112,7 @@ fn finish_one(running: &mut Running, by: By) -> Result<(), Memory>
 
 fn run_step(running: &mut Running, step: &Step) -> Result<(), Memory>
     requires { AreWaiting running.old.catalog running.old.waiting.items }
-    ensures { OnOk result ((limits : Bounds) (done : List Move) → IsRun limits done running.old.catalog running.old.waiting.items running.old.outcomes.items → IsRun limits (done ++ step.now ∷ []) running.new.catalog running.new.waiting.items running.new.outcomes.items) }
+    ensures { OnOk result (GoesOn running.old step.now running.new) }
 {
     match step {
         Step::Begin(work) => begin_one(running, work),

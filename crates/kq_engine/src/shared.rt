@@ -5,7 +5,7 @@ ghost use Rattle.kq_turn.specs.Histories.{IsLongerOf};
 ghost use Rattle.kq_model.specs.History.{cursor};
 ghost use Rattle.kq_catalog.specs.Seen.{hist};
 ghost use Rattle.kq_reply.specs.declared.reply.Reply.TheVariants as replies;
-ghost use Rattle.kq_engine.specs.Fits.{IsPrepared};
+ghost use Rattle.kq_engine.specs.Found.{IsPrepared};
 ghost use Rattle.kq_engine.specs.Shared.{Applies, Concludes, Finishes, IsFresh, Queries};
 
 use crate::on_catalog::{finish, told};

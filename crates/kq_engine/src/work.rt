@@ -1,8 +1,9 @@
 // Work and its outcome.
 ghost use Rattle.std.specs.Prelude.{◌≡◌, IfOk};
 
+use kq_catalog::Intent;
 use kq_command::Command;
-use kq_model::{Batch, By};
+use kq_model::By;
 use kq_reply::Reply;
 use kq_value::Memory;
 
@@ -40,8 +41,8 @@ pub struct Outcome {
 pub enum Ready {
     /// The reply, which the snapshot tells whole.
     Answered(Reply),
-    /// The rows of an ingestion, read for their table.
-    Read(Batch),
+    /// The commit that is due while none since disturbs it.
+    ToCommit(Intent),
     /// Nothing: the catalogue alone tells what is due.
     Pending,
 }

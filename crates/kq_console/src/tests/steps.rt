@@ -33,6 +33,7 @@ fn code(reply: &Reply) -> (u8, u64) {
     match reply {
         Reply::Done { cursor } => (b'd', *cursor),
         Reply::Kept { cursor } => (b'k', *cursor),
+        Reply::Ingested { cursor, rows: _ } => (b'i', *cursor),
         Reply::Refused(Refusal::Exists { at }) => (b'e', *at),
         Reply::Refused(Refusal::Full { limit }) => (b'f', *limit),
         _ => (b'?', 0),
@@ -71,6 +72,8 @@ const OTHER_E: &str = ".create table E (j:long)";
 
 const F: &str = ".create table F (k:long)";
 
+const INTO_E: &str = ".ingest inline into table E <|\n1";
+
 #[test]
 fn the_first_to_finish_makes_the_table(rt: HostRuntime) -> Result<(), Fail> {
     for (winner, loser) in [(0, 1), (1, 0)] {
@@ -104,6 +107,26 @@ fn a_limit_of_one_table_holds(rt: HostRuntime) -> Result<(), Fail> {
     let mut limits = Limits::full();
     limits.tables = 1;
     let rows = [(0, E), (0, ""), (1, F), (1, "")];
+    let expected = [(0, b'd', 1), (1, b'f', 1)];
+    let holds = come_to(rt.alloc(), limits, &rows, &expected, 1)?;
+    assert!(rt; holds);
+    Ok(())
+}
+
+#[test]
+fn rows_read_before_another_table_was_made_are_put_in(rt: HostRuntime) -> Result<(), Fail> {
+    let rows = [(0, E), (0, ""), (1, INTO_E), (2, F), (2, ""), (1, "")];
+    let expected = [(0, b'd', 1), (2, b'd', 2), (1, b'i', 3)];
+    let holds = come_to(rt.alloc(), Limits::full(), &rows, &expected, 3)?;
+    assert!(rt; holds);
+    Ok(())
+}
+
+#[test]
+fn rows_past_the_last_commit_are_refused(rt: HostRuntime) -> Result<(), Fail> {
+    let mut limits = Limits::full();
+    limits.commits = 1;
+    let rows = [(0, E), (0, ""), (1, INTO_E), (1, "")];
     let expected = [(0, b'd', 1), (1, b'f', 1)];
     let holds = come_to(rt.alloc(), limits, &rows, &expected, 1)?;
     assert!(rt; holds);

@@ -4,7 +4,8 @@ use Rattle.kq_model.specs.History.{History}
 use Rattle.kq_reply.specs.declared.refusal.Refusal.TheVariants as refusals
 use Rattle.kq_reply.specs.declared.reply.Reply.TheVariants as replies
 use Rattle.kq_engine.specs.declared.work.Work.{Work}
-use Rattle.kq_engine.specs.Fits.{IsPrepared, FitsNow, TakesMemory}
+use Rattle.kq_engine.specs.Fits.{FitsNow}
+use Rattle.kq_engine.specs.Found.{IsPrepared, TakesMemory}
 use Rattle.kq_engine.specs.Steps.{opens, tells}
 use Rattle.kq_engine.proofs.Running.{skip_begin, begin_open, begin_refused, count_by-at, same_refusal}
 use Rattle.kq_engine.proofs.run.begin_one.Goals as goal

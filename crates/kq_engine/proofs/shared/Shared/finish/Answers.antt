@@ -6,7 +6,8 @@ use Rattle.kq_model.specs.declared.limits.Limits.{Limits}
 use Rattle.kq_catalog.specs.Grown.{numbers_of}
 use Rattle.kq_catalog.proofs.Grown.{same_limits}
 use Rattle.kq_engine.specs.declared.work.Outcome.{Outcome}
-use Rattle.kq_engine.specs.Fits.{Advances, IsPrepared, event_by}
+use Rattle.kq_engine.specs.Fits.{Advances, event_by}
+use Rattle.kq_engine.specs.Found.{IsPrepared}
 use Rattle.kq_engine.proofs.Sharing.{Finishes-step}
 use Rattle.kq_engine.proofs.shared.Shared.finish.Goals as goal
 

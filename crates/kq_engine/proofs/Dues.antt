@@ -1,0 +1,152 @@
+-- A commit that is due is lawful.
+use Rattle.std.proofs.Common.{◌≡◌, ◌<◌, inl, inr, ℕ, Bool, true, false, cond, List, [], ◌∷◌, length, nat_lt, Option, Some, None, refl, ap, ◌∙◌, subst, arith}
+use Rattle.std.proofs.lemmas.Bool.{ltb-true}
+use Rattle.std.proofs.lemmas.List.{length-map}
+use Rattle.kq_value.specs.declared.schema.Field.{Field}
+use Rattle.kq_value.specs.Schema.{same_fields}
+use Rattle.kq_model.specs.declared.event.Commit.{Commit}
+use Rattle.kq_model.specs.declared.event.Commit.TheVariants as commits
+use Rattle.kq_model.specs.declared.limits.Limits.{Limits}
+use Rattle.kq_model.specs.declared.table.Table.{Table}
+use Rattle.kq_model.specs.History.{Log, Numbered, tables, table_named, table_numbered}
+use Rattle.kq_model.specs.Lawful.{IsIngestion, LawfulCommit, bar_to_table}
+use Rattle.kq_model.specs.Names.{names_of, repeat_of}
+use Rattle.kq_model.proofs.Tables.{table_numbered-at}
+use Rattle.kq_command.specs.declared.columns.Column.{Column}
+use Rattle.kq_command.specs.declared.columns.Identifier.{Identifier}
+use Rattle.kq_command.specs.declared.command.Change.{Change}
+use Rattle.kq_command.specs.declared.command.Change.TheVariants.{CreateTable, Ingest}
+use Rattle.kq_command.specs.declared.command.Command.{Command}
+use Rattle.kq_command.specs.declared.command.Command.TheVariants as commands
+use Rattle.kq_command.specs.Columns.{schema_of}
+use Rattle.kq_ingest.specs.declared.fault.IngestFault.{IngestFault}
+use Rattle.kq_ingest.specs.Ingestion.{AreLongs, first_fault, row_of, row_records, rows_of}
+use Rattle.kq_ingest.proofs.RowLemmas.{rows_typed}
+use Rattle.kq_reply.specs.declared.refusal.Refusal.{Refusal}
+use Rattle.kq_reply.specs.declared.refusal.Refusal.TheVariants as refusals
+use Rattle.kq_reply.specs.declared.reply.Reply.TheVariants as replies
+use Rattle.kq_engine.specs.Due.{Says, Commits, IsChangeDue, IsDueByLog, IsDueByText, IsIngestDue, counted, kept_due, named_due, own_batch, refusal_of, refused, rows_due, table_due, text_refusal}
+use Rattle.kq_engine.specs.Found.{IsCommitDue}
+use Rattle.kq_engine.proofs.Texts.{different_names}
+
+-- ---- commits that are counted
+
+-- a commit is no refusal
+pub no_commit : (c : Commit) (r : Refusal) → Commits c ≡ refused r → ⊥
+no_commit c r e = cc
+
+-- a commit that is due where commits are counted is that commit, and there was room
+pub counted-commit : (limits : Limits) (l : Log) (c d : Commit) → Commits d ≡ counted limits l c → (nat_lt (length l) limits.commits ≡ true) × (c ≡ d)
+counted-commit limits l c d e = by_test (nat_lt (length l) limits.commits) refl e
+  where
+    by_test : (b : Bool) → nat_lt (length l) limits.commits ≡ b → Commits d ≡ cond b (Commits c) (refused (refusals.Full limits.commits)) → (nat_lt (length l) limits.commits ≡ true) × (c ≡ d)
+    by_test true room e = (room, cc)
+    by_test false room e = absurd (no_commit d (refusals.Full limits.commits) e)
+
+-- the commit may be made, and one more is allowed
+pub record IsFit (limits : Limits) (l : Log) (c : Commit) : Type 0 where
+  pub room : length l < limits.commits
+  pub lawful : LawfulCommit limits l c
+
+-- ---- tables
+
+kept-none : (c : Commit) (name : Identifier) (schema : List Field) (t : Table) → Commits c ≡ kept_due name schema t → ⊥
+kept-none c name schema t e = by_test (same_fields t.schema schema) e
+  where
+    by_test : (b : Bool) → Commits c ≡ cond b (Says (replies.Kept t.made)) (refused (refusals.Exists name.at)) → ⊥
+    by_test true e = cc
+    by_test false e = cc
+
+-- a table that is made is barred by nothing
+record IsFree (limits : Limits) (l : Log) (name : List ℕ) (schema : List Field) (c : Commit) : Type 0 where
+  room : length l < limits.commits
+  bar : bar_to_table limits l name schema ≡ None
+  unnamed : table_named name (tables l) ≡ None
+  is : commits.CreateTable name schema ≡ c
+
+free : (limits : Limits) (l : Log) (name : Identifier) (schema : List Field) (c : Commit) → Commits c ≡ table_due limits l name schema → IsFree limits l name.text schema c
+free limits l name schema c due = by_width (nat_lt limits.columns (length schema)) refl due
+  where
+    by_tables : (b : Bool) → nat_lt limits.columns (length schema) ≡ false → table_named name.text (tables l) ≡ None → nat_lt (length (tables l)) limits.tables ≡ b
+        → Commits c ≡ cond b (counted limits l (commits.CreateTable name.text schema)) (refused (refusals.Full limits.tables)) → IsFree limits l name.text schema c
+    by_tables true wide named few e =
+        let (room, is) = counted-commit limits l (commits.CreateTable name.text schema) c e in
+        record { room = ltb-true (length l) limits.commits room; bar = rw (wide, named, few, room) refl; unnamed = named; is = is }
+    by_tables false wide named few e = absurd (no_commit c (refusals.Full limits.tables) e)
+
+    by_name : (o : Option Table) → nat_lt limits.columns (length schema) ≡ false → table_named name.text (tables l) ≡ o → Commits c ≡ named_due limits l name schema o → IsFree limits l name.text schema c
+    by_name (Some t) wide named e = absurd (kept-none c name schema t e)
+    by_name None wide named e = by_tables (nat_lt (length (tables l)) limits.tables) wide named refl e
+
+    by_width : (b : Bool) → nat_lt limits.columns (length schema) ≡ b → Commits c ≡ cond b (refused (refusals.Full limits.columns)) (named_due limits l name schema (table_named name.text (tables l))) → IsFree limits l name.text schema c
+    by_width true wide e = absurd (no_commit c (refusals.Full limits.columns) e)
+    by_width false wide e = by_name (table_named name.text (tables l)) wide refl e
+
+-- where a table is due, none has the name
+pub table_due-unnamed : (limits : Limits) (l : Log) (name : Identifier) (schema : List Field) (c : Commit) → Commits c ≡ table_due limits l name schema → table_named name.text (tables l) ≡ None
+table_due-unnamed limits l name schema c due = (free limits l name schema c due).unnamed
+
+table-fit : (limits : Limits) (l : Log) (name : Identifier) (columns : List Column) (c : Commit) → 0 < length columns → repeat_of (names_of (schema_of columns)) ≡ None → Commits c ≡ table_due limits l name (schema_of columns) → IsFit limits l c
+table-fit limits l name columns c some once due =
+    let made = free limits l name (schema_of columns) c due in
+    let long = length-map columns (λ (x : Column). let f : Field = record { name = x.name.text; ty = x.ty } in f) in
+    subst (IsFit limits l) made.is (record { room = made.room; lawful = (omega (arith, long, some), once, made.bar) })
+
+-- ---- rows
+
+none_over : (x y : Bool) (f g : IngestFault) → cond x (Some f) (cond y (Some g) None) ≡ None → y ≡ false
+none_over true y f g e = cc
+none_over false true f g e = cc
+none_over false false f g e = refl
+
+-- a body without a fault has no more rows than a batch
+few_rows : (schema : List Field) (limit : ℕ) (body : List ℕ) → first_fault schema false limit body ≡ None → nat_lt limit (length (rows_of schema false body)) ≡ false
+few_rows schema limit body e = ap (nat_lt limit) (length-map (row_records false body) (row_of schema)) ∙ none_over _ _ _ _ e
+
+own_ingestion : (l : Log) (name body : List ℕ) (found : Numbered) → table_numbered name (tables l) ≡ Some found → AreLongs found.table.schema → IsIngestion l (own_batch found body ∷ []) []
+own_ingestion l name body found named longs = record {
+  own = own_batch found body;
+  table = found.table;
+  stands = (table_numbered-at name (tables l) found named).1;
+  typed = rows_typed found.table.schema (row_records false body) longs;
+  derived = record { alone = refl; no_failures = refl };
+}
+
+rows-fit : (limits : Limits) (l : Log) (name body : List ℕ) (found : Numbered) (c : Commit) → table_numbered name (tables l) ≡ Some found → AreLongs found.table.schema
+    → Commits c ≡ rows_due limits l (own_batch found body) (first_fault found.table.schema false limits.batch body) → IsFit limits l c
+rows-fit limits l name body found c named longs due = by_fault (first_fault found.table.schema false limits.batch body) refl due
+  where
+    by_fault : (f : Option IngestFault) → first_fault found.table.schema false limits.batch body ≡ f → Commits c ≡ rows_due limits l (own_batch found body) f → IsFit limits l c
+    by_fault (Some fault) sound e = absurd (no_commit c (refusal_of fault) e)
+    by_fault None sound e =
+        let (room, is) = counted-commit limits l (commits.Ingest (own_batch found body ∷ []) []) c e in
+        let few = few_rows found.table.schema limits.batch body sound in
+        subst (IsFit limits l) is (record { room = ltb-true (length l) limits.commits room; lawful = (own_ingestion l name body found named longs, rw (few, room) refl) })
+
+ingest-fit : (limits : Limits) (l : Log) (table : Identifier) (body : List ℕ) (o : Option Numbered) (c : Commit) → table_numbered table.text (tables l) ≡ o → IsIngestDue limits l table body o (Commits c) → IsFit limits l c
+ingest-fit limits l table body None c named due = absurd (no_commit c (refusals.Unknown table.at) due)
+ingest-fit limits l table body (Some found) c named (inl put) = rows-fit limits l table.text body found c named put.0 put.1
+ingest-fit limits l table body (Some found) c named (inr other) = absurd (no_commit c refusals.Unbuilt other.1)
+
+-- ---- all
+
+-- a commit is due to a good text alone
+pub Due-is_good : (limits : Limits) (l : Log) (change : Change) (c : Commit) → IsChangeDue limits l change (Commits c) → (text_refusal change ≡ None) × IsDueByLog limits l change (Commits c)
+Due-is_good limits l change c due = by_text (text_refusal change) refl due
+  where
+    by_text : (o : Option Refusal) → text_refusal change ≡ o → IsDueByText limits l change o (Commits c) → (text_refusal change ≡ None) × IsDueByLog limits l change (Commits c)
+    by_text None good by = (good, by)
+    by_text (Some r) bad e = absurd (no_commit c r e)
+
+Due-fit : (limits : Limits) (l : Log) (change : Change) (c : Commit) → text_refusal change ≡ None → IsDueByLog limits l change (Commits c) → IsFit limits l c
+Due-fit limits l (CreateTable name columns) c good due = table-fit limits l name columns c due.0 (different_names columns good) due.1
+Due-fit limits l (Ingest table body) c good due = ingest-fit limits l table body (table_numbered table.text (tables l)) c refl due
+
+-- a commit that is due is lawful, and one more is allowed
+pub Due-lawful : (limits : Limits) (l : Log) (change : Change) (c : Commit) → IsChangeDue limits l change (Commits c) → IsFit limits l c
+Due-lawful limits l change c due = let (good, by) = Due-is_good limits l change c due in Due-fit limits l change c good by
+
+pub Commit-lawful : (limits : Limits) (l : Log) (command : Command) (c : Commit) → IsCommitDue limits l command c → IsFit limits l c
+Commit-lawful limits l (commands.Query query) c due = absurd due
+Commit-lawful limits l (commands.Change change) c due = Due-lawful limits l change c due.0
+Commit-lawful limits l commands.Unbuilt c due = absurd due

@@ -1,0 +1,102 @@
+-- Where preparing a command takes memory.
+use Rattle.std.proofs.Common.{◌≡◌, inl, inr, ℕ, Bool, true, false, cond, List, length, nat_lt, Option, Some, None}
+use Rattle.std.specs.Option.{option_map}
+use Rattle.std.proofs.lemmas.Bool.{false≢true}
+use Rattle.kq_value.specs.declared.schema.Field.{Field}
+use Rattle.kq_value.specs.Schema.{same_fields}
+use Rattle.kq_model.specs.declared.event.Commit.{Commit}
+use Rattle.kq_model.specs.declared.event.Commit.TheVariants as commits
+use Rattle.kq_model.specs.declared.limits.Limits.{Limits}
+use Rattle.kq_model.specs.declared.table.Table.{Table}
+use Rattle.kq_model.specs.History.{History, Log, Numbered, log, tables, table_named, table_numbered}
+use Rattle.kq_command.specs.declared.columns.Column.{Column}
+use Rattle.kq_command.specs.declared.columns.Identifier.{Identifier}
+use Rattle.kq_command.specs.declared.command.Change.TheVariants.{CreateTable, Ingest}
+use Rattle.kq_command.specs.declared.command.Command.{Command}
+use Rattle.kq_command.specs.declared.command.Command.TheVariants.{Query, Change, Unbuilt}
+use Rattle.kq_command.specs.declared.command.Query.{Query as Asked}
+use Rattle.kq_command.specs.Columns.{schema_of}
+use Rattle.kq_reply.specs.declared.refusal.Refusal.TheVariants as refusals
+use Rattle.kq_reply.specs.declared.reply.Reply.TheVariants as replies
+use Rattle.kq_engine.specs.Due.{Due, Says, Commits, IsDueByText, IsIngestDue, counted, named_due, refused, repeated_place}
+use Rattle.kq_engine.specs.Fits.{IsDue}
+use Rattle.kq_engine.specs.Found.{IsCommitDue, TakesAnswer, TakesMemory, TakesRows, TakesToFind, is_prepared_outside}
+use Rattle.kq_engine.specs.Queries.{AnswersTable}
+use Rattle.kq_engine.proofs.Dues.{Due-is_good, no_commit, table_due-unnamed}
+
+-- rows were read only for a table that stands, all of whose columns are long
+rows_wanted : (limits : Limits) (l : Log) (table : Identifier) (body : List ℕ) (o : Option Numbered) (c : Commit) → IsIngestDue limits l table body o (Commits c) → TakesRows o
+rows_wanted limits l table body None c due = no_commit c _ due
+rows_wanted limits l table body (Some found) c (inl put) = put.0
+rows_wanted limits l table body (Some found) c (inr other) = absurd (no_commit c _ other.1)
+
+-- a commit that is due takes memory
+pub commit_finds : (limits : Limits) (h : History) (command : Command) (c : Commit) → IsCommitDue limits (log h) command c → TakesToFind h command
+commit_finds limits h (Query query) c due = absurd due
+commit_finds limits h (Change (CreateTable name columns)) c due = table_due-unnamed limits (log h) name (schema_of columns) c (Due-is_good limits (log h) (CreateTable name columns) c due.0).1.1
+commit_finds limits h (Change (Ingest table body)) c due = rows_wanted limits (log h) table body (table_numbered table.text (tables (log h))) c due.0
+commit_finds limits h Unbuilt c due = absurd due
+
+-- ---- want of memory isn't due to `.create table`
+
+abbrev memory_due : Due
+memory_due = refused refusals.Memory
+
+not_commit : (c : Commit) → memory_due ≡ Commits c → ⊥
+not_commit c e = cc
+
+not_full : (limit : ℕ) → memory_due ≡ refused (refusals.Full limit) → ⊥
+not_full limit e = cc
+
+not_kept : (cursor : ℕ) → memory_due ≡ Says (replies.Kept cursor) → ⊥
+not_kept cursor e = cc
+
+not_exists : (at : ℕ) → memory_due ≡ refused (refusals.Exists at) → ⊥
+not_exists at e = cc
+
+neither : (b : Bool) (x y : Due) → (memory_due ≡ x → ⊥) → (memory_due ≡ y → ⊥) → memory_due ≡ cond b x y → ⊥
+neither true x y f g e = f e
+neither false x y f g e = g e
+
+not_counted : (limits : Limits) (l : Log) (c : Commit) → memory_due ≡ counted limits l c → ⊥
+not_counted limits l c e = neither (nat_lt (length l) limits.commits) (Commits c) (refused (refusals.Full limits.commits)) (not_commit c) (not_full limits.commits) e
+
+not_named : (limits : Limits) (l : Log) (name : Identifier) (schema : List Field) (o : Option Table) → memory_due ≡ named_due limits l name schema o → ⊥
+not_named limits l name schema (Some t) e = neither (same_fields t.schema schema) (Says (replies.Kept t.made)) (refused (refusals.Exists name.at)) (not_kept t.made) (not_exists name.at) e
+not_named limits l name schema None e =
+    let made = commits.CreateTable name.text schema in
+    neither (nat_lt (length (tables l)) limits.tables) (counted limits l made) (refused (refusals.Full limits.tables)) (not_counted limits l made) (not_full limits.tables) e
+
+not_table : (limits : Limits) (l : Log) (name : Identifier) (columns : List Column) (place : Option ℕ) → IsDueByText limits l (CreateTable name columns) (option_map (λ (at : ℕ). refusals.Mistyped at) place) memory_due → ⊥
+not_table limits l name columns (Some at) due = cc
+not_table limits l name columns None due =
+    let schema = schema_of columns in
+    let named = table_named name.text (tables l) in
+    neither (nat_lt limits.columns (length schema)) (refused (refusals.Full limits.columns)) (named_due limits l name schema named) (not_full limits.columns) (not_named limits l name schema named) due.1
+
+-- ---- want of memory as a reply that is due
+
+answer_finds : (h : History) (query : Asked) (o : Option Numbered) → AnswersTable h query o (replies.Refused refusals.Memory) → TakesAnswer o
+answer_finds h query None due = cc
+answer_finds h query (Some found) due = tt
+
+rows_find : (limits : Limits) (l : Log) (table : Identifier) (body : List ℕ) (o : Option Numbered) → IsIngestDue limits l table body o memory_due → TakesRows o
+rows_find limits l table body None due = cc
+rows_find limits l table body (Some found) (inl put) = put.0
+rows_find limits l table body (Some found) (inr other) = absurd (not_unbuilt other.1)
+  where
+    not_unbuilt : memory_due ≡ refused refusals.Unbuilt → ⊥
+    not_unbuilt e = cc
+
+pub due_finds : (limits : Limits) (h : History) (command : Command) → IsDue limits h command (replies.Refused refusals.Memory) → TakesToFind h command
+due_finds limits h (Query query) due = answer_finds h query (table_numbered query.table.text (tables (log h))) due
+due_finds limits h (Change (CreateTable name columns)) due = absurd (not_table limits (log h) name columns (repeated_place columns) due)
+due_finds limits h (Change (Ingest table body)) due = rows_find limits (log h) table body (table_numbered table.text (tables (log h))) due
+due_finds limits h Unbuilt due = cc
+
+-- what is found outside the lock takes the memory of preparing
+pub found_wants : (h : History) (command : Command) → is_prepared_outside command ≡ true → TakesToFind h command → TakesMemory h command
+found_wants h (Query query) outside takes = takes
+found_wants h (Change (CreateTable name columns)) outside takes = absurd (false≢true outside)
+found_wants h (Change (Ingest table body)) outside takes = takes
+found_wants h Unbuilt outside takes = takes
