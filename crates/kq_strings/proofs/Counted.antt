@@ -1,5 +1,5 @@
 -- Terms, and the occurrences that count.
-use Rattle.std.proofs.Common.{◌≡◌, ◌<◌, ◌≤◌, ℕ, ◌+◌, ◌-◌, ◌==◌, Bool, true, false, not, ◌||◌, ◌&&◌, List, ◌++◌, length, take, map, get_or, refl, sym, ap, ◌∙◌, ⊎_elim, arith}
+use Rattle.std.proofs.Common.{◌≡◌, ◌<◌, ◌≤◌, ℕ, ◌+◌, ◌-◌, ◌==◌, Bool, true, false, not, ◌||◌, ◌&&◌, List, length, map, get_or, refl, sym, ap, ◌∙◌, ⊎_elim, arith}
 use Rattle.std.specs.Char.{to_ascii_lowercase, is_ascii_alphanumeric}
 use Rattle.std.proofs.lemmas.Bool.{cases_lt}
 use Rattle.std.proofs.lemmas.Bool.Decides.{nat_tests}
@@ -11,9 +11,8 @@ use Rattle.kq_strings.specs.declared.case.Case.TheVariants.{Exact, Ignored}
 use Rattle.kq_strings.specs.Case.{in_case}
 use Rattle.kq_strings.specs.declared.search.Occurrence.{Occurrence}
 use Rattle.kq_strings.specs.declared.search.Occurrence.TheVariants.{Any, Term}
-use Rattle.kq_strings.specs.Found.{counts_at, is_found}
-use Rattle.kq_strings.specs.Sums.{sum_of}
-use Rattle.kq_strings.proofs.Occurs.{any_none, any_at, not_true, past, up_to}
+use Rattle.kq_strings.specs.Found.{counts, is_found}
+use Rattle.kq_strings.proofs.Occurs.{any_none, any_at, past}
 
 alphanumeric_lower : (c : ℕ) → is_ascii_alphanumeric (to_ascii_lowercase c) ≡ is_ascii_alphanumeric c
 alphanumeric_lower c = grind (arith, nat_tests)
@@ -36,24 +35,36 @@ is_term_at-in_case Ignored s t i = is_term_at-map to_ascii_lowercase refl alphan
 
 -- ---- occurrences that count
 
-and_turned : (a b : Bool) → (a && b) ≡ (b && a)
-and_turned true true = refl
-and_turned true false = refl
-and_turned false true = refl
-and_turned false false = refl
+pub counts-in_case : (which : Occurrence) (by : Case) (s t : List ℕ) (i : ℕ) → counts which (in_case by s) (in_case by t) i ≡ counts which s t i
+counts-in_case Any by s t i = refl
+counts-in_case Term by s t i = is_term_at-in_case by s t i
 
-pub term_stands : (by : Case) (s t : List ℕ) (i : ℕ) → (is_term_at s t i && occurs_at (in_case by s) (in_case by t) i) ≡ counts_at Term (in_case by s) (in_case by t) i
-term_stands by s t i = (λ j. sym (is_term_at-in_case by s t i) j && occurs_at (in_case by s) (in_case by t) i) ∙ and_turned (is_term_at (in_case by s) (in_case by t) i) (occurs_at (in_case by s) (in_case by t) i)
+-- an occurrence at a place, if it counts
+abbrev pub counts_at : Occurrence → List ℕ → List ℕ → ℕ → Bool
+counts_at which s t i = occurs_at s t i && counts which s t i
+
+and_yes : (b : Bool) → (b && true) ≡ b
+and_yes true = refl
+and_yes false = refl
+
+and_no : (b : Bool) → (b && false) ≡ false
+and_no true = refl
+and_no false = refl
 
 pub counts-none : (which : Occurrence) (s t : List ℕ) (i : ℕ) → occurs_at s t i ≡ false → counts_at which s t i ≡ false
-counts-none Any s t i e = e
-counts-none Term s t i e = λ j. e j && is_term_at s t i
+counts-none which s t i e = λ j. e j && counts which s t i
+
+pub counts-not : (which : Occurrence) (s t : List ℕ) (i : ℕ) → counts which s t i ≡ false → counts_at which s t i ≡ false
+counts-not which s t i e = (λ j. occurs_at s t i && e j) ∙ and_no (occurs_at s t i)
+
+pub counts-both : (which : Occurrence) (s t : List ℕ) (i : ℕ) → occurs_at s t i ≡ true → counts which s t i ≡ true → counts_at which s t i ≡ true
+counts-both which s t i occurs counted = λ j. occurs j && counted j
 
 none_zero : (n : ℕ) → 0 < n → (n == 0) ≡ false
 none_zero n h = grind (arith, nat_tests)
 
-pub found-none : (which : Occurrence) (s t : List ℕ) → 0 < length t → ((k : ℕ) → k ≤ length s → counts_at which s t k ≡ false) → is_found which s t ≡ false
-found-none Any s t some h = any_none (counts_at Any s t) 0 (length s + 1) (λ k low high. h k (omega arith))
+found-none : (which : Occurrence) (s t : List ℕ) → 0 < length t → ((k : ℕ) → k ≤ length s → counts_at which s t k ≡ false) → is_found which s t ≡ false
+found-none Any s t some h = any_none (occurs_at s t) 0 (length s + 1) (λ k low high. sym (and_yes (occurs_at s t k)) ∙ h k (omega arith))
 found-none Term s t some h = λ j. none_zero (length t) some j || any_none (counts_at Term s t) 0 (length s + 1) (λ k low high. h k (omega arith)) j
 
 or_yes : (b : Bool) → (b || true) ≡ true
@@ -61,11 +72,8 @@ or_yes true = refl
 or_yes false = refl
 
 pub found-at : (which : Occurrence) (s t : List ℕ) (i : ℕ) → i ≤ length s → counts_at which s t i ≡ true → is_found which s t ≡ true
-found-at Any s t i h e = any_at (counts_at Any s t) (length s + 1) i (omega arith) e
+found-at Any s t i h e = any_at (occurs_at s t) (length s + 1) i (omega arith) (sym (and_yes (occurs_at s t i)) ∙ e)
 found-at Term s t i h e = (λ j. (length t == 0) || any_at (counts_at Term s t) (length s + 1) i (omega arith) e j) ∙ or_yes (length t == 0)
-
-pub found-shorter : (which : Occurrence) (s t : List ℕ) → length s < length t → is_found which s t ≡ false
-found-shorter which s t h = found-none which s t (omega arith) (λ k low. counts-none which s t k (past s t k low (omega arith)))
 
 -- no place below `from` counts
 abbrev pub NoneBelow : Occurrence → List ℕ → List ℕ → ℕ → Type 0
@@ -74,15 +82,7 @@ NoneBelow which s t from = (k : ℕ) → k < from → counts_at which s t k ≡ 
 pub none_below-more : (which : Occurrence) (s t : List ℕ) (i : ℕ) → NoneBelow which s t i → counts_at which s t i ≡ false → NoneBelow which s t (i + 1)
 none_below-more which s t i below here = λ k h. ⊎_elim (λ lt. below k lt) (λ low. let at : k ≡ i = omega arith in ap (counts_at which s t) at ∙ here) (cases_lt k i)
 
-pub found-last : (which : Occurrence) (s t : List ℕ) (last : ℕ) (r : Bool) → 0 < length t → last + length t ≡ length s → NoneBelow which s t last → r ≡ counts_at which s t last → r ≡ is_found which s t
-found-last which s t last true some fits below e = sym (found-at which s t last (omega arith) (sym e))
-found-last which s t last false some fits below e =
-    sym (found-none which s t some (λ k h. ⊎_elim (λ lt. below k lt)
-    (λ low. ⊎_elim (λ lt. counts-none which s t k (past s t k h (omega arith)))
-    (λ high. let at : k ≡ last = omega arith in ap (counts_at which s t) at ∙ sym e)
-    (cases_lt last k))
-    (cases_lt k last)))
-
--- unequal sums tell that the text before a place, and after it the part, isn't the text up to the end of the window
-pub differs : (which : Occurrence) (s t : List ℕ) (i a b : ℕ) → a ≡ sum_of (take (i + length t) s) → b ≡ sum_of (take i s ++ t) → (a ≡ b → ⊥) → counts_at which s t i ≡ false
-differs which s t i a b window wanted unequal = counts-none which s t i (not_true _ (λ e. unequal (window ∙ ap sum_of (up_to s t i e) ∙ sym wanted)))
+-- none below a place from which on no occurrence fits
+pub found-end : (which : Occurrence) (s t : List ℕ) (i : ℕ) → 0 < length t → length s < i + length t → NoneBelow which s t i → is_found which s t ≡ false
+found-end which s t i some ended below =
+    found-none which s t some (λ k h. ⊎_elim (λ early. below k early) (λ late. counts-none which s t k (past s t k h (omega arith))) (cases_lt k i))

@@ -1,5 +1,7 @@
 pub mod Cases
 pub mod Counted
+pub mod Cuts
 pub mod Occurs
+pub mod Orders
 pub mod Pieces
-pub mod Polynomials
+pub mod Places

@@ -1,10 +1,9 @@
 -- Where a text stands in another, in the words of the searches.
-use Rattle.std.proofs.Common.{◌≡◌, ◌<◌, ◌≤◌, ℕ, zero, suc, ◌+◌, ◌-◌, Bool, true, false, ◌||◌, ◌&&◌, List, [], ◌∷◌, ◌++◌, length, take, drop, nat_eq, Option, Some, None, refl, sym, ap, ◌∙◌, subst, arith}
+use Rattle.std.proofs.Common.{◌≡◌, ◌<◌, ◌≤◌, ℕ, zero, suc, ◌+◌, ◌-◌, Bool, true, false, ◌||◌, ◌&&◌, List, [], ◌∷◌, length, take, drop, nat_eq, Option, Some, None, refl, sym, ap, subst, arith}
 use Rattle.std.specs.Prelude.{IsTrue, ◌↔◌}
 use Rattle.std.specs.Option.{is_some}
 use Rattle.std.specs.List.{list_any, range_with_len}
 use Rattle.std.specs.Cmp.Lexicographic.{pointwise}
-use Rattle.std.proofs.Math.Seq.{take-add}
 use Rattle.std.proofs.lemmas.Bool.{and_from, and_parts, le-leb}
 use Rattle.std.proofs.lemmas.Bool.Decides.{same_from_decides}
 use Rattle.std.proofs.lemmas.Slice.Eq.{bytes_eq-Decides}
@@ -48,10 +47,6 @@ not_true false h = refl
 
 pub past : (s t : List ℕ) (i : ℕ) → i ≤ length s → length s < i + length t → occurs_at s t i ≡ false
 past s t i h far = not_true _ (λ e. let fits = (OccursAt-from s t i h e).fits in omega arith)
-
--- what stands up to the end of an occurrence
-pub up_to : (s t : List ℕ) (i : ℕ) → occurs_at s t i ≡ true → take (i + length t) s ≡ take i s ++ t
-up_to s t i e = take-add i (length t) s ∙ ap (λ xs. take i s ++ xs) (sym ((bytes_eq-Decides t _).0 e))
 
 -- ---- a search through all places
 

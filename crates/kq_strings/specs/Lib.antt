@@ -1,4 +1,5 @@
 pub mod Case
+pub mod Cut
 pub mod Find
 pub mod Found
-pub mod Sums
+pub mod Suffixes

@@ -1,6 +1,6 @@
 // Upper and lower case.
-ghost use Rattle.std.specs.Prelude.{◌≡◌};
-ghost use Rattle.kq_strings.specs.Case.{byte_in_case};
+ghost use Rattle.std.specs.Prelude.{◌≡◌, ◌<◌, length};
+ghost use Rattle.kq_strings.specs.Case.{seen};
 
 /// Whether upper and lower case of ASCII letters are told apart.
 #[derive(Clone, Copy)]
@@ -9,12 +9,14 @@ pub(crate) enum Case {
     Ignored,
 }
 
-/// The byte that stands for all that are taken for the same as `byte`.
-pub(crate) fn folded(by: Case, byte: u8) -> u8
-    ensures { result ≡ byte_in_case by byte }
+/// The byte at a place of `text`, and for all that are taken for the same one of them.
+#[inline]
+pub(crate) fn seen_at(by: Case, text: &[u8], place: usize) -> u8
+    requires { place < length text.now }
+    ensures { result ≡ seen by text.now place }
 {
     match by {
-        Case::Exact => byte,
-        Case::Ignored => byte.to_ascii_lowercase(),
+        Case::Exact => text[place],
+        Case::Ignored => text[place].to_ascii_lowercase(),
     }
 }

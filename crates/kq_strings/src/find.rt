@@ -5,7 +5,8 @@ ghost use Rattle.kq_strings.specs.Find.{finds};
 ghost use Rattle.kq_strings.specs.Case.{in_case};
 
 use crate::case::Case;
-use crate::search::{Occurrence, is_found, stands_at};
+use crate::compare::stands_at;
+use crate::search::{Occurrence, is_found};
 use memchr::memmem;
 
 /// A string operator. Those without `Cs` don't tell upper from lower case, of ASCII letters alone.
@@ -21,9 +22,7 @@ pub enum FindKind {
     EndsWithCs,
 }
 
-/// Whether `part` is found in `text`. Takes no memory, and time in the length of `text`. Only for texts made to spoil that
-/// can it take time in the product of the lengths: where window after window has the sum of `part` by a fixed prime and
-/// begins as it does, but then differs.
+/// Whether `part` is found in `text`. Takes no memory, and time in the sum of their lengths, whatever they hold.
 pub fn find_text(kind: FindKind, text: &str, part: &str) -> bool
     ensures { result ≡ finds kind text.now part.now }
 {

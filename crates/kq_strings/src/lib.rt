@@ -2,10 +2,12 @@
 #![tactic(auto)]
 
 mod case;
+mod compare;
+mod cut;
 mod find;
 mod search;
 mod split;
-mod sums;
+mod suffix;
 mod terms;
 
 pub use find::{FindKind, find_text};

@@ -1,55 +1,80 @@
-use Rattle.std.proofs.Common.{◌≡◌, ◌+◌, ◌-◌, ◌^◌, ◌%◌, false, ◌++◌, length, take, refl, sym, ap, ◌∙◌, arith}
-use Rattle.kq_strings.specs.Case.{in_case}
-use Rattle.kq_strings.specs.Found.{counts_at}
-use Rattle.kq_strings.specs.Sums.{base, prime, sum_of}
-use Rattle.kq_strings.proofs.Cases.{length-in_case, take-in_case, sum_more}
-use Rattle.kq_strings.proofs.Counted.{found-shorter, found-at, found-last, none_below-more, differs}
+use Rattle.std.proofs.Common.{◌≡◌, ◌+◌, ◌≤◌, ◌<◌, length, false, sym, ◌∙◌, arith}
+use Rattle.memchr.proofs.lemmas.SearchLemmas.{Nowhere-right}
+use Rattle.kq_strings.specs.Case.{in_case, seen, StandsBetween}
+use Rattle.kq_strings.proofs.Cases.{length-in_case}
+use Rattle.kq_strings.proofs.Counted.{counts_at, counts-in_case, counts-none, counts-not, counts-both, found-at, found-end, none_below-more}
+use Rattle.kq_strings.proofs.Occurs.{not_true}
+use Rattle.kq_strings.proofs.Places.{OccursIn-from, occurs_at-in, known_later, none_below-then, nowhere_between, stands_after, stands_whole}
 use Rattle.kq_strings.proofs.search.is_found.Goals as goal
-use Rattle.kq_strings.proofs.search.is_found.Goals.{else-agrees-via-then-agrees+else-counts_at, else-agrees-via-else-agrees}
+use Rattle.kq_strings.proofs.search.is_found.Goals.{else-stands-via-then-stands+else-counts, else-stands-via-else-stands}
 
-pub returns-then-text-part : goal.returns-then-text-part
-returns-then-text-part c =
-    let m = length-in_case c.args.by c.args.text.now in
-    let n = length-in_case c.args.by c.args.part.now in
-    sym (found-shorter c.args.occurrence (in_case c.args.by c.args.text.now) (in_case c.args.by c.args.part.now) (omega arith))
+pub loop-at-preserved-then-end-part : goal.loop-at-preserved-then-end-part
+loop-at-preserved-then-end-part c =
+    let by = c.args.by in
+    let s = c.args.text.now in
+    let t = c.args.part.now in
+    let cut = c.of-critical.result in
+    let at = c.loop-at.at in
+    let so_far = c.loop-at.invariant in
+    let end = c.first_difference-end.result in
+    let found = c.first_difference-end.ensures in
+    let start = c.max.ensures in
+    let low : cut.critical ≤ end = omega (arith, found.low) in
+    let inside = c.if-end-part.true in
+    let same = stands_after by s t at cut.critical c.loop-at.known c.max.result end start so_far.3 found.same in
+    let next = Nowhere-right (seen by t) (length t) (seen by s) (length s) cut.critical c.of-critical.ensures.critical at end low inside same (found.differs inside) in
+    (omega arith, none_below-then by s t c.args.occurrence at _ (omega arith) so_far.1 next, c.requires, λ k a b. absurd (omega arith))
 
-pub loop-at-init : goal.loop-at-init
-loop-at-init c =
-    let s = in_case c.args.by c.args.text.now in
-    let m = length c.args.part.now in
-    let n : 0 + m ≡ m = omega arith in (
-      refl,
-      c.sum_of-through.ensures ∙ ap sum_of (sym (take-in_case c.args.by c.args.text.now m)) ∙ ap (λ k. sum_of (take k s)) (sym n),
-      λ k h. absurd (omega arith),
-    )
-
-pub returns-then-counts_at : goal.returns-then-counts_at
-returns-then-counts_at c =
-    let m = length-in_case c.args.by c.args.text.now in
-    sym (found-at c.args.occurrence (in_case c.args.by c.args.text.now) (in_case c.args.by c.args.part.now) c.loop-at.at (omega arith) (sym c.if-counts_at.ensures))
+pub returns-then-counts : goal.returns-then-counts
+returns-then-counts c =
+    let by = c.args.by in
+    let s = c.args.text.now in
+    let t = c.args.part.now in
+    let cut = c.of-critical.result in
+    let at = c.loop-at.at in
+    let so_far = c.loop-at.invariant in
+    let all : length t ≤ c.first_difference-end.result = omega (arith, c.if-end-part.false) in
+    let after = stands_after by s t at cut.critical c.loop-at.known c.max.result c.first_difference-end.result c.max.ensures so_far.3 c.first_difference-end.ensures.same in
+    let whole = stands_whole by s t at cut.critical c.loop-at.known c.min.result c.first_difference.result c.first_difference-end.result (length t) c.min.ensures c.if-stands.true all so_far.3 c.first_difference.ensures.same after in
+    let occurs = occurs_at-in by s t at (omega arith) whole in
+    let counted = counts-in_case c.args.occurrence by s t at ∙ sym c.if-counts.ensures in
+    sym (found-at c.args.occurrence (in_case by s) (in_case by t) at (omega (arith, length-in_case by s)) (counts-both c.args.occurrence (in_case by s) (in_case by t) at occurs counted))
 
 pub loop-at-preserved : goal.loop-at-preserved
 loop-at-preserved c =
-    let s = in_case c.args.by c.args.text.now in
-    let t = in_case c.args.by c.args.part.now in
-    let m = length c.args.part.now in
+    let by = c.args.by in
+    let s = c.args.text.now in
+    let t = c.args.part.now in
+    let x = seen by t in
+    let m = length t in
+    let h = seen by s in
+    let n = length s in
+    let which = c.args.occurrence in
+    let cut = c.of-critical.result in
     let at = c.loop-at.at in
     let so_far = c.loop-at.invariant in
-    let n : length t ≡ m = length-in_case c.args.by c.args.part.now in
-    let window : c.loop-at.through ≡ sum_of (take (at + length t) s) = so_far.1 ∙ ap (λ k. sum_of (take (at + k) s)) (sym n) in
-    let weight = c.weight_of-weight.ensures ∙ ap (λ k. base ^ k % prime) (sym n) in
-    let wanted : c.joined.result ≡ sum_of (take at s ++ t) = c.joined.ensures (take at s) t so_far.0 c.sum_of-sought.ensures weight in
-    let here : counts_at c.args.occurrence s t at ≡ false = elim c.else-agrees.branch [ else-agrees-via-then-agrees+else-counts_at w ↦ sym w.if-counts_at.ensures | else-agrees-via-else-agrees w ↦ differs c.args.occurrence s t at c.loop-at.through c.joined.result window wanted w.if-agrees.false ] in
-    let turned : at + m + 1 ≡ at + 1 + m = omega arith in (
-      sum_more c.args.by c.args.text.now at c.loop-at.before c.extended-before.result c.folded.result (omega arith) so_far.0 c.extended-before.ensures c.folded.ensures,
-      sum_more c.args.by c.args.text.now (at + m) c.loop-at.through c.extended-through.result c.folded-in-loop-at.result (omega arith) so_far.1 c.extended-through.ensures c.folded-in-loop-at.ensures ∙ ap (λ k. sum_of (take k s)) turned,
-      none_below-more c.args.occurrence s t at so_far.2 here,
+    let all : m ≤ c.first_difference-end.result = omega (arith, c.if-end-part.false) in
+    let after = stands_after by s t at cut.critical c.loop-at.known c.max.result c.first_difference-end.result c.max.ensures so_far.3 c.first_difference-end.ensures.same in
+    let right : StandsBetween by s t at cut.critical m = λ k a b. after k a (omega arith) in
+    let here : counts_at which (in_case by s) (in_case by t) at ≡ false = elim c.else-stands.branch [
+      | else-stands-via-then-stands+else-counts w ↦ counts-not which (in_case by s) (in_case by t) at (counts-in_case which by s t at ∙ sym w.if-counts.ensures)
+      | else-stands-via-else-stands w ↦
+          let r = c.first_difference.result in
+          let short : r < cut.critical = omega (arith, c.first_difference.ensures.high, w.if-stands.false) in
+          let inside = c.of-critical.ensures.inside in
+          counts-none which (in_case by s) (in_case by t) at (not_true _ (λ e. c.first_difference.ensures.differs short (sym ((OccursIn-from by s t at (omega arith) e).reads r (omega arith)))))
+    ] in
+    let fits = c.of-critical.ensures.fits in
+    let moves = c.of-critical.ensures.moves in
+    let next = nowhere_between x m h n cut.critical cut.shift c.of-critical.ensures.critical c.of-critical.ensures.least at right in (
+      omega arith,
+      none_below-then by s t which (at + 1) (at + cut.shift) (omega arith) (none_below-more which (in_case by s) (in_case by t) at so_far.1 here) next,
+      omega arith,
+      known_later x m h n cut c.of-critical.ensures at right,
     )
 
 pub returns : goal.returns
 returns c =
-    let s = in_case c.args.by c.args.text.now in
-    let t = in_case c.args.by c.args.part.now in
-    let m = length-in_case c.args.by c.args.text.now in
-    let n = length-in_case c.args.by c.args.part.now in
-    found-last c.args.occurrence s t (length c.args.text.now - length c.args.part.now) c.counts_at-2.result (omega arith) (omega arith) (λ k h. c.loop-at.invariant.2 k (omega arith)) c.counts_at-2.ensures
+    let n = length-in_case c.args.by c.args.text.now in
+    let m = length-in_case c.args.by c.args.part.now in
+    sym (found-end c.args.occurrence (in_case c.args.by c.args.text.now) (in_case c.args.by c.args.part.now) c.loop-at.at (omega (arith, c.requires)) (omega (arith, c.loop-at-test.false)) c.loop-at.invariant.1)

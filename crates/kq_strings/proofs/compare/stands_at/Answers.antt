@@ -3,7 +3,7 @@ use Rattle.std.specs.Prelude.{IsTrue, ◌↔◌}
 use Rattle.std.specs.Char.{to_ascii_lowercase}
 use Rattle.std.proofs.lemmas.List.{take_all, length-drop}
 use Rattle.kq_strings.proofs.Cases.{stands_within}
-use Rattle.kq_strings.proofs.search.stands_at.Goals as goal
+use Rattle.kq_strings.proofs.compare.stands_at.Goals as goal
 
 pub returns-then-part-rest : goal.returns-then-part-rest
 returns-then-part-rest c =
