@@ -1,6 +1,7 @@
 // Bodies of CSV, and what is read from them: rows between slashes, with their cells between spaces, or the fault.
 use kq_ingest::{IngestFault, are_longs, read_rows};
-use kq_value::{Field, Memory, Rows, Schema, Text, Ty, Value};
+use kq_rows::Rows;
+use kq_value::{Field, Memory, Schema, Text, Ty, Value};
 use std::alloc::Global;
 use std::process::Abort;
 
@@ -23,11 +24,11 @@ fn add_cell(text: &mut String, alloc: Global, cell: &Value) -> Result<(), Memory
 
 fn shown_rows(alloc: Global, rows: &Rows) -> Result<String, Memory> {
     let mut text = String::new(alloc);
-    for (at, row) in rows.as_slice().iter().enumerate() {
+    for at in 0..rows.len() {
         if at > 0 {
             text.push_str("/")?;
         }
-        for (column, cell) in row.as_slice().iter().enumerate() {
+        for (column, cell) in rows.row(at).iter().enumerate() {
             if column > 0 {
                 text.push_str(" ")?;
             }

@@ -12,6 +12,8 @@ mod ingest;
 #[cfg(test)]
 mod literal;
 #[cfg(test)]
+mod rows;
+#[cfg(test)]
 mod strings;
 #[cfg(test)]
 mod time;

@@ -1,7 +1,7 @@
-// Values, rows, schemas, tags and names of records.
+// Values, single rows, schemas, tags and names of records.
 use kq_value::{
-    Bytes, Dyn, DynBag, DynList, Field, LAST_MOMENT, Member, Memory, RecordId, Row, Rows, Schema,
-    Tags, Text, Ty, Value, ZoneOp, ZoneTest, ZoneTests,
+    Bytes, Dyn, DynBag, DynList, Field, LAST_MOMENT, Member, Memory, RecordId, Row, Schema, Tags,
+    Text, Ty, Value, ZoneOp, ZoneTest, ZoneTests,
 };
 use std::alloc::Global;
 use std::mem::size_of;
@@ -244,21 +244,6 @@ fn a_prefix_comes_first(rt: HostRuntime) -> Result<(), Fail> {
     let row = row(rt.alloc())?;
     let longer = longer_row(rt.alloc())?;
     assert!(rt; row.cmp(&longer).is_lt());
-    Ok(())
-}
-
-fn rows(alloc: Global) -> Result<Rows, Memory> {
-    let mut rows = Rows::new(alloc);
-    rows.push(row(alloc)?)?;
-    rows.push(longer_row(alloc)?)?;
-    Ok(rows)
-}
-
-#[test]
-fn rows_are_copied(rt: HostRuntime) -> Result<(), Fail> {
-    let rows = rows(rt.alloc())?;
-    let copy = rows.clone_in()?;
-    assert_eq!(rt; copy.len(), 2);
     Ok(())
 }
 

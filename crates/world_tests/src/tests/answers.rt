@@ -1,25 +1,34 @@
 // Answers as they are printed.
-ghost use Rattle.std.specs.Prelude.{IsTrue, All};
+ghost use Rattle.std.specs.Prelude.{IfOk, IsTrue, All};
 ghost use Rattle.kq_value.specs.Typed.{HasTypes};
 
 use kq_model::Answer;
 use kq_reply::render;
-use kq_value::{Dyn, DynBox, Field, Memory, Row, Rows, Schema, Text, Ty, Value};
+use kq_rows::Rows;
+use kq_value::{Dyn, DynBox, Field, Memory, Row, Schema, Text, Ty, Value};
 use std::alloc::Global;
+use std::process::Abort;
 
-fn is_typed(answer: &Answer) -> bool
-    ensures { IsTrue result → All (HasTypes answer.now.schema) answer.now.rows }
+fn has_types(alloc: Global, cells: &[Value], schema: &Schema) -> Result<bool, Memory>
+    ensures { IfOk result (λ has. IsTrue has → HasTypes schema.now cells.now) }
 {
-    for row in answer.rows.as_slice() {
-        if !row.has_types(&answer.schema) {
-            return false;
+    let row = Row::from_vec(Vec::from_clones(alloc, cells)?);
+    Ok(row.has_types(schema))
+}
+
+fn is_typed(alloc: Global, answer: &Answer) -> Result<bool, Memory>
+    ensures { IfOk result (λ typed. IsTrue typed → All (HasTypes answer.now.schema) answer.now.rows) }
+{
+    for i in 0..answer.rows.len() {
+        if !has_types(alloc, answer.rows.row(i), &answer.schema)? {
+            return Ok(false);
         }
     }
-    true
+    Ok(true)
 }
 
 fn prints(alloc: Global, answer: &Answer, want: &str) -> Result<bool, Memory> {
-    if !is_typed(answer) {
+    if !is_typed(alloc, answer)? {
         return Ok(false);
     }
     let text = render(alloc, answer)?;
@@ -46,7 +55,12 @@ fn text(alloc: Global, text: &str) -> Result<Value, Memory> {
     Ok(Value::Text(Text::from_str(alloc, text)?))
 }
 
-fn pairs(alloc: Global) -> Result<Rows, Memory> {
+fn add(rt: &impl Abort, rows: &mut Rows, mut row: Vec<Value>) -> Result<(), Memory> {
+    assert!(rt; rows.has_width(row.len()), "a row of another width");
+    rows.push_from(&mut row)
+}
+
+fn pairs(rt: &impl Abort, alloc: Global) -> Result<Rows, Memory> {
     let mut rows = Rows::new(alloc);
     for (k, v) in [
         (Some(2), Some(5)),
@@ -54,13 +68,13 @@ fn pairs(alloc: Global) -> Result<Rows, Memory> {
         (Some(1), Some(-3)),
         (Some(-1), Some(7)),
     ] {
-        rows.push(Row::from_vec(vec![in alloc; long(k), long(v)]?))?;
+        add(rt, &mut rows, vec![in alloc; long(k), long(v)]?)?;
     }
     Ok(rows)
 }
 
-fn longs(alloc: Global, ordered: bool) -> Result<Answer, Memory> {
-    let rows = pairs(alloc)?;
+fn longs(rt: &impl Abort, alloc: Global, ordered: bool) -> Result<Answer, Memory> {
+    let rows = pairs(rt, alloc)?;
     let schema = columns(alloc, &[("k", Ty::Long), ("v", Ty::Long)])?;
     Ok(Answer {
         schema,
@@ -71,7 +85,7 @@ fn longs(alloc: Global, ordered: bool) -> Result<Answer, Memory> {
 
 #[test]
 fn lines_stand_in_byte_order(rt: HostRuntime) -> Result<(), Memory> {
-    let answer = longs(rt.alloc(), false)?;
+    let answer = longs(&rt, rt.alloc(), false)?;
     let want = "rows 4\nk:long\tv:long\n-1\t7\n1\t-3\n10\tnull\n2\t5\n";
     let held = prints(rt.alloc(), &answer, want)?;
     assert!(rt; held);
@@ -80,7 +94,7 @@ fn lines_stand_in_byte_order(rt: HostRuntime) -> Result<(), Memory> {
 
 #[test]
 fn an_ordered_answer_keeps_its_order(rt: HostRuntime) -> Result<(), Memory> {
-    let answer = longs(rt.alloc(), true)?;
+    let answer = longs(&rt, rt.alloc(), true)?;
     let want = "rows 4\nk:long\tv:long\n2\t5\n10\tnull\n1\t-3\n-1\t7\n";
     let held = prints(rt.alloc(), &answer, want)?;
     assert!(rt; held);
@@ -101,18 +115,18 @@ fn an_answer_of_no_rows_has_its_header(rt: HostRuntime) -> Result<(), Memory> {
     Ok(())
 }
 
-fn texts(alloc: Global) -> Result<Rows, Memory> {
+fn texts(rt: &impl Abort, alloc: Global) -> Result<Rows, Memory> {
     let mut rows = Rows::new(alloc);
     for cell in ["a\u{1}", "a", ""] {
         let cell = text(alloc, cell)?;
-        rows.push(Row::from_vec(vec![in alloc; cell]?))?;
+        add(rt, &mut rows, vec![in alloc; cell]?)?;
     }
     Ok(rows)
 }
 
 #[test]
 fn a_line_comes_before_one_that_goes_on(rt: HostRuntime) -> Result<(), Memory> {
-    let rows = texts(rt.alloc())?;
+    let rows = texts(&rt, rt.alloc())?;
     let schema = columns(rt.alloc(), &[("s\\\t", Ty::Text)])?;
     let answer = Answer {
         schema,
@@ -134,7 +148,7 @@ fn dynamic(alloc: Global) -> Result<Value, Memory> {
 }
 
 // One row with a cell of each type but long.
-fn each_type(alloc: Global) -> Result<Rows, Memory> {
+fn each_type(rt: &impl Abort, alloc: Global) -> Result<Rows, Memory> {
     let name = text(alloc, "a\tb\\")?;
     let dynamic = dynamic(alloc)?;
     let moment = Value::Moment(638448840000000000);
@@ -147,12 +161,14 @@ fn each_type(alloc: Global) -> Result<Rows, Memory> {
         span,
         dynamic,
     ]?;
-    Ok(Rows::from_vec(vec![in alloc; Row::from_vec(cells)]?))
+    let mut rows = Rows::new(alloc);
+    add(rt, &mut rows, cells)?;
+    Ok(rows)
 }
 
 #[test]
 fn each_type_has_its_form(rt: HostRuntime) -> Result<(), Memory> {
-    let rows = each_type(rt.alloc())?;
+    let rows = each_type(&rt, rt.alloc())?;
     let schema = columns(
         rt.alloc(),
         &[
