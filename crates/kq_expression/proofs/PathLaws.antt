@@ -1,5 +1,6 @@
 -- The readers of paths and of signed operands are exact.
-use Rattle.std.proofs.Common.{◌≡◌, ℕ, suc, ◌≤◌, true, List, [], ◌∷◌, ◌++◌, ◌⊎◌, inl, inr, refl, sym, ◌∙◌, ap, subst, append-nil, arith}
+use Rattle.std.proofs.Common.{◌≡◌, ℕ, suc, ◌≤◌, true, List, [], ◌∷◌, ◌++◌, length, ◌⊎◌, inl, inr, refl, sym, ◌∙◌, ap, subst, append-nil, arith}
+use Rattle.kq_grammar.specs.declared.expression.Name.{Name}
 use Rattle.kq_grammar.specs.Expressions.{Text, name_text, spells, spells_step, spells_steps}
 use Rattle.kq_grammar.specs.Strengths.{binding, goes_on, step_sign}
 use Rattle.kq_grammar.specs.Trees.{Tree, literal, group, call, path, signed as signed_tree, compare, within, between, chain, OneStep, member, index, Steps, no_step, and_step}
@@ -11,9 +12,9 @@ use Rattle.kq_token.specs.declared.kind.Operator.TheVariants as operator
 use Rattle.kq_token.specs.declared.kind.Punctuation.TheVariants as sign
 use Rattle.kq_syntax.specs.Classes as k
 use Rattle.kq_syntax.specs.Classes.{Class, of}
-use Rattle.kq_syntax.specs.Forms.{Parser, one, some, ◌⨾◌, Then, Image, Many, starts, expect, both, ◌<$>◌, many, skip, closed}
+use Rattle.kq_syntax.specs.Forms.{Parser, one, some, ◌⨾◌, Then, Image, Many, starts, expect, both, ◌<$>◌, many, closed}
 use Rattle.kq_syntax.proofs.ClassLemmas.{apart, within as within_class, part}
-use Rattle.kq_syntax.proofs.Laws.{Exact, nothing, stops_nothing, both_exact, image_exact, same_exact, wider_exact, one_exact, choose_exact, many_exact, many_follows, skip_exact, skip_leads, closed_exact, closed_example}
+use Rattle.kq_syntax.proofs.Laws.{Exact, nothing, stops_nothing, both_less, both_exact, image_exact, same_exact, wider_exact, one_exact, choose_exact, many_exact, many_follows, closed_exact, closed_example}
 use Rattle.kq_expression.specs.Reading.{name, primary, step, postfix, signed}
 use Rattle.kq_expression.proofs.NameLaws.{example_of, starts_part, starts_apart, one_leads, front_leads, name_exact, name_example}
 use Rattle.kq_expression.proofs.LevelLaws.{at, at_example, order, too_tight}
@@ -34,11 +35,17 @@ closing = example_of (kind.Punctuation sign.CloseBracket)
 abbrev index_text : Tree → Text
 index_text e = spells e ⨾ some (of k.close_bracket)
 
+abbrev member_parts : Symbol × Name → Text
+member_parts = Then (one (of k.dot)) name_text
+
 abbrev member_form : OneStep → Text
-member_form = Image member (λ n. some (of k.dot) ⨾ name_text n)
+member_form = Image (λ (p : Symbol × Name). member p.0 p.1) member_parts
+
+abbrev index_parts : Symbol × Tree → Text
+index_parts = Then (one (of k.open_bracket)) index_text
 
 abbrev index_form : OneStep → Text
-index_form = Image index (λ e. some (of k.open_bracket) ⨾ index_text e)
+index_form = Image (λ (p : Symbol × Tree). index p.0 p.1) index_parts
 
 to_member : (x : OneStep) (u : List Symbol) → member_form x u → spells_step x u
 to_member x u s = subst (λ w. spells_step w u) (sym s.is) s.spelled
@@ -47,18 +54,18 @@ to_index : (x : OneStep) (u : List Symbol) → index_form x u → spells_step x 
 to_index x u s = subst (λ w. spells_step w u) (sym s.is) s.spelled
 
 step_cases : (x : OneStep) (u : List Symbol) → spells_step x u → member_form x u ⊎ index_form x u
-step_cases (member n) u s = inl (record { value = n; is = refl; spelled = s })
-step_cases (index e) u s = inr (record { value = e; is = refl; spelled = s })
+step_cases (member t n) u s = inl (record { value = (t, n); is = refl; spelled = s })
+step_cases (index t e) u s = inr (record { value = (t, e); is = refl; spelled = s })
 
 member_leads : (x : OneStep) (u z : List Symbol) → member_form x u → starts (of k.dot) (u ++ z) ≡ true
-member_leads x u z s = skip_leads (of k.dot) a_dot refl name_text nothing s.value u z s.spelled
+member_leads x u z s = front_leads (of k.dot) u s.spelled.left s.spelled.right z s.spelled.joined (λ w. one_leads k.dot s.value.0 s.spelled.left w s.spelled.before)
 
 index_leads : (x : OneStep) (u z : List Symbol) → index_form x u → starts (of k.open_bracket) (u ++ z) ≡ true
-index_leads x u z s = skip_leads (of k.open_bracket) opening refl index_text nothing s.value u z s.spelled
+index_leads x u z s = front_leads (of k.open_bracket) u s.spelled.left s.spelled.right z s.spelled.joined (λ w. one_leads k.open_bracket s.value.0 s.spelled.left w s.spelled.before)
 
 step_leads : (x : OneStep) (u z : List Symbol) → spells_step x u → starts (of step_sign) (u ++ z) ≡ true
-step_leads (member n) u z s = starts_part k.dot step_sign (part k.dot step_sign refl) (u ++ z) (skip_leads (of k.dot) a_dot refl name_text nothing n u z s)
-step_leads (index e) u z s = starts_part k.open_bracket step_sign (part k.open_bracket step_sign refl) (u ++ z) (skip_leads (of k.open_bracket) opening refl index_text nothing e u z s)
+step_leads (member t n) u z s = starts_part k.dot step_sign (part k.dot step_sign refl) (u ++ z) (front_leads (of k.dot) u s.left s.right z s.joined (λ w. one_leads k.dot t s.left w s.before))
+step_leads (index t e) u z s = starts_part k.open_bracket step_sign (part k.open_bracket step_sign refl) (u ++ z) (front_leads (of k.open_bracket) u s.left s.right z s.joined (λ w. one_leads k.open_bracket t s.left w s.before))
 
 -- ---- steps
 
@@ -148,11 +155,11 @@ module _ (rec : Parser Symbol Tree) (f n : ℕ) (le : suc n ≤ f) (rec_exact : 
       choose_exact (of k.dot) member_form index_form spells_step (of (goes_on 7)) to_member to_index step_cases
       (λ x u z s stops. member_leads x u z s)
       (λ x u z s stops. starts_apart k.open_bracket k.dot (apart k.open_bracket k.dot refl) (u ++ z) (index_leads x u z s))
-      (suc n) (member <$> skip (of k.dot) name) (index <$> skip (of k.open_bracket) (closed rec (of k.close_bracket)))
-      (image_exact member (λ n. some (of k.dot) ⨾ name_text n) (of (goes_on 7)) (suc n) (skip (of k.dot) name)
-      (skip_exact (of k.dot) a_dot refl name_text (of (goes_on 7)) (suc n) n (omega arith) name (name_exact (of (goes_on 7)) n) name_example))
-      (image_exact index (λ e. some (of k.open_bracket) ⨾ index_text e) (of (goes_on 7)) (suc n) (skip (of k.open_bracket) (closed rec (of k.close_bracket)))
-      (skip_exact (of k.open_bracket) opening refl index_text (of (goes_on 7)) (suc n) n (omega arith) (closed rec (of k.close_bracket))
+      (suc n) ((λ p. member p.0 p.1) <$> both (expect (of k.dot)) name) ((λ p. index p.0 p.1) <$> both (expect (of k.open_bracket)) (closed rec (of k.close_bracket)))
+      (image_exact (λ (p : Symbol × Name). member p.0 p.1) member_parts (of (goes_on 7)) (suc n) (both (expect (of k.dot)) name)
+      (both_exact (one (of k.dot)) name_text nothing (of (goes_on 7)) (λ y v z s stops. stops_nothing (v ++ z)) (suc n) (expect (of k.dot)) name (one_exact (of k.dot) a_dot refl nothing (suc n)) (name_exact (of (goes_on 7)) (suc n)) name_example))
+      (image_exact (λ (p : Symbol × Tree). index p.0 p.1) index_parts (of (goes_on 7)) (suc n) (both (expect (of k.open_bracket)) (closed rec (of k.close_bracket)))
+      (both_less (one (of k.open_bracket)) index_text nothing (of (goes_on 7)) (λ y v z s stops. stops_nothing (v ++ z)) (suc n) n (λ t u s. omega (arith, ap length s.1)) (expect (of k.open_bracket)) (closed rec (of k.close_bracket)) (one_exact (of k.open_bracket) opening refl nothing (suc n))
       (closed_exact (of k.close_bracket) closing refl spells (of (goes_on 0)) (of (goes_on 7)) (apart k.close_bracket (goes_on 0) refl) n rec rec_exact)
       (closed_example (of k.close_bracket) closing refl spells (of (goes_on 0)) one_spelled)))
 

@@ -158,10 +158,10 @@ mutual
       (no_semicolon_in_links l ls s.right s.after)
 
   no_semicolon_in_step : (x : OneStep) (u : List Symbol) → spells_step x u → free u
-  no_semicolon_in_step (member n) u s =
-      free_joined u s.left s.right s.joined (free_some k.dot (apart k.dot k.semicolon refl) s.left s.before) (no_semicolon_in_name n s.right s.after)
-  no_semicolon_in_step (index e) u s =
-      free_joined u s.left s.right s.joined (free_some k.open_bracket (apart k.open_bracket k.semicolon refl) s.left s.before)
+  no_semicolon_in_step (member t n) u s =
+      free_joined u s.left s.right s.joined (free_one k.dot (apart k.dot k.semicolon refl) t s.left s.before) (no_semicolon_in_name n s.right s.after)
+  no_semicolon_in_step (index t e) u s =
+      free_joined u s.left s.right s.joined (free_one k.open_bracket (apart k.open_bracket k.semicolon refl) t s.left s.before)
       (free_joined s.right s.after.left s.after.right s.after.joined (no_semicolon e s.after.left s.after.before)
       (free_some k.close_bracket (apart k.close_bracket k.semicolon refl) s.after.right s.after.after))
 

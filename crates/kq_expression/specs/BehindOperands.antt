@@ -1,13 +1,18 @@
 -- What stands behind an operand that was read before: the relations of the code, and their trees.
-use Rattle.std.specs.Prelude.{Vec, Some, map}
+use Rattle.std.specs.Prelude.{ℕ, List, Result, Vec, Some, map}
 use Rattle.std.specs.declared.alloc.Global.{Global}
 use Rattle.kq_grammar.specs.declared.expression.Expression.{Expression}
 use Rattle.kq_grammar.specs.declared.expression.Interval.{Interval}
 use Rattle.kq_grammar.specs.declared.expression.Link.{Link}
-use Rattle.kq_grammar.specs.Trees.{Tree}
-use Rattle.kq_grammar.specs.Views.{tree_of, trees_of, link_of, interval_of}
+use Rattle.kq_grammar.specs.declared.expression.Step.{Step}
+use Rattle.kq_grammar.specs.Strengths.{step_sign}
+use Rattle.kq_grammar.specs.Trees.{Tree, OneStep}
+use Rattle.kq_grammar.specs.Views.{tree_of, trees_of, link_of, interval_of, step_of}
+use Rattle.kq_syntax.specs.declared.cursor.Stop.{Stop}
 use Rattle.kq_syntax.specs.declared.kind.Symbol.{Symbol}
-use Rattle.kq_syntax.specs.Forms.{Parser, ◌<$>◌}
+use Rattle.kq_syntax.specs.Classes.{of}
+use Rattle.kq_syntax.specs.Forms.{Parser, ◌<$>◌, many, with_front}
+use Rattle.kq_syntax.specs.Gives.{Gives}
 use Rattle.kq_expression.specs.Reading.{Relation, compared, listed, ranged, related_of}
 
 abbrev pub related : Tree → Parser Symbol Relation → Parser Symbol Tree
@@ -21,3 +26,8 @@ listed_of p = listed (link_of p.0).0 (link_of p.0).1 (trees_of (map tree_of p.1.
 
 abbrev pub ranged_of : Interval → Relation
 ranged_of i = ranged (interval_of i).operator (interval_of i).low (interval_of i).high
+
+-- The steps that come next are put behind those that were found before.
+abbrev pub GivesSteps : Parser Symbol OneStep → ℕ → List Step → List Symbol → Result (Vec Step Global) Stop → List Symbol → Type 0
+GivesSteps step turns found old result new =
+    Gives (λ v. map step_of v.items) (with_front (map step_of found) (many (of step_sign) step turns old)) result new

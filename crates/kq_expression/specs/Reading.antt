@@ -65,7 +65,7 @@ module _ (rec : Parser Symbol Tree) (n : ℕ) where
   primary = choose (of k.open_parenthesis) grouped (choose (of k.open_bracket) (name_tree <$> bracketed_name) (choose (of k.any_word) worded (literal <$> expect (of k.literal))))
 
   unfoldable pub step : Parser Symbol OneStep
-  step = choose (of k.dot) (member <$> skip (of k.dot) name) (index <$> skip (of k.open_bracket) (closed rec (of k.close_bracket)))
+  step = choose (of k.dot) ((λ p. member p.0 p.1) <$> both (expect (of k.dot)) name) ((λ p. index p.0 p.1) <$> both (expect (of k.open_bracket)) (closed rec (of k.close_bracket)))
 
   unfoldable pub postfix : Parser Symbol Tree
   postfix = (λ p. path_of p.0 p.1) <$> both primary (many (of step_sign) step n)

@@ -1,11 +1,12 @@
 // Paths into dynamics, and signs before them.
-ghost use Rattle.std.specs.Prelude.{◌≡◌, map};
+ghost use Rattle.std.specs.Prelude.{◌≡◌};
+ghost use Rattle.kq_expression.specs.BehindOperands.{GivesSteps};
 ghost use Rattle.kq_expression.specs.Nests.{Nests};
 ghost use Rattle.kq_expression.specs.Reading as spec;
 ghost use Rattle.kq_grammar.specs.Strengths.{step_sign};
 ghost use Rattle.kq_grammar.specs.Views.{tree_of, step_of};
 ghost use Rattle.kq_syntax.specs.Classes.{of};
-ghost use Rattle.kq_syntax.specs.Forms.{many, starts, with_front};
+ghost use Rattle.kq_syntax.specs.Forms.{starts};
 ghost use Rattle.kq_syntax.specs.Gives.{Gives};
 
 use crate::names::read_name;
@@ -29,19 +30,19 @@ impl<F: Fn(Global, &mut Cursor<'_>, usize) -> Result<Expression, Stop>> Reader<F
         ensures { Gives step_of (spec.step (spec.expression self.now.budget) self.now.turns cursor.old) result cursor.new }
     {
         if cursor.sees(Class::Sign(Punctuation::Dot)) {
-            cursor.expect(Class::Sign(Punctuation::Dot))?;
-            return Ok(member(read_name(cursor)?));
+            let dot = cursor.expect(Class::Sign(Punctuation::Dot))?;
+            return Ok(member(dot, read_name(cursor)?));
         }
-        cursor.expect(Class::Sign(Punctuation::OpenBracket))?;
+        let bracket = cursor.expect(Class::Sign(Punctuation::OpenBracket))?;
         let inner = Nested(self).read(cursor)?;
         cursor.expect(Class::Sign(Punctuation::CloseBracket))?;
-        Ok(index(inner))
+        Ok(index(bracket, inner))
     }
 
     /// The steps that follow, behind those that were found before.
     fn steps(&self, cursor: &mut Cursor<'_>, mut found: Vec<Step>) -> Result<Vec<Step>, Stop>
         requires { Nests self.now.budget (F.pre self.now.expression) (F.post self.now.expression) }
-        ensures { Gives (λ v. map step_of v.items) (with_front (map step_of found.items) (many (of step_sign) (spec.step (spec.expression self.now.budget) self.now.turns) self.now.turns cursor.old)) result cursor.new }
+        ensures { GivesSteps (spec.step (spec.expression self.now.budget) self.now.turns) self.now.turns found.items cursor.old result cursor.new }
     {
         for _turn in 0..self.turns {
             if !sees_step(cursor) {

@@ -50,8 +50,8 @@ abbrev mutual
   spells_links l (and_link t e ls) = (one (of (operators l)) t ⨾ at_least (strength l + 1) e (spells e)) ⨾ spells_links l ls
 
   pub spells_step : OneStep → Text
-  spells_step (member n) = some (of k.dot) ⨾ name_text n
-  spells_step (index e) = some (of k.open_bracket) ⨾ spells e ⨾ some (of k.close_bracket)
+  spells_step (member t n) = one (of k.dot) t ⨾ name_text n
+  spells_step (index t e) = one (of k.open_bracket) t ⨾ spells e ⨾ some (of k.close_bracket)
 
   pub spells_steps : Steps → Text
   spells_steps no_step = empty

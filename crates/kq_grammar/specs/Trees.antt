@@ -38,8 +38,8 @@ mutual
     and_link : Symbol → Tree → Links → Links
 
   pub data OneStep : Type 0 where
-    member : Name → OneStep
-    index : Tree → OneStep
+    member : Symbol → Name → OneStep
+    index : Symbol → Tree → OneStep
 
   pub data Steps : Type 0 where
     no_step : Steps

@@ -58,8 +58,8 @@ abbrev pub one_interval : Interval-F Tree OneStep Ends (Symbol × Tree) → Ends
 one_interval r = record { operator = r.operator; low = r.low; high = r.high }
 
 abbrev pub one_step : Step-F Tree OneStep Ends (Symbol × Tree) → OneStep
-one_step (Step-F.Member n) = member n
-one_step (Step-F.Index e) = index e
+one_step (Step-F.Member t n) = member t n
+one_step (Step-F.Index t e) = index t e
 
 abbrev pub tree_of : Expression → Tree
 tree_of = fold-Expression Tree OneStep Ends (Symbol × Tree) one_level one_step one_interval one_link

@@ -40,16 +40,16 @@ pub fn link(operator: Symbol, operand: Expression) -> Link
     Link { operator, operand }
 }
 
-pub fn member(name: Name) -> Step
-    ensures { step_of result ≡ the_member name }
+pub fn member(dot: Symbol, name: Name) -> Step
+    ensures { step_of result ≡ the_member dot name }
 {
-    Step::Member(name)
+    Step::Member(dot, name)
 }
 
-pub fn index(inner: Expression) -> Step
-    ensures { step_of result ≡ the_index (tree_of inner) }
+pub fn index(bracket: Symbol, inner: Expression) -> Step
+    ensures { step_of result ≡ the_index bracket (tree_of inner) }
 {
-    Step::Index(inner)
+    Step::Index(bracket, inner)
 }
 
 /// The operand alone where there is no step.

@@ -69,8 +69,8 @@ pub struct Interval {
 #[cycle(expression)]
 #[derive(Drop)]
 pub enum Step {
-    /// `.name`
-    Member(Name),
-    /// `[index]`
-    Index(Expression),
+    /// `.` and the name.
+    Member(Symbol, Name),
+    /// In brackets, of which the symbol is the first.
+    Index(Symbol, Expression),
 }

@@ -11,4 +11,5 @@ pub mod TableLemmas
 pub mod TestLemmas
 pub mod TokenLemmas
 pub mod UniqueTokens
+pub mod WholeLemmas
 pub mod WordLemmas

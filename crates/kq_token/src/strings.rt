@@ -1,5 +1,6 @@
 // Strings: in quotes, verbatim and long.
 ghost use Rattle.std.specs.Prelude.{◌≡◌, ◌≤◌, false, length, IfSome};
+ghost use Rattle.kq_token.specs.Delimited.{closes, is_long_string, is_string, is_verbatim, is_verbatim_quoted, is_verbatim_string, step};
 ghost use Rattle.kq_token.specs.Scanning.{verbatim_len, string_at, verbatim_at, long_string_at};
 
 use crate::delimited::{Within, closing_len, is_quote};
@@ -55,4 +56,61 @@ pub fn long_string(bytes: &[u8]) -> Option<(TokenKind, usize)>
     }
     let n = closing_len(Within::Ticked, &bytes[3..])?;
     Some((TokenKind::LongString, n + 3))
+}
+
+// Whether the last of the bytes is the one that closes.
+#[tactic(auto, using(crate::proofs::WholeLemmas::whole_lemmas))]
+fn closes(start: Within, bytes: &[u8]) -> bool
+    ensures { result ≡ closes step start bytes.now }
+{
+    match closing_len(start, bytes) {
+        Some(n) => n == bytes.len(),
+        None => false,
+    }
+}
+
+#[tactic(auto, using(crate::proofs::WholeLemmas::whole_lemmas))]
+fn is_verbatim(quote: u8, bytes: &[u8]) -> bool
+    ensures { result ≡ is_verbatim quote false bytes.now }
+{
+    match verbatim_len(quote, bytes) {
+        Some(n) => n == bytes.len(),
+        None => false,
+    }
+}
+
+/// Whether these very bytes are a string with escapes.
+pub fn is_string(bytes: &[u8]) -> bool
+    ensures { result ≡ is_string bytes.now }
+{
+    match bytes {
+        [] => false,
+        [quote, others @ ..] => is_quote(*quote) && closes(Within::Quoted(*quote), others),
+    }
+}
+
+fn is_verbatim_quoted(bytes: &[u8]) -> bool
+    ensures { result ≡ is_verbatim_quoted bytes.now }
+{
+    match bytes {
+        [] => false,
+        [quote, others @ ..] => is_quote(*quote) && is_verbatim(*quote, others),
+    }
+}
+
+/// Whether these very bytes are a verbatim string.
+pub fn is_verbatim_string(bytes: &[u8]) -> bool
+    ensures { result ≡ is_verbatim_string bytes.now }
+{
+    match bytes {
+        [] => false,
+        [at, others @ ..] => *at == b'@' && is_verbatim_quoted(others),
+    }
+}
+
+/// Whether these very bytes are a long string.
+pub fn is_long_string(bytes: &[u8]) -> bool
+    ensures { result ≡ is_long_string bytes.now }
+{
+    bytes.starts_with(b"```") && closes(Within::Ticked, &bytes[3..])
 }
