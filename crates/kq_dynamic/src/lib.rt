@@ -7,4 +7,4 @@ mod write;
 
 pub use members::{at_index, at_key};
 pub use read::read_dyn;
-pub use write::put_dyn;
+pub use write::{dyn_text, put_dyn};

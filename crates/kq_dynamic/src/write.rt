@@ -1,5 +1,5 @@
 // Printing.
-ghost use Rattle.std.specs.Prelude.{◌≡◌, ◌≤◌, ◌<◌, ◌++◌, IfOk, OnOk, OnErr, Some};
+ghost use Rattle.std.specs.Prelude.{◌≡◌, ◌≤◌, ◌<◌, ◌++◌, IfOk, OnOk, OnErr, Some, string_bytes};
 ghost use Rattle.serde_json.specs.Data.{depth, items_depth, members_depth};
 ghost use Rattle.serde_json.specs.View.{view, items_view, members_view};
 ghost use Rattle.kq_value.specs.Seen.{tree_of};
@@ -18,6 +18,14 @@ pub fn put_dyn(alloc: Global, value: &Dyn, out: &mut Bytes) -> Result<(), Memory
     let json = value_from(alloc, value)?;
     let text = json.to_vec(alloc)?;
     out.extend(text.as_slice())
+}
+
+/// A dynamic as compact JSON, a bag's keys in byte order.
+pub fn dyn_text(alloc: Global, value: &Dyn) -> Result<String, Memory>
+    ensures { IfOk result (λ s. string_bytes s ≡ dynamic_text (tree_of value.now)) }
+{
+    let json = value_from(alloc, value)?;
+    json.to_string(alloc)
 }
 
 #[cycle(write)]
