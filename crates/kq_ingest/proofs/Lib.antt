@@ -1,7 +1,8 @@
 pub mod Faults
 pub mod HasRead
-pub mod Longs
 pub mod Records
 pub mod RowLemmas
 mod Stops
+pub mod TagLemmas
 pub mod Taking
+pub mod Texts

@@ -1,19 +1,14 @@
 -- What an ingestion gives: the rows of its records, or the first fault.
 use Rattle.std.specs.Prelude.{◌≡◌, ℕ, ◌+◌, ◌≤◌, ⊤, Bool, true, false, ◌&&◌, if◌then◌else◌, nat_lt, nat_le, List, [], ◌∷◌, drop, length, map, Option, Some, None}
-use Rattle.std.specs.List.{All, position_or_len}
+use Rattle.std.specs.List.{position_or_len}
 use Rattle.csv.specs.Reading.{default_config, records, strip_bom}
 use Rattle.kq_written.specs.Cells.{cell_of}
 use Rattle.kq_value.specs.Typed.{missing_of}
 use Rattle.kq_value.specs.declared.ty.Ty.{Ty}
-use Rattle.kq_value.specs.declared.ty.Ty.TheVariants.{Long}
 use Rattle.kq_value.specs.declared.schema.Field.{Field}
 use Rattle.kq_value.specs.declared.value.Value.{Value}
 use Rattle.kq_ingest.specs.declared.fault.IngestFault.{IngestFault}
 use Rattle.kq_ingest.specs.declared.fault.IngestFault.TheVariants.{WideRow, Full, Memory}
-
--- all columns are long
-abbrev pub AreLongs : List Field → Type 0
-AreLongs schema = All (λ f. f.ty ≡ Long) schema
 
 -- the records of a body, each as the texts of its cells: a byte order mark at the start is dropped, and an empty line is no record
 abbrev pub records_of : List ℕ → List (List (List ℕ))

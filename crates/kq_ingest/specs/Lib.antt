@@ -1,3 +1,3 @@
-pub mod Blanks
 pub mod Ingestion
 pub mod Reading
+pub mod TagTexts

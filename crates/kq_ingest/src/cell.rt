@@ -1,60 +1,16 @@
 // The text of a cell, read as a value.
-ghost use Rattle.std.specs.Prelude.{◌≡◌, option_map};
-ghost use Rattle.kq_written.specs.Numerals.{long_of};
-ghost use Rattle.kq_written.specs.Cells.{cell_of, is_blank as blank, trimmed};
+ghost use Rattle.std.specs.Prelude.{◌≡◌, ◌≢◌, IfOk, IsOk, option_map};
+ghost use Rattle.kq_written.specs.Cells.{cell_of};
 ghost use Rattle.kq_value.specs.declared.ty.Ty.TheVariants as types;
-ghost use Rattle.kq_ingest.specs.Blanks.{without_leading_blanks, without_trailing_blanks};
 ghost use Rattle.kq_ingest.specs.Ingestion.{cell_in};
 
-use kq_value::{Ty, Value};
-use std::str;
+use kq_dynamic::read_dyn;
+use kq_numerals::{read_bool, read_int, read_long, trim};
+use kq_time::{read_datetime, read_timespan};
+use kq_value::{Dyn, Memory, Text, Ty, Value};
+use std::alloc::Global;
 
-fn is_blank(byte: u8) -> bool
-    ensures { result ≡ blank byte }
-{
-    byte == b' ' || byte == b'\t'
-}
-
-fn trim_start(text: &[u8]) -> &[u8]
-    ensures { result.now ≡ without_leading_blanks text.now }
-{
-    let mut start = 0;
-    while start < text.len() && is_blank(text[start]) {
-        start += 1;
-    }
-    &text[start..]
-}
-
-fn trim_end(text: &[u8]) -> &[u8]
-    ensures { result.now ≡ without_trailing_blanks text.now }
-{
-    let mut end = text.len();
-    while end > 0 && is_blank(text[end - 1]) {
-        end -= 1;
-    }
-    &text[..end]
-}
-
-fn trim(text: &[u8]) -> &[u8]
-    ensures { result.now ≡ trimmed blank text.now }
-{
-    trim_end(trim_start(text))
-}
-
-// An optional minus and digits: what `parse` reads, but for a plus.
-fn read_long(text: &[u8]) -> Option<i64>
-    ensures { result ≡ long_of text.now }
-{
-    if text.starts_with(b"+") {
-        return None;
-    }
-    match str::from_utf8(text) {
-        Ok(text) => text.parse().ok(),
-        Err(_) => None,
-    }
-}
-
-fn long_cell(text: &[u8]) -> Value
+fn long_cell(text: &str) -> Value
     ensures { result ≡ cell_of types.Long text.now }
 {
     match read_long(trim(text)) {
@@ -63,13 +19,76 @@ fn long_cell(text: &[u8]) -> Value
     }
 }
 
-/// The cell of a column of this type, from the text in its place, if there is one.
-pub(crate) fn read_cell(ty: Ty, text: Option<&[u8]>) -> Value
-    requires { ty ≡ types.Long }
-    ensures { result ≡ cell_in ty (option_map (λ t. t.now) text.entry) }
+fn int_cell(text: &str) -> Value
+    ensures { result ≡ cell_of types.Int text.now }
+{
+    match read_int(trim(text)) {
+        Some(number) => Value::Int(number),
+        None => Value::Null(Ty::Int),
+    }
+}
+
+fn bool_cell(text: &str) -> Value
+    ensures { result ≡ cell_of types.Bool text.now }
+{
+    match read_bool(trim(text)) {
+        Some(truth) => Value::Bool(truth),
+        None => Value::Null(Ty::Bool),
+    }
+}
+
+fn moment_cell(text: &str) -> Value
+    ensures { result ≡ cell_of types.Moment text.now }
+{
+    match read_datetime(trim(text)) {
+        Some(ticks) => Value::Moment(ticks),
+        None => Value::Null(Ty::Moment),
+    }
+}
+
+fn span_cell(text: &str) -> Value
+    ensures { result ≡ cell_of types.Span text.now }
+{
+    match read_timespan(trim(text)) {
+        Some(ticks) => Value::Span(ticks),
+        None => Value::Null(Ty::Span),
+    }
+}
+
+fn dynamic_cell(alloc: Global, text: &str) -> Result<Value, Memory>
+    ensures { IfOk result (λ cell. cell ≡ cell_of types.Dynamic text.now) }
+{
+    if text.is_empty() {
+        return Value::dynamic(alloc, Dyn::Null);
+    }
+    match read_dyn(alloc, text)? {
+        Some(dynamic) => Value::dynamic(alloc, dynamic),
+        None => Value::dynamic(alloc, Dyn::Text(Text::from_str(alloc, text)?)),
+    }
+}
+
+fn cell_from(alloc: Global, ty: Ty, text: &str) -> Result<Value, Memory>
+    ensures value { IfOk result (λ cell. cell ≡ cell_of ty text.now) }
+    ensures numbers { ty ≢ types.Text → ty ≢ types.Dynamic → IsOk result }
+{
+    match ty {
+        Ty::Long => Ok(long_cell(text)),
+        Ty::Int => Ok(int_cell(text)),
+        Ty::Text => Ok(Value::Text(Text::from_str(alloc, text)?)),
+        Ty::Bool => Ok(bool_cell(text)),
+        Ty::Moment => Ok(moment_cell(text)),
+        Ty::Span => Ok(span_cell(text)),
+        Ty::Dynamic => dynamic_cell(alloc, text),
+    }
+}
+
+/// The cell of a column of this type, from the text in its place, if there is one. Only a string and a dynamic take memory.
+pub(crate) fn read_cell(alloc: Global, ty: Ty, text: Option<&str>) -> Result<Value, Memory>
+    ensures value { IfOk result (λ cell. cell ≡ cell_in ty (option_map (λ t. t.now) text.entry)) }
+    ensures numbers { ty ≢ types.Text → ty ≢ types.Dynamic → IsOk result }
 {
     match text {
-        Some(text) => long_cell(text),
-        None => Value::Null(ty),
+        Some(text) => cell_from(alloc, ty, text),
+        None => Value::missing(alloc, ty),
     }
 }

@@ -1,54 +1,46 @@
 // The records of a body, read as rows.
-ghost use Rattle.std.specs.Prelude.{◌≡◌, ◌≢◌, ◌↔◌, IsTrue, ◌<◌, ◌^◌, [], ◌∷◌, ◌++◌, true, false, length, Some, None, IfOk, IfErr, OnOk};
+ghost use Rattle.std.specs.Prelude.{◌≡◌, ◌≢◌, ◌<◌, ◌^◌, [], ◌∷◌, ◌++◌, true, false, length, Some, None, IfOk, IfErr, OnOk};
 ghost use Rattle.std.specs.List.{All};
 ghost use Rattle.csv.specs.Reading.{ReadRecord, error_kind, stops_reader};
 ghost use Rattle.csv.specs.Records.{fields_of};
 ghost use Rattle.kq_value.specs.Typed.{HasTypes};
-ghost use Rattle.kq_ingest.specs.Reading.{IsPlain, known};
-ghost use Rattle.kq_ingest.specs.Ingestion.{AreLongs, IsFaultAt, first_fault, is_wide, row_of, rows_of};
+ghost use Rattle.kq_ingest.specs.Reading.{HasText, IsPlain, known};
+ghost use Rattle.kq_ingest.specs.Ingestion.{IsFaultAt, first_fault, is_wide, row_of, rows_of};
 
 use crate::cell::read_cell;
 use crate::fault::IngestFault;
-use csv::{ByteRecord, Error, ErrorKind, Reader, ReaderBuilder};
+use csv::{Error, ErrorKind, Reader, ReaderBuilder, StringRecord};
 use kq_rows::Rows;
-use kq_value::{Memory, Schema, Ty, Value};
+use kq_value::{Memory, Schema, Value};
 use std::alloc::Global;
 
-/// Whether all columns are long, as `read_rows` asks of them.
-pub fn are_longs(schema: &Schema) -> bool
-    ensures { IsTrue result ↔ AreLongs schema.now }
-{
-    for field in schema.as_slice() {
-        if !field.ty.same(Ty::Long) {
-            return false;
-        }
-    }
-    true
-}
-
 // Fills a row that has no cells yet with those of a record.
-fn fill_row(row: &mut Vec<Value>, cells: &ByteRecord, schema: &Schema) -> Result<(), Memory>
-    requires longs { AreLongs schema.now }
-    requires empty { row.old.items ≡ [] }
+fn fill_row(
+    alloc: Global,
+    row: &mut Vec<Value>,
+    cells: &StringRecord,
+    schema: &Schema,
+) -> Result<(), Memory>
+    requires { row.old.items ≡ [] }
     ensures { OnOk result (row.new.items ≡ row_of schema.now (fields_of cells.now)) }
 {
     let fields = schema.as_slice();
     for i in 0..fields.len() {
-        row.push(read_cell(fields[i].ty, cells.get(i)))?;
+        row.push(read_cell(alloc, fields[i].ty, cells.get(i))?)?;
     }
     Ok(())
 }
 
 // Adds the record's row, unless it is too wide or one row too many. The row is read into `row` and moves on from there.
 fn add_row(
+    alloc: Global,
     rows: &mut Rows,
     row: &mut Vec<Value>,
-    cells: &ByteRecord,
+    cells: &StringRecord,
     schema: &Schema,
     skip_first: bool,
     limit: u64,
 ) -> Result<(), IngestFault>
-    requires longs { AreLongs schema.now }
     requires typed { All (HasTypes schema.now) rows.old }
     requires empty { row.old.items ≡ [] }
     ensures added { OnOk result (rows.new ≡ rows.old ++ row_of schema.now (fields_of cells.now) ∷ []) }
@@ -66,12 +58,12 @@ fn add_row(
     if before >= limit {
         return Err(IngestFault::Full { limit });
     }
-    fill_row(row, cells, schema)?;
+    fill_row(alloc, row, cells, schema)?;
     rows.push_from(row)?;
     Ok(())
 }
 
-// Records of any number of cells, as bytes, are refused for want of memory alone. A slice has no error of its own to give, but
+// Records of any number of cells, from a text, are refused for want of memory alone. A slice has no error of its own to give, but
 // the contract of the reader of CSV doesn't say so.
 fn reading_fault(error: &Error) -> IngestFault
     requires { stops_reader (error_kind error.now) ≡ true }
@@ -84,13 +76,14 @@ fn reading_fault(error: &Error) -> IngestFault
 }
 
 // Reads the next record over the one before, and says whether there was one.
-fn read_record(reader: &mut Reader<&[u8]>, cells: &mut ByteRecord) -> Result<bool, IngestFault>
-    requires { IsPlain reader.old }
+fn read_record(reader: &mut Reader<&[u8]>, cells: &mut StringRecord) -> Result<bool, IngestFault>
+    requires plain { IsPlain reader.old }
+    requires text { HasText reader.old }
     ensures read { IfOk result (λ found. ReadRecord known reader.old reader.new found (fields_of cells.new)) }
     ensures plain { OnOk result (IsPlain reader.new) }
     ensures fault { IfErr result (λ e. e ≡ IngestFault.Memory) }
 {
-    match reader.read_byte_record(cells) {
+    match reader.read_record(cells) {
         Ok(found) => Ok(found),
         Err(error) => Err(reading_fault(&error)),
     }
@@ -102,12 +95,11 @@ fn read_record(reader: &mut Reader<&[u8]>, cells: &mut ByteRecord) -> Result<boo
 /// An error is the first in the order of the records, unless it is want of memory.
 pub fn read_rows(
     alloc: Global,
-    body: &[u8],
+    body: &str,
     schema: &Schema,
     skip_first: bool,
     limit: u64,
 ) -> Result<Rows, IngestFault>
-    requires { AreLongs schema.now }
     ensures rows { IfOk result (λ rows. rows ≡ rows_of schema.now skip_first body.now) }
     ensures typed { IfOk result (λ rows. All (HasTypes schema.now) rows) }
     ensures sound { OnOk result (first_fault schema.now skip_first limit body.now ≡ None) }
@@ -116,8 +108,8 @@ pub fn read_rows(
     let mut reader = ReaderBuilder::new()
         .has_headers(false)
         .flexible(true)
-        .from_reader(alloc, body);
-    let mut cells = ByteRecord::new(alloc);
+        .from_reader(alloc, body.as_bytes());
+    let mut cells = StringRecord::new(alloc);
     let mut rows = Rows::new(alloc);
     let mut row = Vec::new(alloc);
     let mut skip = skip_first;
@@ -125,7 +117,9 @@ pub fn read_rows(
         if skip {
             skip = false;
         } else {
-            add_row(&mut rows, &mut row, &cells, schema, skip_first, limit)?;
+            add_row(
+                alloc, &mut rows, &mut row, &cells, schema, skip_first, limit,
+            )?;
         }
     }
     Ok(rows)

@@ -3,8 +3,9 @@ use Rattle.std.proofs.lemmas.Result.{err_from_is_err_and}
 use Rattle.csv.specs.Reading.{Reached, strip_bom}
 use Rattle.csv.specs.Records.{fields_of}
 use Rattle.kq_ingest.specs.Ingestion.{records_of}
-use Rattle.kq_ingest.proofs.HasRead.{read-all, read-first, read-more}
+use Rattle.kq_ingest.proofs.HasRead.{left-text, read-all, read-first, read-more}
 use Rattle.kq_ingest.proofs.RowLemmas.{rows_typed}
+use Rattle.kq_ingest.proofs.Texts.{strip_bom-text}
 use Rattle.kq_ingest.proofs.Taking.{taken-added, taken-all, taken-fault, taken-skipped, taken-start}
 use Rattle.kq_ingest.proofs.rows.read_rows.Goals as goal
 
@@ -25,8 +26,10 @@ loop-row-init c =
           flexible = rw f at fr.flexible;
         };
         config = rw (f, h) at fr.config ∙ c.new.ensures.config;
-        source = fr.source;
+        source = rw c.as_bytes.ensures.value at fr.source;
         reached = (sym fr.state, refl);
+        outside = rw fr.state tt;
+        utf8 = strip_bom-text c.args.body.now c.utf8.body;
       },
       taken-start c.args.schema.now c.args.skip_first c.args.limit,
     )
@@ -61,12 +64,12 @@ loop-row-smaller c =
 pub read_record-requires : goal.read_record-requires
 read_record-requires c =
     let (empty, seen, left, before, taken) = c.loop-row.invariant in
-    before.plain
+    record { plain = before.plain; text = left-text c.args.body.now c.loop-row.reader seen left before }
 
 pub add_row-requires-clause-typed : goal.add_row-requires-clause-typed
 add_row-requires-clause-typed c =
     let (empty, seen, left, before, taken) = c.loop-row.invariant in
-    rw taken.rows_are (rows_typed c.args.schema.now _ c.requires)
+    rw taken.rows_are (rows_typed c.args.schema.now _)
 
 pub add_row-requires-clause-empty : goal.add_row-requires-clause-empty
 add_row-requires-clause-empty c = c.loop-row.invariant.0
@@ -101,4 +104,4 @@ returns-clause-sound c =
 pub returns-clause-typed : goal.returns-clause-typed
 returns-clause-typed c =
     let (empty, seen, left, before, taken) = c.loop-row.invariant in
-    rw taken.rows_are (rows_typed c.args.schema.now _ c.requires)
+    rw taken.rows_are (rows_typed c.args.schema.now _)
