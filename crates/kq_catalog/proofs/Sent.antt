@@ -9,6 +9,7 @@ use Rattle.kq_shared.proofs.Sent.{list_send, list_sync}
 use Rattle.kq_shared.specs.contracts.list.SharedList as list
 use Rattle.kq_names.specs.contracts.names.Names as names
 use Rattle.kq_extent.proofs.Sent.{held_send, held_sync}
+use Rattle.kq_tagged.proofs.Sent.{index_send, index_sync}
 use Rattle.kq_model.specs.contracts.event.Event as event
 use Rattle.kq_catalog.specs.contracts.held.HeldTable as table
 use Rattle.kq_catalog.specs.contracts.tables.Tables as tables
@@ -66,10 +67,10 @@ journal_sync : IsSync (list.the_row event.the_row)
 journal_sync = list_sync event.the_row event_send event_sync
 
 state_send : IsSend state.the_row
-state_send = search (journal_send, tables_send, sendable, crosses) depth 40 fits 5000
+state_send = search (journal_send, tables_send, index_send, sendable, crosses) depth 40 fits 5000
 
 state_sync : IsSync state.the_row
-state_sync = search (journal_sync, tables_sync, sendable, crosses) depth 40 fits 5000
+state_sync = search (journal_sync, tables_sync, index_sync, sendable, crosses) depth 40 fits 5000
 
 pub snapshot_send : IsSend snapshot.the_row
 snapshot_send = search (state_send, state_sync, sendable, crosses) depth 40 fits 5000

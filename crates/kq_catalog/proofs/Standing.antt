@@ -20,11 +20,16 @@ use Rattle.kq_model.proofs.Histories.{log-push, AreLawful-push}
 use Rattle.kq_model.proofs.Records.{made_in-push}
 use Rattle.kq_model.proofs.States.{table_states-push, table_states-tables}
 use Rattle.kq_model.proofs.Fitting.{FitAll-lawful}
+use Rattle.kq_model.specs.Tagged.{is_tagged_by}
+use Rattle.kq_tagged.specs.declared.entry.Entry.{Entry}
+use Rattle.kq_tagged.specs.Index.{Adds}
 use Rattle.kq_catalog.specs.declared.edit.Change.{Change}
 use Rattle.kq_catalog.specs.Edits.{edits_by, put_all}
 use Rattle.kq_catalog.specs.Held.{HeldTable, IsHeld, tables_in}
 use Rattle.kq_catalog.specs.Seen.{CatalogView, Holds, Sound, hist}
+use Rattle.kq_catalog.specs.Tagged.{TellsTags}
 use Rattle.kq_catalog.proofs.Keeping.{all_changes}
+use Rattle.kq_catalog.proofs.Tagged.{TellsTags-push}
 
 same_tables : (hs : List HeldTable) (ss : List TableState) → AllZip IsHeld hs ss → tables_in hs ≡ map (λ (s : TableState). s.table) ss
 same_tables [] [] all = refl
@@ -79,10 +84,11 @@ changes_fit c cursor id commit cs sound lawful are =
     (subst (FitAll (tables (log (hist c)))) (sym are) (FitAll-lawful c.limits (log (hist c)) cursor id commit lawful))
 
 -- a catalogue with one event more
-pub Holds-push : (c : CatalogView) (cursor made more : ℕ) (event : Event) (commit : Commit) (cs : List Change) → Holds c cursor made → LawfulCommit c.limits (log (hist c)) commit → event.operation ≡ operation.Commit commit
+pub Holds-push : (c : CatalogView) (cursor made more : ℕ) (event : Event) (commit : Commit) (cs : List Change) (index tags : List Entry) → Holds c cursor made index → LawfulCommit c.limits (log (hist c)) commit → event.operation ≡ operation.Commit commit
     → edits_by cs ≡ edits_of (cursor_of (hist c) + 1) (1 + made_in (log (hist c))) commit → more ≡ made_by commit
-    → Holds (record { limits = c.limits; history = hist c ++ event ∷ []; held = put_all c.held cs }) (cursor + 1) (made + more)
-Holds-push c cursor made more event commit cs holds lawful is are count =
+    → Adds index (λ t tag. is_tagged_by t tag commit) (cursor + 1) tags
+    → Holds (record { limits = c.limits; history = hist c ++ event ∷ []; held = put_all c.held cs }) (cursor + 1) (made + more) tags
+Holds-push c cursor made more event commit cs index tags holds lawful is are count adds =
     let h = hist c in
     let logged : log (h ++ event ∷ []) ≡ log h ++ commit ∷ [] = log-push h event ∙ ap (λ (o : Operation). log h ++ commits_of o) is in
     let next : table_states (h ++ event ∷ []) ≡ edited_by (table_states h) (edits_by cs) =
@@ -95,4 +101,6 @@ Holds-push c cursor made more event commit cs holds lawful is are count =
       };
       count = ap (λ (n : ℕ). n + 1) holds.count ∙ sym (ap length logged ∙ length_push (log h) commit);
       made_count = ap (λ (n : ℕ). n + more) holds.made_count ∙ ap (λ (n : ℕ). made_in (log h) + n) count ∙ sym (made_in-push (log h) commit) ∙ ap made_in (sym logged);
+      tags = subst (TellsTags tags) (sym logged)
+          (TellsTags-push index tags (log h) commit holds.tags (subst (λ (n : ℕ). Adds index (λ t tag. is_tagged_by t tag commit) (n + 1) tags) holds.count adds));
     }

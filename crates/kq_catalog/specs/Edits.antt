@@ -1,6 +1,8 @@
 -- Edits as the program makes them, and what each leaves of the tables that are held.
-use Rattle.std.specs.Prelude.{◌≡◌, ℕ, List, [], ◌∷◌, ◌++◌, length, map, sum_by}
+use Rattle.std.specs.Prelude.{◌≡◌, ℕ, nat_eq, List, [], ◌∷◌, ◌++◌, length, map, sum_by}
 use Rattle.std.specs.Arc.{arc_value}
+use Rattle.std.specs.HashMap.{get, HashMap}
+use Rattle.std.specs.Option.{unwrap_or}
 use Rattle.kq_extent.specs.Seen.{ExtentView}
 use Rattle.kq_extent.specs.Split.{put}
 use Rattle.kq_model.specs.declared.batch.Batch.{Batch}
@@ -50,3 +52,7 @@ pub record IsPlan (cursor id : ℕ) (commit : Commit) (plan : Plan) : Type 0 whe
 
 abbrev pub total_rows : List Batch → ℕ
 total_rows = sum_by (λ (b : Batch). length b.rows)
+
+-- how many rows a table was given
+abbrev pub count_given : {S : Type 0} → HashMap ℕ ℕ S → ℕ → ℕ
+count_given given t = unwrap_or (get nat_eq given t) 0

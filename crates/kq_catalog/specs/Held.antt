@@ -1,10 +1,12 @@
 -- What is held of a table, and when it is what a history says of the table.
-use Rattle.std.specs.Prelude.{◌≡◌, Bool, not, List, length, map, All, nat_lt}
+use Rattle.std.specs.Prelude.{◌≡◌, ℕ, Bool, not, List, length, map, All, nat_lt, Option, MatchOption, None, Some}
+use Rattle.std.specs.Borrow.{Bor}
 use Rattle.std.specs.List.{filter}
 use Rattle.std.specs.List.Sorted.{IsPermutation}
 use Rattle.kq_value.specs.Typed.{HasTypes}
 use Rattle.kq_extent.specs.Seen.{ExtentView, HeldExtents, held_records, row_of}
 use Rattle.kq_model.specs.declared.table.Table.{Table}
+use Rattle.kq_model.specs.History.{table_numbered}
 use Rattle.kq_model.specs.Records.{ExtentItem, ids_of}
 use Rattle.kq_model.specs.Tables.{TableState}
 
@@ -35,3 +37,7 @@ pub record IsHeld (held : HeldTable) (state : TableState) : Type 0 where
   pub once : IsPermutation (held_records held.extents) state.records
   pub in_order : AreItems state.items held.extents
   pub typed : All (HasTypes state.table.schema) (map row_of state.records)
+
+-- what a name finds among tables: the table with its number, or nothing where there is none
+abbrev pub FindsTable : List ℕ → List Table → Option (ℕ × Bor Table) → Type 0
+FindsTable name ts found = MatchOption found (table_numbered name ts ≡ None) (λ p. table_numbered name ts ≡ Some (record { number = p.0; table = p.1.now }))

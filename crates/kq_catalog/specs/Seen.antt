@@ -7,7 +7,9 @@ use Rattle.kq_model.specs.History.{History, log, cursor as cursor_of}
 use Rattle.kq_model.specs.Lawful.{AreLawful}
 use Rattle.kq_model.specs.Records.{made_in}
 use Rattle.kq_model.specs.Tables.{table_states}
+use Rattle.kq_tagged.specs.declared.entry.Entry.{Entry}
 use Rattle.kq_catalog.specs.Held.{HeldTable, IsHeld}
+use Rattle.kq_catalog.specs.Tagged.{TellsTags}
 
 -- the events in order, and the tables by number with what is held of them
 pub record CatalogView : Type 0 where
@@ -33,8 +35,9 @@ pub record Sound (c : CatalogView) : Type 0 where
   pub tables : AllZip IsHeld c.held (table_states (hist c))
   pub lawful : AreLawful c.limits (hist c)
 
--- a sound catalogue, with the number of its commits and that of the extents which they made
-pub record Holds (c : CatalogView) (cursor made : ℕ) : Type 0 where
+-- a sound catalogue, with the number of its commits, that of the extents which they made, and an index of their tags
+pub record Holds (c : CatalogView) (cursor made : ℕ) (index : List Entry) : Type 0 where
   pub sound : Sound c
   pub count : cursor ≡ cursor_of (hist c)
   pub made_count : made ≡ made_in (log (hist c))
+  pub tags : TellsTags index (log (hist c))

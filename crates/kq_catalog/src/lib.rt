@@ -11,10 +11,12 @@ mod edit;
 mod grows;
 mod held;
 mod intent;
+mod ordinals;
 mod plan;
 mod snapshot;
 mod state;
 mod tables;
+mod tagging;
 
 pub use catalog::{Catalog, Staged};
 pub use intent::{Intent, Part};

@@ -1,15 +1,16 @@
 // Commits with their edits.
 ghost use Rattle.std.specs.Prelude.{ℕ, ◌≡◌, ◌<◌, ◌+◌, ◌^◌, IfOk, length, map};
-ghost use Rattle.kq_model.specs.Records.{rows_to};
 ghost use Rattle.kq_model.specs.declared.event.Commit.TheVariants.{CreateTable, Ingest};
 ghost use Rattle.kq_catalog.specs.Edits.{IsPlan, total_rows};
 ghost use Rattle.kq_catalog.specs.Intents.{batch_of};
 
 use crate::edit::Change;
 use crate::intent::Part;
+use crate::ordinals::{give_rows, rows_given};
 use kq_model::{Batch, Batches, Commit, Failures, Table};
 use kq_value::{Memory, Schema, Text};
 use std::alloc::Global;
+use std::collections::HashMap;
 use std::sync::Arc;
 
 /// A commit, the changes that it makes, and the number of extents among them.
@@ -43,20 +44,6 @@ pub(crate) fn plan_table(
     })
 }
 
-// The number of rows that batches give a table.
-fn rows_given(batches: &[Batch], table: u32) -> u64
-    requires { total_rows batches.now < 2 ^ 63 }
-    ensures { result ≡ rows_to table batches.now }
-{
-    let mut rows = 0;
-    for batch in batches {
-        if batch.table == table {
-            rows += batch.rows.len();
-        }
-    }
-    rows
-}
-
 /// The plan of an ingestion: each part becomes an extent, under the ids from `id` on.
 pub(crate) fn plan_parts(
     alloc: Global,
@@ -71,12 +58,15 @@ pub(crate) fn plan_parts(
 {
     let mut batches = Batches::new(alloc);
     let mut changes = Vec::with_capacity(alloc, parts.len())?;
+    let mut given = HashMap::new(alloc);
     let mut next = id;
     for part in parts {
         let Part { table, draft } = part;
-        let first = rows_given(batches.as_slice(), table);
+        let first = rows_given(&given, table);
         let tags = draft.tags().clone_in()?;
         let rows = draft.recorded();
+        let count = rows.len();
+        give_rows(&mut given, table, count)?;
         let extent = Arc::new(alloc, draft.stamp(next, cursor, first))?;
         changes.push(Change::PutExtent { table, extent })?;
         batches.push(Batch { table, rows, tags })?;

@@ -1,14 +1,15 @@
 // What stood in a catalogue.
-ghost use Rattle.std.specs.Prelude.{◌≡◌, ◌<◌, ◌^◌, All, IfOk, MatchOption, Some, None, length, map, slice_get};
+ghost use Rattle.std.specs.Prelude.{◌≡◌, ◌<◌, ◌^◌, All, IfOk, Some, length, map, option_map, slice_get};
 ghost use Rattle.std.specs.List.Sorted.{IsPermutation};
 ghost use Rattle.std.specs.Arc.{arc_value};
 ghost use Rattle.kq_value.specs.Typed.{HasTypes};
 ghost use Rattle.kq_shared.specs.Standing.{StandsAt};
 ghost use Rattle.kq_extent.specs.Seen.{held_records};
 ghost use Rattle.kq_model.specs.declared.table.Table.{Table as Described};
-ghost use Rattle.kq_model.specs.History.{log, cursor as cursor_of, tables, table_numbered};
+ghost use Rattle.kq_model.specs.History.{log, cursor as cursor_of, tables};
 ghost use Rattle.kq_model.specs.Records.{records, rows_in, extents};
-ghost use Rattle.kq_catalog.specs.Held.{AreItems};
+ghost use Rattle.kq_model.specs.Tagged.{first_tagged};
+ghost use Rattle.kq_catalog.specs.Held.{AreItems, FindsTable};
 
 use crate::state::State;
 use kq_extent::TableExtents;
@@ -72,9 +73,23 @@ impl Snapshot {
 
     /// The table of a name, with its number, found without a walk over the tables.
     pub fn table(&self, name: &Text) -> Option<(u32, &Table)>
-        ensures { MatchOption result (table_numbered name.now (tables (log self.now.history)) ≡ None) (λ p. table_numbered name.now (tables (log self.now.history)) ≡ Some (record { number = p.0; table = p.1.now })) }
+        ensures { FindsTable name.now (tables (log self.now.history)) result }
     {
         self.state.table(name)
+    }
+
+    /// The table of a number.
+    pub fn table_at(&self, number: u32) -> Option<&Table>
+        ensures { option_map (λ t. t.now) result ≡ slice_get (tables (log self.now.history)) number }
+    {
+        self.state.table_at(number)
+    }
+
+    /// The cursor of the first commit that gave a table, by its number, an extent with the tag. No extent or event is looked at.
+    pub fn tagged(&self, table: u32, tag: &Text) -> Option<u64>
+        ensures { result ≡ first_tagged (log self.now.history) table tag.now }
+    {
+        self.state.tagged(table, tag)
     }
 
     /// Some events in a row, from a place on: a walk takes them, and goes on behind them.

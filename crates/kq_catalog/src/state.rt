@@ -1,5 +1,5 @@
 // The states of a catalogue.
-ghost use Rattle.std.specs.Prelude.{◌≡◌, ◌<◌, ◌+◌, ◌^◌, ◌++◌, ◌∷◌, [], All, IfOk, MatchOption, Some, None, length, map, slice_get};
+ghost use Rattle.std.specs.Prelude.{◌≡◌, ◌<◌, ◌+◌, ◌^◌, ◌++◌, ◌∷◌, [], All, IfOk, Some, length, map, option_map, slice_get};
 ghost use Rattle.std.specs.List.Sorted.{IsPermutation};
 ghost use Rattle.std.specs.Arc.{arc_value};
 ghost use Rattle.kq_value.specs.Typed.{HasTypes};
@@ -7,20 +7,23 @@ ghost use Rattle.kq_shared.specs.Standing.{StandsAt};
 ghost use Rattle.kq_extent.specs.Seen.{held_records};
 ghost use Rattle.kq_model.specs.declared.table.Table.{Table as Described};
 ghost use Rattle.kq_model.specs.declared.event.Operation.TheVariants as operation;
-ghost use Rattle.kq_model.specs.History.{log, cursor as cursor_of, tables, table_numbered};
+ghost use Rattle.kq_model.specs.History.{log, cursor as cursor_of, tables};
 ghost use Rattle.kq_model.specs.Lawful.{LawfulCommit};
 ghost use Rattle.kq_model.specs.Records.{records, rows_in, extents, made_in};
+ghost use Rattle.kq_model.specs.Tagged.{first_tagged};
 ghost use Rattle.kq_catalog.specs.Edits.{IsPlan};
-ghost use Rattle.kq_catalog.specs.Held.{AreItems};
+ghost use Rattle.kq_catalog.specs.Held.{AreItems, FindsTable};
 ghost use Rattle.kq_catalog.specs.Intents.{commit_of, event_by};
 ghost use Rattle.kq_catalog.specs.Seen.{Sound};
 
 use crate::intent::Intent;
 use crate::plan::{Plan, plan_parts, plan_table};
 use crate::tables::Tables;
+use crate::tagging::with_commit;
 use kq_extent::TableExtents;
 use kq_model::{By, Commit, Event, Limits, Operation, Table};
 use kq_shared::SharedList;
+use kq_tagged::TagIndex;
 use kq_value::{Memory, Text};
 use std::alloc::Global;
 use std::marker::Model;
@@ -33,6 +36,7 @@ pub(crate) struct State {
     limits: Limits,
     journal: SharedList<Event>,
     tables: Tables,
+    tags: TagIndex,
     cursor: u64,
     made: u64,
 }
@@ -48,7 +52,7 @@ impl Model for State {
 
     ghost view = { λ s. record { limits = s.limits; history = s.journal; held = s.tables } };
 
-    ghost invariant = { λ s. Holds (record { limits = s.limits; history = s.journal; held = s.tables }) s.cursor s.made };
+    ghost invariant = { λ s. Holds (record { limits = s.limits; history = s.journal; held = s.tables }) s.cursor s.made s.tags };
 }
 
 impl State {
@@ -61,6 +65,7 @@ impl State {
             limits,
             journal: SharedList::new(alloc),
             tables: Tables::new(alloc)?,
+            tags: TagIndex::new(alloc)?,
             cursor: 0,
             made: 0,
         })
@@ -97,9 +102,25 @@ impl State {
     }
 
     pub(crate) fn table(&self, name: &Text) -> Option<(u32, &Table)>
-        ensures { MatchOption result (table_numbered name.now (tables (log self.now.history)) ≡ None) (λ p. table_numbered name.now (tables (log self.now.history)) ≡ Some (record { number = p.0; table = p.1.now })) }
+        ensures { FindsTable name.now (tables (log self.now.history)) result }
     {
         self.tables.find(name)
+    }
+
+    pub(crate) fn table_at(&self, number: u32) -> Option<&Table>
+        ensures { option_map (λ t. t.now) result ≡ slice_get (tables (log self.now.history)) number }
+    {
+        if (number as usize) < self.tables.len() {
+            Some(self.tables.get(number).table())
+        } else {
+            None
+        }
+    }
+
+    pub(crate) fn tagged(&self, table: u32, tag: &Text) -> Option<u64>
+        ensures { result ≡ first_tagged (log self.now.history) table tag.now }
+    {
+        self.tags.find(table, tag)
     }
 
     pub(crate) fn events_from(&self, at: usize) -> &[Arc<Event, Global>]
@@ -146,12 +167,14 @@ impl State {
             made,
         } = self.plan(intent)?;
         let tables = self.tables.with_all(self.alloc, changes)?;
+        let tags = with_commit(&self.tags, &commit, self.cursor + 1)?;
         let journal = self.journal_with(by, commit)?;
         Ok(State {
             alloc: self.alloc,
             limits: self.limits,
             journal,
             tables,
+            tags,
             cursor: self.cursor + 1,
             made: self.made + made,
         })

@@ -1,11 +1,10 @@
 // The tables by number and by name.
-ghost use Rattle.std.specs.Prelude.{◌≡◌, ◌<◌, ◌++◌, ◌∷◌, [], IfOk, OnOk, MatchOption, Some, None, length, slice_get};
+ghost use Rattle.std.specs.Prelude.{◌≡◌, ◌<◌, ◌++◌, ◌∷◌, [], IfOk, OnOk, Some, length, slice_get};
 ghost use Rattle.std.specs.Arc.{arc_value};
 ghost use Rattle.kq_model.specs.Edits.{Fits, FitAll, changed};
 ghost use Rattle.kq_model.specs.Edits.Edit.{NewTable};
-ghost use Rattle.kq_model.specs.History.{table_numbered};
 ghost use Rattle.kq_catalog.specs.Edits.{edit_of, edits_by, empty_table, with_extent, put_in, put_all};
-ghost use Rattle.kq_catalog.specs.Held.{tables_in};
+ghost use Rattle.kq_catalog.specs.Held.{FindsTable, tables_in};
 
 use crate::edit::Change;
 use crate::held::HeldTable;
@@ -68,7 +67,7 @@ impl Tables {
 
     /// The table of a name, with its number.
     pub(crate) fn find(&self, name: &Text) -> Option<(u32, &Table)>
-        ensures { MatchOption result (table_numbered name.now (tables_in self.now) ≡ None) (λ p. table_numbered name.now (tables_in self.now) ≡ Some (record { number = p.0; table = p.1.now })) }
+        ensures { FindsTable name.now (tables_in self.now) result }
     {
         match self.names.find(name) {
             Some(number) => Some((number, self.held.get(number as usize).table())),

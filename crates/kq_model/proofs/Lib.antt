@@ -6,3 +6,4 @@ pub mod Records
 pub mod Repeats
 pub mod States
 pub mod Tables
+pub mod Tagged

@@ -8,3 +8,4 @@ pub mod Marks
 pub mod Names
 pub mod Records
 pub mod Tables
+pub mod Tagged

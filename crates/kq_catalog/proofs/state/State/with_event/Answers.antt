@@ -7,6 +7,8 @@ use Rattle.kq_model.specs.History.{log, cursor as cursor_of}
 use Rattle.kq_model.specs.Lawful.{LawfulCommit}
 use Rattle.kq_model.specs.Records.{made_in}
 use Rattle.kq_model.proofs.Bounded.{one_made}
+use Rattle.kq_model.specs.Tagged.{is_tagged_by}
+use Rattle.kq_tagged.specs.Index.{Adds}
 use Rattle.kq_catalog.specs.Edits.{IsPlan, edits_by}
 use Rattle.kq_catalog.specs.Held.{tables_in}
 use Rattle.kq_catalog.specs.Intents.{commit_of, event_by}
@@ -50,5 +52,9 @@ invariant_of-result c =
     let journal : c.in_ok-journal.journal ≡ hist v ++ event_by c.args.by c.args.intent ∷ [] =
     c.in_ok-journal.ensures ∙ ap (λ (k : Commit). let e : Event = record { by = c.args.by; operation = operation.Commit k } in hist now ++ e ∷ []) plan.is
     ∙ ap (λ (w : CatalogView). hist w ++ event_by c.args.by c.args.intent ∷ []) (sym c.self.view_is) in
+    let index = c.self.inside.tags in
+    let tags = c.in_ok-tags.tags in
+    let adds : Adds index (λ t tag. is_tagged_by t tag commit) (c.self.inside.cursor + 1) tags =
+    subst (λ (k : Commit). Adds index (λ t tag. is_tagged_by t tag k) (c.self.inside.cursor + 1) tags) plan.is c.in_ok-tags.ensures in
     rw (journal, c.in_ok-tables.ensures)
-    (Holds-push v c.self.inside.cursor c.self.inside.made made.made (event_by c.args.by c.args.intent) commit cs c.self.invariant lawful refl edits plan.made)
+    (Holds-push v c.self.inside.cursor c.self.inside.made made.made (event_by c.args.by c.args.intent) commit cs index tags c.self.invariant lawful refl edits plan.made adds)
