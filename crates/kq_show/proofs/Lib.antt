@@ -1,0 +1,4 @@
+pub mod Bounds
+pub mod ExtentLemmas
+pub mod JournalLemmas
+pub mod Walks

@@ -1,0 +1,53 @@
+-- What is shown of a journal.
+use Rattle.std.specs.Prelude.{ℕ, ◌+◌, List, [], ◌∷◌, length, option_map, unwrap_or, codes}
+use Rattle.std.specs.List.{slice_get}
+use Rattle.kq_value.specs.declared.schema.Field.{Field}
+use Rattle.kq_value.specs.declared.ty.Ty.TheVariants as ty
+use Rattle.kq_value.specs.declared.value.Value.{Value}
+use Rattle.kq_value.specs.declared.value.Value.TheVariants.{Text}
+use Rattle.kq_model.specs.declared.table.Table.{Table}
+use Rattle.kq_model.specs.declared.event.Commit.TheVariants.{CreateTable, Ingest}
+use Rattle.kq_model.specs.declared.event.Operation.{Operation}
+use Rattle.kq_model.specs.declared.event.Operation.TheVariants as operation
+use Rattle.kq_model.specs.declared.event.Event.{Event}
+use Rattle.kq_model.specs.History.{History, commits_of, log, tables}
+use Rattle.kq_show.specs.Cells.{column, number_cell}
+
+abbrev pub journal_columns : List Field
+journal_columns =
+    column (codes "Place") ty.Long ∷ column (codes "Kind") ty.Text ∷ column (codes "Cursor") ty.Long ∷ column (codes "Actor") ty.Long
+    ∷ column (codes "Number") ty.Long ∷ column (codes "Entity") ty.Text ∷ []
+
+abbrev pub kind_of : Operation → List ℕ
+kind_of (operation.Commit (CreateTable name schema)) = codes "CreateTable"
+kind_of (operation.Commit (Ingest batches failures)) = codes "Ingest"
+
+-- the name of a table by its number; a number that no table has has no name
+abbrev pub name_of : List Table → ℕ → List ℕ
+name_of tables number = unwrap_or (option_map (λ (t : Table). t.name) (slice_get tables number)) []
+
+-- the table that an event makes, or that its own batch is for
+abbrev pub entity_of : List Table → Operation → List ℕ
+entity_of tables (operation.Commit (CreateTable name schema)) = name
+entity_of tables (operation.Commit (Ingest [] failures)) = []
+entity_of tables (operation.Commit (Ingest (own ∷ derived) failures)) = name_of tables own.table
+
+-- the event's place, its kind, the cursor after it, its mark, and its table
+abbrev pub event_row : List Table → ℕ → ℕ → Event → List Value
+event_row tables place cursor e =
+    number_cell place ∷ Text (kind_of e.operation) ∷ number_cell cursor ∷ number_cell e.by.actor ∷ number_cell e.by.number
+    ∷ Text (entity_of tables e.operation) ∷ []
+
+-- the cursor after an event
+abbrev pub cursor_after : ℕ → Event → ℕ
+cursor_after cursor e = cursor + length (commits_of e.operation)
+
+-- a row for each event behind so many events and commits
+abbrev pub rows_behind : List Table → ℕ → ℕ → History → List (List Value)
+rows_behind tables place cursor [] = []
+rows_behind tables place cursor (e ∷ h) =
+    event_row tables (place + 1) (cursor_after cursor e) e ∷ rows_behind tables (place + 1) (cursor_after cursor e) h
+
+-- a row for each event, in order
+abbrev pub journal_rows : History → List (List Value)
+journal_rows h = rows_behind (tables (log h)) 0 0 h

@@ -1,0 +1,9 @@
+//! What the shows tell of a catalogue, as answers: the extents of a table, and the journal. Which command asks for which, and how an answer is printed, is left to others.
+#![tactic(auto)]
+
+mod cells;
+mod extents;
+mod journal;
+
+pub use extents::extents_of;
+pub use journal::journal_of;
