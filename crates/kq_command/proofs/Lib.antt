@@ -1,3 +1,6 @@
+mod GivenStrings
+mod GivenTwice
 mod OwnParts
 mod OwnSymbols
+mod RowEnds
 mod Shapes

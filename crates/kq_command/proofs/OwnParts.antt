@@ -1,11 +1,11 @@
 -- The parts of a command that a text spells stand in it.
-use Rattle.std.proofs.Common.{◌≡◌, ◌≤◌, Bool, true, false, not, List, [], ◌∷◌, ◌++◌, Option, Some, None, All, ℕ, length, refl, subst}
+use Rattle.std.proofs.Common.{◌≡◌, Bool, true, false, List, [], ◌∷◌, ◌++◌, Option, Some, None, All, ℕ, refl, subst}
 use Rattle.std.specs.Str.{IsUtf8}
 use Rattle.std.proofs.lemmas.List.Elements.{All-cons, All-head, All-nil, All-tail}
-use Rattle.kq_command.specs.InText.{IsPiece, IsString, NameIn, ColumnIn, ColumnsIn, PropertyIn, PropertiesIn, ControlIn, SourceIn, TabularIn, StatementIn}
+use Rattle.kq_command.specs.InText.{IsPiece, IsString, NameIn, ColumnIn, ColumnsIn, PropertyIn, PropertiesIn, ControlIn}
 use Rattle.kq_command.proofs.OwnSymbols.{SymbolIn, symbols_in}
-use Rattle.kq_control.specs.ControlTrees.{ColumnsTree, PropertiesTree, ControlTree, create_table, ingest, set_policy, alter_merge, create_view, show_view, show_failures, show_extents, show_journal, fold, merge, export, StatementTree, query, control}
-use Rattle.kq_control.specs.Controls.{control_text, properties_text, property_text, statement_text, table_columns_text}
+use Rattle.kq_control.specs.ControlTrees.{ColumnsTree, PropertiesTree, ControlTree, create_table, ingest, set_policy, alter_merge, create_view, show_view, show_failures, show_extents, show_journal, fold, merge, export, control}
+use Rattle.kq_control.specs.Controls.{control_text, properties_text, property_text, table_columns_text}
 use Rattle.kq_control.specs.Statements.{IsStatement}
 use Rattle.kq_control.specs.Symbols.{symbols_of}
 use Rattle.kq_control.specs.declared.tree.Property.{Property}
@@ -14,15 +14,12 @@ use Rattle.kq_grammar.specs.declared.expression.Name.{Name}
 use Rattle.kq_grammar.specs.declared.expression.Name.TheVariants as n
 use Rattle.kq_grammar.specs.Clauses.{column_text, columns_text, listed}
 use Rattle.kq_grammar.specs.Expressions.{Text, name_text}
-use Rattle.kq_grammar.specs.Tabulars.{any_source_word, source_text, table_text, table_word, tabular_text}
-use Rattle.kq_grammar.specs.Trees.{TabularTree, pipeline, SourceTree, table, nested, worded}
 use Rattle.kq_syntax.specs.declared.kind.Kind.{Kind}
 use Rattle.kq_syntax.specs.declared.kind.Kind.TheVariants as kind
 use Rattle.kq_syntax.specs.declared.kind.Symbol.{Symbol}
 use Rattle.kq_syntax.specs.Classes as k
 use Rattle.kq_syntax.specs.Classes.{of}
 use Rattle.kq_syntax.specs.Forms.{one, ◌⨾◌, Many, Maybe}
-use Rattle.kq_token.proofs.TestLemmas.{both_true}
 use Rattle.kq_token.specs.declared.kind.Punctuation.TheVariants as p
 
 wrong : {A : Type 0} → false ≡ true → A
@@ -96,10 +93,6 @@ module _ (text : List ℕ) where
   name_in (n.Word t) = λ ts o all. (one_in (of k.bare_name) t ts o all).word (bare_word t.kind o.0)
   name_in (n.Bracketed first t) = behind (before (string_in t))
 
-  table_in : (m : Name) → Holds (table_text m) (NameIn text m)
-  table_in (n.Word t) = λ ts o all. (one_in (of table_word) t ts o all).word (bare_word t.kind (both_true (k.bare_name t.kind) (not (any_source_word t.kind)) o.0).0)
-  table_in (n.Bracketed first t) = name_in (n.Bracketed first t)
-
   column_in : (c : Column) → Holds (column_text c) (ColumnIn text c)
   column_in c = both (name_in c.name) (behind (word_in c.ty))
 
@@ -118,8 +111,8 @@ module _ (text : List ℕ) where
 
   -- ---- commands
 
-  ingest_in : (m : Name) (ps : Option PropertiesTree) (t : Symbol) → Holds (control_text (ingest m ps t)) (NameIn text m × (PropertiesIn text ps × (t.to ≤ length text)))
-  ingest_in m ps t = behind (behind (behind (behind (both (behind (name_in m)) (both (properties_in ps) (λ ts o all. (one_in (of (k.sign p.BodyMark)) t ts o all).within))))))
+  ingest_in : (m : Name) (ps : Option PropertiesTree) (t : Symbol) → Holds (control_text (ingest m ps t)) (NameIn text m × (PropertiesIn text ps × IsPiece text t))
+  ingest_in m ps t = behind (behind (behind (behind (both (behind (name_in m)) (both (properties_in ps) (λ ts o all. (one_in (of (k.sign p.BodyMark)) t ts o all).mark o.0))))))
 
   control_in : (c : ControlTree) → Holds (control_text c) (ControlIn text c)
   control_in (create_table m cs) = behind (behind (table_columns_in m cs))
@@ -129,23 +122,11 @@ module _ (text : List ℕ) where
   control_in (set_policy m t) = λ ts q all. tt
   control_in (show_view m) = λ ts q all. tt
   control_in show_failures = λ ts q all. tt
-  control_in (show_extents m) = λ ts q all. tt
+  control_in (show_extents m) = behind (behind (before (behind (name_in m))))
   control_in show_journal = λ ts q all. tt
   control_in (fold m) = λ ts q all. tt
   control_in (merge m) = λ ts q all. tt
   control_in (export t e) = λ ts q all. tt
 
-  source_in : (s : SourceTree) → Holds (source_text s) (SourceIn text s)
-  source_in (table m) = table_in m
-  source_in (nested t q) = λ ts o all. tt
-  source_in (worded t b) = λ ts o all. tt
-
-  tabular_in : (q : TabularTree) → Holds (tabular_text q) (TabularIn text q)
-  tabular_in (pipeline s os) = before (source_in s)
-
-  spelled_in : (s : StatementTree) → Holds (statement_text s) (StatementIn text s)
-  spelled_in (query q) = behind (before (tabular_in q.tabular))
-  spelled_in (control c) = control_in c
-
-pub statement_in : (text : List ℕ) (s : StatementTree) → IsUtf8 text → IsStatement text s → StatementIn text s
-statement_in text s utf8 is = spelled_in text s (symbols_of text is.tokens) is.is.1.spelled (symbols_in text is.tokens utf8 is.are)
+pub stands : (text : List ℕ) (c : ControlTree) → IsUtf8 text → IsStatement text (control c) → ControlIn text c
+stands text c utf8 is = control_in text c (symbols_of text is.tokens) is.is.1.spelled (symbols_in text is.tokens utf8 is.are)

@@ -1,5 +1,5 @@
 -- The symbols of a text stand in it.
-use Rattle.std.proofs.Common.{◌≡◌, ◌≤◌, ℕ, Bool, true, false, ◌==◌, List, [], ◌∷◌, All, length, get_or, refl, sym, ap, subst, take, drop, nat_eq, if◌then◌else◌, arith}
+use Rattle.std.proofs.Common.{◌≡◌, ℕ, Bool, true, false, ◌==◌, List, [], ◌∷◌, All, get_or, refl, sym, ap, subst, take, drop, nat_eq, if◌then◌else◌, arith}
 use Rattle.std.specs.Prelude.{codes, slice_range}
 use Rattle.std.specs.Cmp.Lexicographic.{pointwise}
 use Rattle.std.specs.Str.{IsUtf8}
@@ -11,11 +11,13 @@ use Rattle.kq_literal.proofs.Cuts.{HasAsciiEnds, cuts, string_ends, word_ends}
 use Rattle.kq_control.specs.Symbols.{kind_of, symbol_of, symbols_of}
 use Rattle.kq_literal.proofs.TokenForms.{HasForm, tokens_have_forms}
 use Rattle.kq_literal.specs.Strings.{is_string_token}
+use Rattle.kq_literal.proofs.RawLemmas.{same_text}
 use Rattle.kq_syntax.specs.Classes as k
 use Rattle.kq_syntax.specs.declared.kind.Symbol.{Symbol}
-use Rattle.kq_token.specs.Bytes.{begins_with}
+use Rattle.kq_token.specs.Bytes.{begins_with, is_text}
 use Rattle.kq_token.specs.Delimited.{closes, is_long_string, is_quote, is_string, is_verbatim_quoted, is_verbatim_string, step}
 use Rattle.kq_token.specs.declared.delimited.Within.TheVariants.{Quoted, Ticked}
+use Rattle.kq_token.specs.declared.kind.Punctuation.TheVariants as sign
 use Rattle.kq_token.specs.declared.kind.TokenKind.{TokenKind}
 use Rattle.kq_token.specs.declared.kind.TokenKind.TheVariants as token
 use Rattle.kq_token.specs.declared.token.Token.{Token}
@@ -27,9 +29,9 @@ use Rattle.kq_token.proofs.TestLemmas.{both_true, equal_of}
 
 -- what the text has of a symbol, by what the symbol is
 pub record SymbolIn (text : List ℕ) (s : Symbol) : Type 0 where
-  pub within : s.to ≤ length text
   pub word : k.any_word s.kind ≡ true → IsPiece text s
   pub string : k.text s.kind ≡ true → IsString text s
+  pub mark : k.sign sign.BodyMark s.kind ≡ true → IsPiece text s
 
 wrong : {A : Type 0} → false ≡ true → A
 wrong h = absurd (cc)
@@ -48,6 +50,17 @@ word_form token.LongString bytes e h = wrong e
 word_form (token.WordOperator o) bytes e h = wrong e
 word_form (token.Punctuation p) bytes e h = wrong e
 word_form (token.Operator o) bytes e h = wrong e
+
+-- ---- the sign before rows
+
+marked : (bytes : List ℕ) → is_text (codes "<|") bytes ≡ true → HasAsciiEnds bytes
+marked bytes h =
+    let e : bytes ≡ codes "<|" = sym (same_text (codes "<|") bytes h) in
+    rw e (record { some = omega arith; first = omega arith; last = omega arith })
+
+mark_ends : (t : TokenKind) (bytes : List ℕ) → k.sign sign.BodyMark (kind_of t bytes) ≡ true → is_form t bytes ≡ true → HasAsciiEnds bytes
+mark_ends (token.Punctuation sign.BodyMark) bytes e h = marked bytes h
+mark_ends _ bytes e h = wrong e
 
 -- ---- the form of a string by its first byte
 
@@ -112,11 +125,11 @@ symbol_in : (text : List ℕ) (t : Token) → IsUtf8 text → StandsIn text t �
 symbol_in text t utf8 stands form =
     let bytes = slice_range text t.from t.to in
     record {
-      within = stands.1;
       word = λ e. piece_in text t utf8 stands (word_ends bytes (word_form t.kind bytes e form));
       string = λ e. (
           let spelled = string_spelled t.kind bytes e form in
           record { is_piece = piece_in text t utf8 stands (string_ends (string_form bytes) bytes spelled); spelled = spelled });
+      mark = λ e. piece_in text t utf8 stands (mark_ends t.kind bytes e form);
     }
 
 pub symbols_in : (text : List ℕ) (tokens : List Token) → IsUtf8 text → AreTokens text tokens → All (SymbolIn text) (symbols_of text tokens)

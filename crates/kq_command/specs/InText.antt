@@ -1,15 +1,14 @@
 -- Which symbols of a command stand in a text.
-use Rattle.std.specs.Prelude.{◌≡◌, ◌≤◌, ⊤, ℕ, true, List, Option, Some, None, length}
+use Rattle.std.specs.Prelude.{◌≡◌, ◌≤◌, ⊤, ℕ, true, List, Option, Some, None}
 use Rattle.std.specs.List.{All}
 use Rattle.std.specs.Str.{IsCharBoundary}
 use Rattle.kq_command.specs.Meanings.{piece, string_form}
 use Rattle.kq_command.specs.Unsupported.{is_string}
-use Rattle.kq_control.specs.ControlTrees.{ColumnsTree, PropertiesTree, ControlTree, create_table, ingest, alter_merge, create_view, StatementTree, query, control}
+use Rattle.kq_control.specs.ControlTrees.{ColumnsTree, PropertiesTree, ControlTree, create_table, ingest, alter_merge, create_view, show_extents}
 use Rattle.kq_control.specs.declared.tree.Property.{Property}
 use Rattle.kq_grammar.specs.declared.clause.Column.{Column}
 use Rattle.kq_grammar.specs.declared.expression.Name.{Name}
 use Rattle.kq_grammar.specs.declared.expression.Name.TheVariants as name
-use Rattle.kq_grammar.specs.Trees.{TabularTree, pipeline, SourceTree, table}
 use Rattle.kq_literal.specs.Strings.{is_string_token}
 use Rattle.kq_syntax.specs.declared.kind.Symbol.{Symbol}
 
@@ -42,22 +41,12 @@ abbrev pub PropertiesIn : List ℕ → Option PropertiesTree → Type 0
 PropertiesIn text None = ⊤
 PropertiesIn text (Some ps) = PropertyIn text ps.0 × All (PropertyIn text) ps.1
 
--- ---- what is looked up in the text of a command
+-- ---- what is looked up in the text of a command that is no query
 
 abbrev pub ControlIn : List ℕ → ControlTree → Type 0
 ControlIn text (create_table n cs) = NameIn text n × ColumnsIn text cs
-ControlIn text (ingest n ps t) = NameIn text n × PropertiesIn text ps × (t.to ≤ length text)
+ControlIn text (ingest n ps t) = NameIn text n × PropertiesIn text ps × IsPiece text t
 ControlIn text (alter_merge n cs) = ColumnsIn text cs
 ControlIn text (create_view v) = PropertiesIn text v.properties
+ControlIn text (show_extents n) = NameIn text n
 ControlIn text _ = ⊤
-
-abbrev pub SourceIn : List ℕ → SourceTree → Type 0
-SourceIn text (table n) = NameIn text n
-SourceIn text _ = ⊤
-
-abbrev pub TabularIn : List ℕ → TabularTree → Type 0
-TabularIn text (pipeline s os) = SourceIn text s
-
-abbrev pub StatementIn : List ℕ → StatementTree → Type 0
-StatementIn text (query q) = TabularIn text q.tabular
-StatementIn text (control c) = ControlIn text c

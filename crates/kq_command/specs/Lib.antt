@@ -1,5 +1,6 @@
 pub mod Columns
 pub mod Faults
+pub mod Ingestions
 pub mod InText
 pub mod Meanings
 pub mod Reads

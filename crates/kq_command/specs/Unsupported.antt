@@ -35,13 +35,16 @@ abbrev pub is_truth : Property → Bool
 is_truth q = of k.truth q.value
 
 -- a property of an ingestion: `format='csv'`, `tags` and `ingestIfNotExists` with a string, `ignoreFirstRecord` with a truth value
-abbrev pub ingest_fault : List ℕ → Property → Option ℕ
-ingest_fault text q =
-    if same (piece text q.name) (codes "format") then (if is_string q then unless (same (string_at text q.value) (codes "csv")) q.value.from else Some q.value.from)
-    else if same (piece text q.name) (codes "tags") then unless (is_string q) q.value.from
-    else if same (piece text q.name) (codes "ingestIfNotExists") then unless (is_string q) q.value.from
-    else if same (piece text q.name) (codes "ignoreFirstRecord") then unless (is_truth q) q.value.from
+abbrev pub named_fault : List ℕ → List ℕ → Property → Option ℕ
+named_fault text name q =
+    if same name (codes "format") then (if is_string q then unless (same (string_at text q.value) (codes "csv")) q.value.from else Some q.value.from)
+    else if same name (codes "tags") then unless (is_string q) q.value.from
+    else if same name (codes "ingestIfNotExists") then unless (is_string q) q.value.from
+    else if same name (codes "ignoreFirstRecord") then unless (is_truth q) q.value.from
     else Some q.name.from
+
+abbrev pub ingest_fault : List ℕ → Property → Option ℕ
+ingest_fault text q = named_fault text (piece text q.name) q
 
 -- a property of a view: `backfill` with a truth value
 abbrev pub view_fault : List ℕ → Property → Option ℕ

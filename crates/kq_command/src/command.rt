@@ -1,20 +1,40 @@
 // Commands.
-ghost use Rattle.std.specs.Prelude.{◌≡◌, IfOk};
+ghost use Rattle.std.specs.Prelude.{◌≡◌};
 
 use crate::columns::{Columns, Identifier};
+use crate::ingestion::Ingestion;
+use kq_grammar::Query as WrittenQuery;
 use kq_parse::ParseFault;
-use kq_value::{Bytes, Memory};
+use kq_value::Text;
 use std::alloc::{AllocError, AllocFailed};
 
 /// What a text asks for.
 #[derive(Drop)]
 pub enum Command {
-    /// A query.
+    /// A query of any form.
     Query(Query),
+    /// What is told of the catalogue.
+    Show(Show),
     /// What changes the catalogue by a commit.
     Change(Change),
     /// A form that isn't built yet.
     Unbuilt,
+}
+
+/// A query: its text, and its tree, whose symbols are places in the text.
+#[derive(Drop)]
+pub struct Query {
+    pub text: Text,
+    pub tree: WrittenQuery,
+}
+
+/// What is told of the catalogue.
+#[derive(Drop)]
+pub enum Show {
+    /// `.show table NAME extents`
+    Extents(Identifier),
+    /// `.show journal`
+    Journal,
 }
 
 /// What changes the catalogue by a commit.
@@ -22,55 +42,8 @@ pub enum Command {
 pub enum Change {
     /// `.create table NAME (COLUMN:TYPE, ..)`
     CreateTable { name: Identifier, columns: Columns },
-    /// `.ingest inline into table NAME <|` and the rows behind it, as bytes of CSV.
-    Ingest { table: Identifier, body: Bytes },
-}
-
-/// `NAME` or `NAME | count`: a table's rows, or their number where `counted` is set.
-#[derive(Drop)]
-pub struct Query {
-    pub table: Identifier,
-    pub counted: bool,
-}
-
-impl Query {
-    pub fn clone_in(&self) -> Result<Query, Memory>
-        ensures { IfOk result (λ q. q ≡ self.now) }
-    {
-        Ok(Query {
-            table: self.table.clone_in()?,
-            counted: self.counted,
-        })
-    }
-}
-
-impl Change {
-    pub fn clone_in(&self) -> Result<Change, Memory>
-        ensures { IfOk result (λ c. c ≡ self.now) }
-    {
-        match self {
-            Change::CreateTable { name, columns } => Ok(Change::CreateTable {
-                name: name.clone_in()?,
-                columns: columns.clone_in()?,
-            }),
-            Change::Ingest { table, body } => Ok(Change::Ingest {
-                table: table.clone_in()?,
-                body: body.clone_in()?,
-            }),
-        }
-    }
-}
-
-impl Command {
-    pub fn clone_in(&self) -> Result<Command, Memory>
-        ensures { IfOk result (λ c. c ≡ self.now) }
-    {
-        match self {
-            Command::Query(query) => Ok(Command::Query(query.clone_in()?)),
-            Command::Change(change) => Ok(Command::Change(change.clone_in()?)),
-            Command::Unbuilt => Ok(Command::Unbuilt),
-        }
-    }
+    /// `.ingest inline into table NAME with (..) <|` and rows.
+    Ingest(Ingestion),
 }
 
 /// Why a text is no command.

@@ -1,16 +1,18 @@
-//! Commands: what a block of text asks for, and the reader that tells it.
-//!
-//! The reader knows the text alone. Whether a command can be done is left to the engine.
+//! Commands: what a block of text asks for, and the reader that tells it. The reader knows the text alone. What a query means, and whether a command can be done, is left to the engine.
 #![tactic(auto)]
 
 mod columns;
 mod command;
+mod ingestion;
 mod meanings;
 mod memory;
+mod properties;
 mod read;
+mod rows;
 mod types;
 mod unsupported;
 
 pub use columns::{Column, Columns, Identifier};
-pub use command::{Change, Command, CommandFault, Query};
+pub use command::{Change, Command, CommandFault, Query, Show};
+pub use ingestion::{Ingestion, Properties, Quoted};
 pub use read::read_command;

@@ -10,7 +10,7 @@ use kq_control::{Statement, parse_statement};
 use kq_literal::string_text;
 use kq_parse::ParseFault;
 use kq_token::TokenKind;
-use kq_value::{Bytes, Memory, Text};
+use kq_value::{Memory, Text};
 use std::alloc::Global;
 
 /// Requests for memory, and whether one was refused: only then may a reader answer want of memory.
@@ -56,17 +56,6 @@ impl Requests {
     {
         match string_text(self.alloc, kind, bytes) {
             Ok(text) => Ok(text),
-            Err(error) => Err(self.refuse(error)),
-        }
-    }
-
-    pub(crate) fn bytes(&mut self, bytes: &[u8]) -> Result<Bytes, Memory>
-        ensures value { IfOk result (λ b. b ≡ bytes.now) }
-        ensures refused { OnErr result (self.new.refused ≡ true) }
-    {
-        let mut copy = Bytes::new(self.alloc);
-        match copy.extend(bytes) {
-            Ok(()) => Ok(copy),
             Err(error) => Err(self.refuse(error)),
         }
     }

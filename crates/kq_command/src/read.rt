@@ -1,27 +1,27 @@
 // Reading a command.
-ghost use Rattle.std.specs.Prelude.{◌≡◌, ◌≤◌, ◌∷◌, true, All, IfErr, IfOk, IfSome, OnErr, length, map};
-ghost use Rattle.std.specs.List.{prefix_len};
+ghost use Rattle.std.specs.Prelude.{◌≡◌, ◌≤◌, ◌∷◌, None, true, All, IfErr, IfOk, IfSome, OnErr, length};
 ghost use Rattle.std.specs.Option.{option_map};
-ghost use Rattle.kq_command.specs.InText.{ColumnIn, ColumnsIn, ControlIn, StatementIn, TabularIn};
+ghost use Rattle.kq_command.specs.InText.{ColumnIn, ColumnsIn, ControlIn};
 ghost use Rattle.kq_command.specs.Meanings.{behind, column_of, columns_of};
-ghost use Rattle.kq_command.specs.Reads.{Reads, ReadsText, command_of, control_command, counted_of, counting_of, counts, plain_name, without_lets};
-ghost use Rattle.kq_command.specs.Rows.{is_white as white, rows_after as rows_from, without_white};
+ghost use Rattle.kq_command.specs.Reads.{IsCommandOf, Reads, ReadsText, control_command};
+ghost use Rattle.kq_command.specs.Unsupported.{control_fault};
+ghost use Rattle.kq_control.specs.ControlTrees.{control as command, query};
+ghost use Rattle.kq_control.specs.ControlViews.{columns_of as columns_view, control_of};
 ghost use Rattle.kq_control.specs.Statements.{IsStatement};
-ghost use Rattle.kq_control.specs.ControlViews.{columns_of as columns_view, control_of, statement_of};
-ghost use Rattle.kq_grammar.specs.TabularViews.{operator_of, operators_of, query_of, source_of, tabular_of};
+ghost use Rattle.kq_grammar.specs.TabularViews.{query_of};
 
-use crate::columns::{Column, Columns, Identifier};
-use crate::command::{Change, Command, CommandFault, Query};
+use crate::columns::{Column, Columns};
+use crate::command::{Change, Command, CommandFault, Query, Show};
+use crate::ingestion::Ingestion;
 use crate::meanings::{identifier, piece};
 use crate::memory::Requests;
+use crate::properties::read_properties;
+use crate::rows::rows_after;
 use crate::types::ty_of;
 use crate::unsupported::unsupported;
 use kq_control::{ColumnList, Control, Statement};
-use kq_grammar::{
-    Column as WrittenColumn, Name, Operator, OperatorBody, Query as WrittenQuery, Source, Tabular,
-};
-use kq_syntax::Symbol;
-use kq_value::{Bytes, Memory};
+use kq_grammar::{Column as WrittenColumn, Query as WrittenQuery};
+use kq_value::Memory;
 use std::alloc::Global;
 
 /// The command that a block of text is.
@@ -47,41 +47,40 @@ fn read_in(memory: &mut Requests, text: &str) -> Result<Command, CommandFault>
     ensures refused { IfErr result (λ f. f ≡ CommandFault.Memory → memory.new.refused ≡ true) }
 {
     match memory.statement(text) {
-        Ok(statement) => supported(memory, text, &statement),
+        Ok(Statement::Query(tree)) => Ok(asked(memory, text, tree)?),
+        Ok(Statement::Control(control)) => supported(memory, text, &control),
         Err(fault) => Err(fault.into()),
     }
 }
 
+/// The query of the text, whose tree it is.
+fn asked(memory: &mut Requests, text: &str, tree: Box<WrittenQuery>) -> Result<Command, Memory>
+    ensures value { IfOk result (IsCommandOf text.now (query (query_of tree.value))) }
+    ensures refused { OnErr result (memory.new.refused ≡ true) }
+{
+    let text = memory.text(text)?;
+    Ok(Command::Query(Query {
+        text,
+        tree: Box::into_inner(tree),
+    }))
+}
+
 /// The command, unless a symbol of it isn't supported.
-fn supported(
-    memory: &mut Requests,
-    text: &str,
-    statement: &Statement,
-) -> Result<Command, CommandFault>
-    requires { IsStatement text.now (statement_of statement.now) }
+fn supported(memory: &mut Requests, text: &str, control: &Control) -> Result<Command, CommandFault>
+    requires { IsStatement text.now (command (control_of control.now)) }
     ensures answer { ReadsText text.now result }
     ensures refused { IfErr result (λ f. f ≡ CommandFault.Memory → memory.new.refused ≡ true) }
 {
-    match unsupported(memory, text, statement)? {
+    match unsupported(memory, text, control)? {
         Some(at) => Err(CommandFault::Unsupported { at }),
-        None => Ok(built(memory, text, statement)?),
+        None => Ok(built(memory, text, control)?),
     }
 }
 
 /// The command of a form that is built.
-fn built(memory: &mut Requests, text: &str, statement: &Statement) -> Result<Command, Memory>
-    requires { StatementIn text.now (statement_of statement.now) }
-    ensures value { IfOk result (λ c. c ≡ command_of text.now (statement_of statement.now)) }
-    ensures refused { OnErr result (memory.new.refused ≡ true) }
-{
-    match statement {
-        Statement::Query(query) => built_query(memory, text, query),
-        Statement::Control(control) => built_control(memory, text, control),
-    }
-}
-
-fn built_control(memory: &mut Requests, text: &str, control: &Control) -> Result<Command, Memory>
-    requires { ControlIn text.now (control_of control.now) }
+fn built(memory: &mut Requests, text: &str, control: &Control) -> Result<Command, Memory>
+    requires stands { ControlIn text.now (control_of control.now) }
+    requires supported { control_fault text.now (control_of control.now) ≡ None }
     ensures value { IfOk result (λ c. c ≡ control_command text.now (control_of control.now)) }
     ensures refused { OnErr result (memory.new.refused ≡ true) }
 {
@@ -93,100 +92,17 @@ fn built_control(memory: &mut Requests, text: &str, control: &Control) -> Result
                 None => Ok(Command::Unbuilt),
             }
         }
-        Control::Ingest(table, None, mark) => Ok(Command::Change(Change::Ingest {
+        Control::Ingest(table, list, mark) => Ok(Command::Change(Change::Ingest(Ingestion {
             table: identifier(memory, text, *table)?,
-            body: memory.bytes(rows_after(text, *mark))?,
-        })),
+            properties: read_properties(memory, text, list)?,
+            body: memory.text(rows_after(text, *mark))?,
+        }))),
+        Control::ShowExtents(table) => Ok(Command::Show(Show::Extents(identifier(
+            memory, text, *table,
+        )?))),
+        Control::ShowJournal => Ok(Command::Show(Show::Journal)),
         _ => Ok(Command::Unbuilt),
     }
-}
-
-fn is_white(byte: u8) -> bool
-    ensures { result ≡ white byte }
-{
-    byte == b' ' || byte == b'\t' || byte == b'\r' || byte == b'\n'
-}
-
-fn white_len(bytes: &[u8]) -> usize
-    ensures count { result ≡ prefix_len white bytes.now }
-    ensures within { result ≤ length bytes.now }
-{
-    bytes.iter().take_while(|byte| is_white(**byte)).count()
-}
-
-/// The bytes without the white space that they begin with.
-fn skip_white(bytes: &[u8]) -> &[u8]
-    ensures { result.now ≡ without_white bytes.now }
-{
-    let count = white_len(bytes);
-    &bytes[count..]
-}
-
-/// The bytes behind the symbol, without the white space that they begin with.
-fn rows_after<'a>(text: &'a str, mark: Symbol) -> &'a [u8]
-    requires { mark.to ≤ length text.now }
-    ensures { result.now ≡ rows_from mark.to text.now }
-{
-    skip_white(&text.as_bytes()[mark.to..])
-}
-
-fn built_query(memory: &mut Requests, text: &str, query: &WrittenQuery) -> Result<Command, Memory>
-    requires { TabularIn text.now (query_of query.now).tabular }
-    ensures value { IfOk result (λ c. c ≡ without_lets text.now (query_of query.now)) }
-    ensures refused { OnErr result (memory.new.refused ≡ true) }
-{
-    if !query.lets.is_empty() {
-        return Ok(Command::Unbuilt);
-    }
-    match counted(&query.tabular) {
-        Some((name, counted)) => Ok(Command::Query(Query {
-            table: identifier(memory, text, name)?,
-            counted,
-        })),
-        None => Ok(Command::Unbuilt),
-    }
-}
-
-fn plain_table(source: &Source) -> Option<Name>
-    ensures { result ≡ plain_name (source_of source.now) }
-{
-    match source {
-        Source::Table(name) => Some(*name),
-        Source::Nested(..) => None,
-        Source::Worded(..) => None,
-    }
-}
-
-fn is_count(operator: &Operator) -> bool
-    ensures { result ≡ counts (operator_of operator.now).1 }
-{
-    matches!(operator.body, OperatorBody::Count)
-}
-
-/// Whether rows are counted, where nothing else becomes of them.
-fn counting(operators: &[Operator]) -> Option<bool>
-    ensures { result ≡ counting_of (operators_of (map operator_of operators.now)) }
-{
-    if operators.is_empty() {
-        return Some(false);
-    }
-    if operators.len() > 1 {
-        return None;
-    }
-    if is_count(&operators[0]) {
-        Some(true)
-    } else {
-        None
-    }
-}
-
-/// A table's name alone, or with `count` behind it.
-fn counted(tabular: &Tabular) -> Option<(Name, bool)>
-    ensures { result ≡ counted_of (tabular_of tabular.now) }
-{
-    let name = plain_table(&tabular.source)?;
-    let counted = counting(tabular.operators.as_slice())?;
-    Some((name, counted))
 }
 
 fn column_in(

@@ -1,14 +1,14 @@
 // What of a command isn't supported.
 ghost use Rattle.std.specs.Prelude.{◌≡◌, ◌∷◌, true, All, IfOk, OnErr};
 ghost use Rattle.std.specs.Option.{option_map};
-ghost use Rattle.kq_command.specs.InText.{ColumnIn, ColumnsIn, ControlIn, PropertiesIn, PropertyIn, StatementIn};
-ghost use Rattle.kq_command.specs.Unsupported.{column_fault as column_fault_of, control_fault as control_fault_of, first_of, ingest_fault as ingest_fault_of, properties_fault, unless as unless_of, unsupported as unsupported_of, view_fault as view_fault_of};
-ghost use Rattle.kq_control.specs.ControlViews.{columns_of, control_of, properties_of, statement_of};
+ghost use Rattle.kq_command.specs.InText.{ColumnIn, ColumnsIn, ControlIn, PropertiesIn, PropertyIn};
+ghost use Rattle.kq_command.specs.Unsupported.{column_fault as column_fault_of, control_fault, first_of, ingest_fault as ingest_fault_of, properties_fault, unless as unless_of, view_fault as view_fault_of};
+ghost use Rattle.kq_control.specs.ControlViews.{columns_of, control_of, properties_of};
 
 use crate::meanings::{piece, string_at};
 use crate::memory::Requests;
 use crate::types::ty_of;
-use kq_control::{ColumnList, Control, Property, PropertyList, Statement};
+use kq_control::{ColumnList, Control, Property, PropertyList};
 use kq_grammar::Column;
 use kq_syntax::Class;
 use kq_value::Memory;
@@ -158,13 +158,14 @@ fn definition_fault(text: &str, list: &Option<PropertyList>) -> Option<usize>
     first_view_fault(text, list.others.as_slice())
 }
 
-fn control_fault(
+/// The place of the first symbol of the command that isn't supported.
+pub(crate) fn unsupported(
     memory: &mut Requests,
     text: &str,
     control: &Control,
 ) -> Result<Option<usize>, Memory>
     requires { ControlIn text.now (control_of control.now) }
-    ensures value { IfOk result (λ o. o ≡ control_fault_of text.now (control_of control.now)) }
+    ensures value { IfOk result (λ o. o ≡ control_fault text.now (control_of control.now)) }
     ensures refused { OnErr result (memory.new.refused ≡ true) }
 {
     match control {
@@ -173,21 +174,5 @@ fn control_fault(
         Control::Ingest(_, list, _) => ingestion_fault(memory, text, list),
         Control::CreateView(view) => Ok(definition_fault(text, &view.properties)),
         _ => Ok(None),
-    }
-}
-
-/// The place of the first symbol of the command that isn't supported.
-pub(crate) fn unsupported(
-    memory: &mut Requests,
-    text: &str,
-    statement: &Statement,
-) -> Result<Option<usize>, Memory>
-    requires { StatementIn text.now (statement_of statement.now) }
-    ensures value { IfOk result (λ o. o ≡ unsupported_of text.now (statement_of statement.now)) }
-    ensures refused { OnErr result (memory.new.refused ≡ true) }
-{
-    match statement {
-        Statement::Query(_) => Ok(None),
-        Statement::Control(control) => control_fault(memory, text, control),
     }
 }
