@@ -1,0 +1,4 @@
+mod Checked
+mod Sameness
+pub mod Truths
+pub mod Typed

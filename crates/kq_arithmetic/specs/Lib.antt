@@ -1,0 +1,4 @@
+pub mod Arithmetic
+pub mod Comparing
+pub mod Logic
+pub mod Numbers
