@@ -1,0 +1,178 @@
+-- The steps of walks over the parts of a call.
+use Rattle.std.proofs.Common.{◌≡◌, ◌<◌, ◌≤◌, ℕ, zero, suc, ◌+◌, Bool, List, [], ◌∷◌, ◌++◌, map, length, get_or, drop, refl, sym, ap, ◌∙◌, arith}
+use Rattle.std.specs.Prelude.{not, ◌≢◌}
+use Rattle.kq_value.specs.declared.ty.Ty.TheVariants as ty
+use Rattle.kq_value.specs.declared.value.Value.{Value}
+use Rattle.kq_value.specs.declared.value.Value.TheVariants.{Null}
+use Rattle.kq_computed.specs.Computed.{Computed, Is, Overflow, and_then, each}
+use Rattle.kq_kernels.specs.Pairs.{each_two}
+use Rattle.kq_fn.specs.declared.function.Function.{Function}
+use Rattle.kq_fn.specs.declared.function.Function.TheVariants as f
+use Rattle.kq_scalar.specs.Applied.{applied}
+use Rattle.kq_expr.specs.declared.expr.Expr.{Expr}
+use Rattle.kq_arithmetic.specs.Logic.{is_yes}
+use Rattle.kq_scalar.specs.Val.{Surroundings}
+use Rattle.kq_columnar.specs.Choices.{picked, merged, is_present}
+use Rattle.kq_columnar.specs.Over.{Over, over, choosing, keeping, chosen_over, present_over, values_over, called_over, bare}
+use Rattle.kq_columnar.specs.Vectors.{cells_of}
+use Rattle.kq_columnar.specs.Seen.{merged_by, fronted}
+use Rattle.kq_columnar.specs.declared.vector.Vector.{Vector}
+use Rattle.kq_columnar.specs.declared.choices.Branch.{Branch}
+use Rattle.kq_columnar.proofs.Arguments.{two-beside, fronted-push}
+
+-- ---- all arguments
+
+-- a function that doesn't choose looks at all its arguments
+pub called_all : (function : Function) (os : List Over) (s : Surroundings) (rows : List (List Value)) → function ≢ f.Iff → function ≢ f.Case → function ≢ f.Coalesce
+    → called_over function os s rows ≡ and_then (values_over os s rows) (each (applied function s.now))
+called_all f.Iff os s rows i c n = absurd (i refl)
+called_all f.Case os s rows i c n = absurd (c refl)
+called_all f.Coalesce os s rows i c n = absurd (n refl)
+called_all function os s rows i c n = refl
+
+values-next : (es : List Expr) (i : ℕ) (e : Expr) (s : Surroundings) (rows : List (List Value)) → i < length es → e ≡ get_or es i e
+    → values_over (map over (drop i es)) s rows ≡ and_then (over e s rows) (λ xs. and_then (values_over (map over (drop (suc i) es)) s rows) (λ rs. each_two (λ x r. Is (x ∷ r)) xs rs))
+values-next [] i e s rows h is = absurd (omega arith)
+values-next (x ∷ es) zero e s rows h is = ap (λ (d : Expr). and_then (over d s rows) (λ xs. and_then (values_over (map over es) s rows) (λ rs. each_two (λ x r. Is (x ∷ r)) xs rs))) (sym is)
+values-next (x ∷ es) (suc i) e s rows h is = values-next es i e s rows (omega arith) is
+
+values-front : (vs : List Vector) (v : Vector) (rest : Computed (List (List Value)))
+    → and_then (and_then rest (λ rs. each_two (λ x r. Is (x ∷ r)) (cells_of v) rs)) (λ rs. Is (fronted vs rs)) ≡ and_then rest (λ rs. Is (fronted (vs ++ v ∷ []) rs))
+values-front vs v Overflow = refl
+values-front vs v (Is rs) = rw (two-beside (cells_of v) rs) (ap Is (sym (fronted-push vs v rs)))
+
+-- the values of one argument more
+pub values_more : (whole : Computed (List (List Value))) (es : List Expr) (i : ℕ) (e : Expr) (s : Surroundings) (rows : List (List Value)) (vs : List Vector) (v : Vector)
+    → whole ≡ and_then (values_over (map over (drop i es)) s rows) (λ rs. Is (fronted vs rs)) → i < length es → e ≡ get_or es i e → over e s rows ≡ Is (cells_of v)
+    → whole ≡ and_then (values_over (map over (drop (suc i) es)) s rows) (λ rs. Is (fronted (vs ++ v ∷ []) rs))
+values_more whole es i e s rows vs v inv h is gives =
+    inv ∙ rw (values-next es i e s rows h is, gives) (values-front vs v (values_over (map over (drop (suc i) es)) s rows))
+
+pub values_stop : (whole : Computed (List (List Value))) (es : List Expr) (i : ℕ) (e : Expr) (s : Surroundings) (rows : List (List Value)) (vs : List Vector)
+    → whole ≡ and_then (values_over (map over (drop i es)) s rows) (λ rs. Is (fronted vs rs)) → i < length es → e ≡ get_or es i e → over e s rows ≡ Overflow
+    → whole ≡ Overflow
+values_stop whole es i e s rows vs inv h is gives = inv ∙ rw (values-next es i e s rows h is, gives) refl
+
+drop_exprs : (xs : List Expr) (i : ℕ) → length xs ≤ i → drop i xs ≡ []
+drop_exprs [] zero h = refl
+drop_exprs [] (suc i) h = refl
+drop_exprs (y ∷ xs) zero h = absurd (omega arith)
+drop_exprs (y ∷ xs) (suc i) h = drop_exprs xs i (omega arith)
+
+pub values_end : (whole : Computed (List (List Value))) (es : List Expr) (i : ℕ) (s : Surroundings) (rows : List (List Value)) (vs : List Vector)
+    → whole ≡ and_then (values_over (map over (drop i es)) s rows) (λ rs. Is (fronted vs rs)) → length es ≤ i → whole ≡ Is (fronted vs (bare rows))
+values_end whole es i s rows vs inv h = inv ∙ rw (drop_exprs es i h) refl
+
+-- ---- branches
+
+pub merged_push : (bs : List Branch) (b : Branch) (zs : List Value) → merged_by (bs ++ b ∷ []) zs ≡ merged_by bs (merged b.tests.items (cells_of b.values) zs)
+merged_push [] b zs = refl
+merged_push (c ∷ bs) b zs = ap (merged c.tests.items (cells_of c.values)) (merged_push bs b zs)
+
+-- what is known of each, is known of all
+through : {A B C : Type 0} (c : Computed A) (g : A → B) (b : B) (k : B → Computed C) → and_then c (λ v. Is (g v)) ≡ Is b → and_then c (λ v. k (g v)) ≡ k b
+through Overflow g b k e = absurd (cc)
+through (Is v) g b k e = let same : g v ≡ b = cc in ap k same
+
+through_stop : {A B C : Type 0} (c : Computed A) (g : A → B) (k : B → Computed C) → and_then c (λ v. Is (g v)) ≡ Overflow → and_then c (λ v. k (g v)) ≡ Overflow
+through_stop Overflow g k e = refl
+through_stop (Is v) g k e = absurd (cc)
+
+stacked : (bs : List Branch) (b : Branch) (rest : Computed (List Value))
+    → and_then (and_then rest (λ zs. Is (merged b.tests.items (cells_of b.values) zs))) (λ zs. Is (merged_by bs zs)) ≡ and_then rest (λ zs. Is (merged_by (bs ++ b ∷ []) zs))
+stacked bs b Overflow = refl
+stacked bs b (Is zs) = ap Is (sym (merged_push bs b zs))
+
+chosen-next : (es : List Expr) (i : ℕ) (p q : Expr) (s : Surroundings) (rows : List (List Value)) → i + 1 < length es → p ≡ get_or es i p → q ≡ get_or es (suc i) q
+    → chosen_over (map over (drop i es)) s rows ≡ and_then (over p s rows) (λ vs. choosing (over q s) (chosen_over (map over (drop (suc (suc i)) es)) s) (map is_yes vs) rows)
+chosen-next [] i p q s rows h is at = absurd (omega arith)
+chosen-next (x ∷ []) i p q s rows h is at = absurd (omega arith)
+chosen-next (x ∷ y ∷ es) zero p q s rows h is at = λ j. and_then (over (sym is j) s rows) (λ vs. choosing (over (sym at j) s) (chosen_over (map over es) s) (map is_yes vs) rows)
+chosen-next (x ∷ y ∷ es) (suc i) p q s rows h is at = chosen-next (y ∷ es) i p q s rows (omega arith) is at
+
+-- what is left after a test and its value
+pub chosen_more : (whole : Computed (List Value)) (es : List Expr) (i : ℕ) (p q : Expr) (s : Surroundings) (rows chosen left : List (List Value)) (bs : List Branch) (b : Branch)
+    → whole ≡ and_then (chosen_over (map over (drop i es)) s rows) (λ zs. Is (merged_by bs zs)) → i + 1 < length es → p ≡ get_or es i p → q ≡ get_or es (suc i) q
+    → and_then (over p s rows) (λ vs. Is (map is_yes vs)) ≡ Is b.tests.items → chosen ≡ picked b.tests.items rows → over q s chosen ≡ Is (cells_of b.values) → left ≡ picked (map not b.tests.items) rows
+    → whole ≡ and_then (chosen_over (map over (drop (suc (suc i)) es)) s left) (λ zs. Is (merged_by (bs ++ b ∷ []) zs))
+chosen_more whole es i p q s rows chosen left bs b inv h is at tests those gives others =
+    let rest = chosen_over (map over (drop (suc (suc i)) es)) s in
+    let ts = b.tests.items in
+    let values : over q s (picked ts rows) ≡ Is (cells_of b.values) = ap (over q s) (sym those) ∙ gives in
+    let next : chosen_over (map over (drop i es)) s rows ≡ and_then (rest left) (λ zs. Is (merged ts (cells_of b.values) zs)) =
+    chosen-next es i p q s rows h is at ∙ through (over p s rows) (map is_yes) ts (λ us. choosing (over q s) rest us rows) tests
+    ∙ ap (λ c. and_then c (λ ys. and_then (rest (picked (map not ts) rows)) (λ zs. Is (merged ts ys zs)))) values ∙ ap (λ rs. and_then (rest rs) (λ zs. Is (merged ts (cells_of b.values) zs))) (sym others) in
+    inv ∙ ap (λ c. and_then c (λ zs. Is (merged_by bs zs))) next ∙ stacked bs b (rest left)
+
+pub chosen_no_test : (whole : Computed (List Value)) (es : List Expr) (i : ℕ) (p q : Expr) (s : Surroundings) (rows : List (List Value)) (bs : List Branch)
+    → whole ≡ and_then (chosen_over (map over (drop i es)) s rows) (λ zs. Is (merged_by bs zs)) → i + 1 < length es → p ≡ get_or es i p → q ≡ get_or es (suc i) q
+    → and_then (over p s rows) (λ vs. Is (map is_yes vs)) ≡ Overflow → whole ≡ Overflow
+chosen_no_test whole es i p q s rows bs inv h is at tests =
+    let rest = chosen_over (map over (drop (suc (suc i)) es)) s in
+    inv ∙ ap (λ c. and_then c (λ zs. Is (merged_by bs zs))) (chosen-next es i p q s rows h is at ∙ through_stop (over p s rows) (map is_yes) (λ us. choosing (over q s) rest us rows) tests)
+
+pub chosen_no_value : (whole : Computed (List Value)) (es : List Expr) (i : ℕ) (p q : Expr) (s : Surroundings) (rows chosen : List (List Value)) (bs : List Branch) (ts : List Bool)
+    → whole ≡ and_then (chosen_over (map over (drop i es)) s rows) (λ zs. Is (merged_by bs zs)) → i + 1 < length es → p ≡ get_or es i p → q ≡ get_or es (suc i) q
+    → and_then (over p s rows) (λ vs. Is (map is_yes vs)) ≡ Is ts → chosen ≡ picked ts rows → over q s chosen ≡ Overflow → whole ≡ Overflow
+chosen_no_value whole es i p q s rows chosen bs ts inv h is at tests those gives =
+    let rest = chosen_over (map over (drop (suc (suc i)) es)) s in
+    let values : over q s (picked ts rows) ≡ Overflow = ap (over q s) (sym those) ∙ gives in
+    let next : chosen_over (map over (drop i es)) s rows ≡ Overflow =
+    chosen-next es i p q s rows h is at ∙ through (over p s rows) (map is_yes) ts (λ us. choosing (over q s) rest us rows) tests
+    ∙ ap (λ c. and_then c (λ ys. and_then (rest (picked (map not ts) rows)) (λ zs. Is (merged ts ys zs)))) values in
+    inv ∙ ap (λ c. and_then c (λ zs. Is (merged_by bs zs))) next
+
+pub ends : (whole last : Computed (List Value)) (bs : List Branch) (zs made : List Value) → whole ≡ and_then last (λ zs. Is (merged_by bs zs)) → last ≡ Is zs → made ≡ merged_by bs zs → whole ≡ Is made
+ends whole last bs zs made inv e m = inv ∙ ap (λ c. and_then c (λ zs. Is (merged_by bs zs))) e ∙ ap Is (sym m)
+
+pub ends_not : (whole last : Computed (List Value)) (bs : List Branch) → whole ≡ and_then last (λ zs. Is (merged_by bs zs)) → last ≡ Overflow → whole ≡ Overflow
+ends_not whole last bs inv e = inv ∙ ap (λ c. and_then c (λ zs. Is (merged_by bs zs))) e
+
+-- the last value, where no test is left
+pub last_at : (es : List Expr) (i : ℕ) (q : Expr) (s : Surroundings) (rows : List (List Value)) → i < length es → length es ≤ i + 1 → q ≡ get_or es i q → chosen_over (map over (drop i es)) s rows ≡ over q s rows
+last_at [] i q s rows h k at = absurd (omega arith)
+last_at (x ∷ []) zero q s rows h k at = ap (λ (z : Expr). over z s rows) (sym at)
+last_at (x ∷ []) (suc i) q s rows h k at = absurd (omega arith)
+last_at (x ∷ y ∷ es) zero q s rows h k at = absurd (omega arith)
+last_at (x ∷ y ∷ es) (suc i) q s rows h k at = last_at (y ∷ es) i q s rows (omega arith) (omega arith) at
+
+pub last_none : (es : List Expr) (i : ℕ) (s : Surroundings) (rows : List (List Value)) → length es ≤ i → chosen_over (map over (drop i es)) s rows ≡ Is (map (λ r. Null ty.Long) rows)
+last_none es i s rows h = rw (drop_exprs es i h) refl
+
+-- ---- the first that is there
+
+-- one value alone is the last of either
+pub last_alike : (es : List Expr) (i : ℕ) (s : Surroundings) (rows : List (List Value)) → length es ≤ i + 1 → present_over (map over (drop i es)) s rows ≡ chosen_over (map over (drop i es)) s rows
+last_alike [] zero s rows h = refl
+last_alike [] (suc i) s rows h = refl
+last_alike (x ∷ []) zero s rows h = refl
+last_alike (x ∷ []) (suc zero) s rows h = refl
+last_alike (x ∷ []) (suc (suc i)) s rows h = refl
+last_alike (x ∷ y ∷ es) zero s rows h = absurd (omega arith)
+last_alike (x ∷ y ∷ es) (suc i) s rows h = last_alike (y ∷ es) i s rows (omega arith)
+
+present-next : (es : List Expr) (i : ℕ) (p : Expr) (s : Surroundings) (rows : List (List Value)) → i + 1 < length es → p ≡ get_or es i p
+    → present_over (map over (drop i es)) s rows ≡ and_then (over p s rows) (λ vs. keeping (present_over (map over (drop (suc i) es)) s) (map is_present vs) vs rows)
+present-next [] i p s rows h is = absurd (omega arith)
+present-next (x ∷ []) i p s rows h is = absurd (omega arith)
+present-next (x ∷ y ∷ es) zero p s rows h is = λ j. and_then (over (sym is j) s rows) (λ vs. keeping (present_over (map over (y ∷ es)) s) (map is_present vs) vs rows)
+present-next (x ∷ y ∷ es) (suc i) p s rows h is = present-next (y ∷ es) i p s rows (omega arith) is
+
+-- what is left after the values that are there
+pub present_more : (whole : Computed (List Value)) (es : List Expr) (i : ℕ) (p : Expr) (s : Surroundings) (rows left : List (List Value)) (bs : List Branch) (b : Branch) (vs : List Value)
+    → whole ≡ and_then (present_over (map over (drop i es)) s rows) (λ zs. Is (merged_by bs zs)) → i + 1 < length es → p ≡ get_or es i p
+    → over p s rows ≡ Is vs → b.tests.items ≡ map is_present vs → cells_of b.values ≡ picked b.tests.items vs → left ≡ picked (map not b.tests.items) rows
+    → whole ≡ and_then (present_over (map over (drop (suc i) es)) s left) (λ zs. Is (merged_by (bs ++ b ∷ []) zs))
+present_more whole es i p s rows left bs b vs inv h is gives tests kept others =
+    let rest = present_over (map over (drop (suc i) es)) s in
+    let ts = b.tests.items in
+    let next : present_over (map over (drop i es)) s rows ≡ and_then (rest left) (λ zs. Is (merged ts (cells_of b.values) zs)) =
+    present-next es i p s rows h is ∙ ap (λ c. and_then c (λ us. keeping rest (map is_present us) us rows)) gives ∙ ap (λ us. keeping rest us vs rows) (sym tests)
+    ∙ (λ j. and_then (rest (sym others j)) (λ zs. Is (merged ts (sym kept j) zs))) in
+    inv ∙ ap (λ c. and_then c (λ zs. Is (merged_by bs zs))) next ∙ stacked bs b (rest left)
+
+pub present_stop : (whole : Computed (List Value)) (es : List Expr) (i : ℕ) (p : Expr) (s : Surroundings) (rows : List (List Value)) (bs : List Branch)
+    → whole ≡ and_then (present_over (map over (drop i es)) s rows) (λ zs. Is (merged_by bs zs)) → i + 1 < length es → p ≡ get_or es i p → over p s rows ≡ Overflow → whole ≡ Overflow
+present_stop whole es i p s rows bs inv h is gives =
+    let rest = present_over (map over (drop (suc i) es)) s in
+    inv ∙ ap (λ c. and_then c (λ zs. Is (merged_by bs zs))) (present-next es i p s rows h is ∙ ap (λ c. and_then c (λ us. keeping rest (map is_present us) us rows)) gives)

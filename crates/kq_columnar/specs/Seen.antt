@@ -1,0 +1,57 @@
+-- Parts of the code, as the definitions speak of them.
+use Rattle.std.specs.Prelude.{ℕ, pos, List, [], ◌∷◌, map, length, min, replicate}
+use Rattle.kq_value.specs.declared.value.Value.{Value}
+use Rattle.kq_computed.specs.Computed.{Computed, and_then, each}
+use Rattle.kq_expr.specs.declared.expr.Expr.{Expr}
+use Rattle.kq_fn.specs.declared.function.Function.{Function}
+use Rattle.kq_scalar.specs.Applied.{applied}
+use Rattle.kq_scalar.specs.Val.{Surroundings, surroundings}
+use Rattle.kq_columnar.specs.Choices.{merged}
+use Rattle.kq_columnar.specs.Over.{over, values_over}
+use Rattle.kq_columnar.specs.Vectors.{cells_of, rows_at}
+use Rattle.kq_columnar.specs.declared.vector.Vector.{Vector}
+use Rattle.kq_columnar.specs.declared.choices.Branch.{Branch}
+use Rattle.kq_columnar.specs.declared.piece.Piece.{Piece}
+
+abbrev pub seen : Piece → Surroundings
+seen piece = surroundings piece.now piece.lets.now
+
+abbrev pub rows_in : Piece → List ℕ → List (List Value)
+rows_in piece places = rows_at piece.columns.now places
+
+-- the values of all, as a row for each row
+abbrev pub all_over : List Expr → Piece → List ℕ → Computed (List (List Value))
+all_over es piece places = values_over (map over es) (seen piece) (rows_in piece places)
+
+-- a function that looks at all its arguments
+abbrev pub called_in : Function → List Expr → Piece → List ℕ → Computed (List Value)
+called_in function es piece places = and_then (all_over es piece places) (each (applied function piece.now))
+
+-- the values of each branch where its tests are true, and else those of the next ones
+abbrev pub merged_by : List Branch → List Value → List Value
+merged_by [] zs = zs
+merged_by (b ∷ bs) zs = merged b.tests.items (cells_of b.values) (merged_by bs zs)
+
+-- a cell in front of each row, as far as both go
+abbrev pub beside : List Value → List (List Value) → List (List Value)
+beside [] rs = []
+beside (x ∷ xs) [] = []
+beside (x ∷ xs) (r ∷ rs) = (x ∷ r) ∷ beside xs rs
+
+-- columns in front of rows
+abbrev pub fronted : List Vector → List (List Value) → List (List Value)
+fronted [] rs = rs
+fronted (v ∷ vs) rs = beside (cells_of v) (fronted vs rs)
+
+-- so many rows of these columns, or as many as all of them have
+abbrev pub rows_of : List Vector → ℕ → List (List Value)
+rows_of vectors n = fronted vectors (replicate n [])
+
+-- a function at two arguments, whatever the command's moment
+abbrev pub paired : Function → Value → Value → Computed Value
+paired function x y = applied function (pos 0) (x ∷ y ∷ [])
+
+-- how many rows these are
+abbrev pub shortest : List Vector → ℕ → ℕ
+shortest [] n = n
+shortest (v ∷ vs) n = shortest vs (min n (length (cells_of v)))

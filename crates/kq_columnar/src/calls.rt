@@ -1,0 +1,101 @@
+// Functions at the values of their arguments, row by row.
+ghost use Rattle.std.specs.Prelude.{◌≡◌, IfOk};
+ghost use Rattle.kq_computed.specs.Computed.{Answers, AnswersAs, each};
+ghost use Rattle.kq_scalar.specs.Applied.{applied};
+ghost use Rattle.kq_columnar.specs.Over.{bare};
+ghost use Rattle.kq_columnar.specs.Vectors.{cells_of, row_at};
+ghost use Rattle.kq_columnar.specs.Seen.{fronted, rows_in, rows_of, shortest as the_shortest};
+
+use crate::kernels::of_two;
+use crate::piece::Piece;
+use crate::vector::Vector;
+use kq_computed::EvalFault;
+use kq_fn::Function;
+use kq_scalar::apply::apply;
+use kq_value::{Memory, Value};
+use std::alloc::Global;
+
+/// What a function gives of the values of its arguments at these places.
+pub fn apply_over(
+    alloc: Global,
+    function: Function,
+    vectors: &[Vector],
+    piece: Piece,
+    places: &[usize],
+) -> Result<Vector, EvalFault>
+    ensures { AnswersAs cells_of (each (applied function piece.entry.now) (fronted vectors.now (bare (rows_in piece.entry places.now)))) result }
+{
+    apply_all(alloc, function, vectors, places.len(), piece)
+}
+
+// By a kernel where one decides all rows, and else row by row.
+fn apply_all(
+    alloc: Global,
+    function: Function,
+    vectors: &[Vector],
+    count: usize,
+    piece: Piece,
+) -> Result<Vector, EvalFault>
+    ensures { AnswersAs cells_of (each (applied function piece.entry.now) (rows_of vectors.now count)) result }
+{
+    match vectors {
+        [a, b] if a.len() == count && b.len() == count => {
+            match of_two(alloc, function, a, b)? {
+                Some(values) => Ok(values),
+                None => apply_each(alloc, function, vectors, count, piece),
+            }
+        }
+        _ => apply_each(alloc, function, vectors, count, piece),
+    }
+}
+
+#[tactic(auto, using(crate::proofs::Arguments::next_row, crate::proofs::Arguments::no_row, crate::proofs::Loops::breaks_off))]
+fn apply_each(
+    alloc: Global,
+    function: Function,
+    vectors: &[Vector],
+    count: usize,
+    piece: Piece,
+) -> Result<Vector, EvalFault>
+    ensures { AnswersAs cells_of (each (applied function piece.entry.now) (rows_of vectors.now count)) result }
+{
+    let n = shortest(vectors, count);
+    let mut cells = Vec::with_capacity(alloc, n)?;
+    for i in 0..n {
+        cells.push(apply_at(alloc, function, vectors, i, piece)?)?;
+    }
+    Ok(Vector::Cells(cells))
+}
+
+fn apply_at(
+    alloc: Global,
+    function: Function,
+    vectors: &[Vector],
+    i: usize,
+    piece: Piece,
+) -> Result<Value, EvalFault>
+    ensures { Answers (applied function piece.entry.now (row_at vectors.now i)) result }
+{
+    let args = row_of(alloc, vectors, i)?;
+    apply(alloc, function, &args, piece.now)
+}
+
+fn shortest(vectors: &[Vector], count: usize) -> usize
+    ensures { result ≡ the_shortest vectors.now count }
+{
+    let mut least = count;
+    for vector in vectors {
+        least = least.min(vector.len());
+    }
+    least
+}
+
+fn row_of(alloc: Global, vectors: &[Vector], i: usize) -> Result<Vec<Value>, Memory>
+    ensures { IfOk result (λ r. r.items ≡ row_at vectors.now i) }
+{
+    let mut row = Vec::with_capacity(alloc, vectors.len())?;
+    for vector in vectors {
+        row.push(vector.cell(i)?)?;
+    }
+    Ok(row)
+}

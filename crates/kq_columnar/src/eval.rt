@@ -1,0 +1,169 @@
+// Expressions over the rows of a piece.
+ghost use Rattle.std.specs.Prelude.{◌≡◌, ◌≤◌, ◌+◌, IfOk, map, drop, length};
+ghost use Rattle.kq_computed.specs.Computed.{Is, and_then, AnswersAs, each};
+ghost use Rattle.kq_arithmetic.specs.Logic.{is_yes};
+ghost use Rattle.kq_scalar.specs.Val.{val, surroundings, cell_of};
+ghost use Rattle.kq_columnar.specs.Over.{over, chosen_over, present_over, bare};
+ghost use Rattle.kq_columnar.specs.Vectors.{cells_of, rows_at};
+ghost use Rattle.kq_columnar.specs.Seen.{seen, rows_in, all_over, fronted};
+
+use crate::calls::apply_over;
+use crate::choices::{Branch, merged_all, other_places, picked_places, present_branch, truths};
+use crate::gather::{column_over, value_over};
+use crate::lent::lent_tests;
+use crate::piece::Piece;
+use crate::vector::{Vector, cell_at};
+use kq_computed::EvalFault;
+use kq_expr::Expr;
+use kq_fn::Function;
+use kq_value::{Memory, Ty, Value};
+use std::alloc::Global;
+
+/// The value of an expression over each of the rows at these places, with the cells of the scalar lets and the ticks of the command's moment. A column, a place or a let past the end is a null, which can't come up for an expression that was bound over such rows.
+#[tactic(auto, using(crate::proofs::OverIs::over_is_each))]
+pub fn eval_column(
+    alloc: Global,
+    expr: &Expr,
+    columns: &[Vector],
+    places: &[usize],
+    lets: &[Value],
+    now: i64,
+) -> Result<Vector, EvalFault>
+    ensures { AnswersAs cells_of (each (val expr.now (surroundings now lets.now)) (rows_at columns.now places.now)) result }
+{
+    eval_over(alloc, expr, Piece { columns, lets, now }, places)
+}
+
+#[cycle(eval)]
+#[tactic(auto, using(crate::proofs::Branches::called_all))]
+fn eval_over(
+    alloc: Global,
+    expr: &Expr,
+    piece: Piece,
+    places: &[usize],
+) -> Result<Vector, EvalFault>
+    ensures { AnswersAs cells_of (over expr.now (seen piece.entry) (rows_in piece.entry places.now)) result }
+{
+    match expr {
+        Expr::Literal(value) => Ok(value_over(alloc, value, piece.columns, places)?),
+        Expr::Column(j) => Ok(column_over(alloc, *j, piece.columns, places)?),
+        Expr::Cell(i) => Ok(let_over(alloc, *i, piece, places)?),
+        Expr::Call(function, args) => match function {
+            Function::Iff | Function::Case => eval_chosen(alloc, args, piece, places),
+            Function::Coalesce => eval_present(alloc, args, piece, places),
+            _ => match lent_tests(alloc, *function, args, piece, places)? {
+                Some(truths) => Ok(truths),
+                None => {
+                    let vectors = eval_all(alloc, args, piece, places)?;
+                    apply_over(alloc, *function, &vectors, piece, places)
+                }
+            },
+        },
+    }
+}
+
+fn let_over(alloc: Global, i: usize, piece: Piece, places: &[usize]) -> Result<Vector, Memory>
+    ensures { IfOk result (λ c. map (λ r. cell_of piece.entry.lets.now i) (rows_in piece.entry places.now) ≡ cells_of c) }
+{
+    let value = cell_at(piece.lets, i)?;
+    value_over(alloc, &value, piece.columns, places)
+}
+
+#[cycle(eval)]
+fn eval_all(
+    alloc: Global,
+    exprs: &Vec<Expr>,
+    piece: Piece,
+    places: &[usize],
+) -> Result<Vec<Vector>, EvalFault>
+    ensures { AnswersAs (λ vs. fronted vs.items (bare (rows_in piece.entry places.now))) (all_over exprs.now.items piece.entry places.now) result }
+{
+    let mut vectors = Vec::new(alloc);
+    for expr in exprs {
+        vectors.push(eval_over(alloc, expr, piece, places)?)?;
+    }
+    Ok(vectors)
+}
+
+// The values behind the first test that is true, or else the last values.
+#[cycle(eval)]
+fn eval_chosen(
+    alloc: Global,
+    exprs: &Vec<Expr>,
+    piece: Piece,
+    places: &[usize],
+) -> Result<Vector, EvalFault>
+    ensures { AnswersAs cells_of (chosen_over (map over exprs.now.items) (seen piece.entry) (rows_in piece.entry places.now)) result }
+{
+    let mut branches = Vec::new(alloc);
+    let mut left = places.to_vec(alloc)?;
+    let mut i = 0;
+    while i + 1 < exprs.len() {
+        let tests = eval_tests(alloc, &exprs[i], piece, &left)?;
+        let chosen = picked_places(alloc, &tests, piece.columns, &left)?;
+        let values = eval_over(alloc, &exprs[i + 1], piece, &chosen)?;
+        left = other_places(alloc, &tests, piece.columns, &left)?;
+        branches.push(Branch { tests, values })?;
+        i += 2;
+    }
+    let last = eval_last(alloc, exprs, i, piece, &left)?;
+    Ok(merged_all(alloc, branches, last)?)
+}
+
+// Whether the expression is true.
+#[cycle(eval)]
+fn eval_tests(
+    alloc: Global,
+    expr: &Expr,
+    piece: Piece,
+    places: &[usize],
+) -> Result<Vec<bool>, EvalFault>
+    ensures { AnswersAs (λ ts. ts.items) (and_then (over expr.now (seen piece.entry) (rows_in piece.entry places.now)) (λ vs. Is (map is_yes vs))) result }
+{
+    let values = eval_over(alloc, expr, piece, places)?;
+    Ok(truths(alloc, values)?)
+}
+
+// The values that are left where all tests are past.
+#[cycle(eval)]
+fn eval_last(
+    alloc: Global,
+    exprs: &Vec<Expr>,
+    i: usize,
+    piece: Piece,
+    places: &[usize],
+) -> Result<Vector, EvalFault>
+    requires { length exprs.now.items ≤ i + 1 }
+    ensures chosen { AnswersAs cells_of (chosen_over (map over (drop i exprs.now.items)) (seen piece.entry) (rows_in piece.entry places.now)) result }
+    ensures present { AnswersAs cells_of (present_over (map over (drop i exprs.now.items)) (seen piece.entry) (rows_in piece.entry places.now)) result }
+{
+    if i < exprs.len() {
+        eval_over(alloc, &exprs[i], piece, places)
+    } else {
+        Ok(value_over(alloc, &Value::Null(Ty::Long), piece.columns, places)?)
+    }
+}
+
+// The first values that are neither null nor empty, or else the last values.
+#[cycle(eval)]
+fn eval_present(
+    alloc: Global,
+    exprs: &Vec<Expr>,
+    piece: Piece,
+    places: &[usize],
+) -> Result<Vector, EvalFault>
+    ensures { AnswersAs cells_of (present_over (map over exprs.now.items) (seen piece.entry) (rows_in piece.entry places.now)) result }
+{
+    let mut branches = Vec::new(alloc);
+    let mut left = places.to_vec(alloc)?;
+    let mut i = 0;
+    while i + 1 < exprs.len() {
+        let values = eval_over(alloc, &exprs[i], piece, &left)?;
+        let branch = present_branch(alloc, values)?;
+        left = other_places(alloc, &branch.tests, piece.columns, &left)?;
+        branches.push(branch)?;
+        i += 1;
+    }
+    let last = eval_last(alloc, exprs, i, piece, &left)?;
+    Ok(merged_all(alloc, branches, last)?)
+}

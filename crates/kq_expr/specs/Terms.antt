@@ -1,0 +1,39 @@
+-- Expressions as plain trees.
+use Rattle.std.specs.Prelude.{ℕ, List, [], ◌∷◌}
+use Rattle.kq_value.specs.declared.ty.Ty.{Ty}
+use Rattle.kq_value.specs.declared.value.Value.{Value}
+use Rattle.kq_fn.specs.declared.function.Function.{Function}
+use Rattle.kq_expr.specs.declared.expr.Expr.{Expr, fold-Expr}
+use Rattle.kq_expr.specs.declared.expr.Expr.TheOpen.{Expr-F}
+use Rattle.kq_expr.specs.declared.expr.Typed.{Typed}
+
+mutual
+  pub data Term : Type 0 where
+    literal : Value → Term
+    column : ℕ → Term
+    cell : ℕ → Term
+    call : Function → Terms → Term
+
+  pub data Terms : Type 0 where
+    no_term : Terms
+    and_term : Term → Terms → Terms
+
+abbrev pub terms_of : List Term → Terms
+terms_of [] = no_term
+terms_of (e ∷ es) = and_term e (terms_of es)
+
+abbrev pub one_term : Expr-F Term → Term
+one_term (Expr-F.Literal v) = literal v
+one_term (Expr-F.Column i) = column i
+one_term (Expr-F.Cell i) = cell i
+one_term (Expr-F.Call f es) = call f (terms_of es.items)
+
+abbrev pub term_of : Expr → Term
+term_of = fold-Expr Term one_term
+
+-- an expression and the type of what it gives
+abbrev pub Bound : Type 0
+Bound = Term × Ty
+
+abbrev pub typed_of : Typed → Bound
+typed_of x = (term_of x.expr, x.ty)

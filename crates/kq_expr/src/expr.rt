@@ -1,0 +1,21 @@
+// Expressions.
+use kq_fn::Function;
+use kq_value::{Ty, Value};
+
+/// An expression over the columns of a row and the cells of scalar lets, both by number from 0. Each int among the arguments of a
+/// call that takes none is made a long by a call of its own.
+#[derive(Drop)]
+pub enum Expr {
+    Literal(Value),
+    Column(usize),
+    /// The cell of a scalar let.
+    Cell(usize),
+    Call(Function, Vec<Expr>),
+}
+
+/// An expression and the type of what it gives.
+#[derive(Drop)]
+pub struct Typed {
+    pub expr: Expr,
+    pub ty: Ty,
+}

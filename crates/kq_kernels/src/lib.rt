@@ -1,0 +1,11 @@
+//! Kernels: the operators of `kq_arithmetic` over two columns of longs at once, as far as they give longs or truths. Where a pair gives neither, as an overflow or a null, there is no column, and the pairs are left to be gone through one by one; so are nulls and the other types.
+#![tactic(auto)]
+
+mod operators;
+mod zip;
+
+pub use operators::{
+    AtLeast, AtMost, Equal, Greater, Less, LongOperator, LongTest, Minus, Plus, Remainder, Times,
+    Unequal,
+};
+pub use zip::{zip_longs, zip_tests};

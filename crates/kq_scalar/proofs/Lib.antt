@@ -1,0 +1,5 @@
+mod Choosing
+mod Chosen
+mod Lines
+pub mod Meant
+pub mod Typed

@@ -1,0 +1,3 @@
+pub mod Applied
+pub mod Seen
+pub mod Val
