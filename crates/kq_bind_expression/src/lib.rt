@@ -1,0 +1,15 @@
+//! The binder of expressions: from the tree of an expression, over the columns of a row and the scalar lets before it, to a typed expression, or its first fault; and the leftmost literal of a tree that isn't supported, which whoever binds a query asks for first. Sources, operators and lets, and what a bound expression gives, are left to others.
+#![tactic(auto)]
+
+mod apply;
+mod expressions;
+mod fault;
+mod literals;
+mod lookup;
+mod operators;
+mod scope;
+
+pub use expressions::bind_expression;
+pub use fault::BindFault;
+pub use literals::unsupported;
+pub use scope::Scope;

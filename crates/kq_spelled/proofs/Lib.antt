@@ -1,0 +1,4 @@
+mod White
+pub mod Proper
+mod Raw
+mod Runs
