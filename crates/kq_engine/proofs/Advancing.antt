@@ -39,7 +39,7 @@ Appends-none limits h mark command place reply = record {
 none_tends : (limits : Limits) (old : History) (command : Command) (reply : Reply) (made : Operation) → Tends limits old command reply made → ⊥
 none_tends limits old command reply (operation.Commit c) tends = tends
 
-acts_at : (limits : Limits) (old new : History) (work : Work) (began : ℕ) (place : ℕ) (own : Bool) (reply : Reply) → began ≤ length old → Acts limits old new work.by work.command (record { place = place; own = own; reply = reply }) → Advances limits old new work began (record { place = place; own = own; reply = reply })
+acts_at : (limits : Limits) (old new : History) (work : Work) (began : ℕ) (place : ℕ) (own : Bool) (reply : Reply) → began ≤ length old → Acts limits old new work (record { place = place; own = own; reply = reply }) → Advances limits old new work began (record { place = place; own = own; reply = reply })
 acts_at limits old new work began place true reply since acts =
     let c = acts.1.0 in
     let is = acts.1.1 in
@@ -56,13 +56,13 @@ acts_at limits old new work began place true reply since acts =
     }
 acts_at limits old new work began place false reply since acts = by_case acts.1
   where
-    by_case : ((new ≡ old) × Answers limits old work.command reply) ⊎ Tended limits old new work.by work.command reply → Advances limits old new work began (record { place = place; own = false; reply = reply })
+    by_case : ((new ≡ old) × Answers limits old work.now work.command reply) ⊎ Tended limits old new work reply → Advances limits old new work began (record { place = place; own = false; reply = reply })
     by_case (inl stays) = record {
       appends = subst (λ (h : History). Appends limits old h work.by work.command (record { place = place; own = false; reply = reply })) (sym stays.0) (Appends-none limits old work.by work.command place reply);
-      fits = Fits-end limits new work.by work.command work.now place false reply acts.0 (subst (λ (h : History). Answers limits h work.command reply) (sym stays.0) stays.1);
+      fits = Fits-end limits new work.by work.command work.now place false reply acts.0 (subst (λ (h : History). Answers limits h work.now work.command reply) (sym stays.0) stays.1);
       since = omega (arith, ap length stays.0);
     }
     by_case (inr tended) = absurd (none_tends limits old work.command reply tended.made tended.tends)
 
-pub Advances-acts : (limits : Limits) (old new : History) (work : Work) (began : ℕ) (outcome : Outcome) → began ≤ length old → Acts limits old new work.by work.command outcome → Advances limits old new work began outcome
+pub Advances-acts : (limits : Limits) (old new : History) (work : Work) (began : ℕ) (outcome : Outcome) → began ≤ length old → Acts limits old new work outcome → Advances limits old new work began outcome
 Advances-acts limits old new work began outcome since acts = acts_at limits old new work began outcome.place outcome.own outcome.reply since acts

@@ -1,5 +1,5 @@
 -- A commit that is due is lawful.
-use Rattle.std.proofs.Common.{◌≡◌, ◌<◌, inl, inr, ℕ, Bool, true, false, cond, List, [], ◌∷◌, length, nat_lt, Option, Some, None, refl, ap, ◌∙◌, subst, arith}
+use Rattle.std.proofs.Common.{◌≡◌, ◌<◌, ℕ, Bool, true, false, cond, List, [], ◌∷◌, length, nat_lt, Option, Some, None, refl, ap, ◌∙◌, subst, arith}
 use Rattle.std.proofs.lemmas.Bool.{ltb-true}
 use Rattle.std.proofs.lemmas.List.{length-map}
 use Rattle.kq_value.specs.declared.schema.Field.{Field}
@@ -11,21 +11,23 @@ use Rattle.kq_model.specs.declared.table.Table.{Table}
 use Rattle.kq_model.specs.History.{Log, Numbered, tables, table_named, table_numbered}
 use Rattle.kq_model.specs.Lawful.{IsIngestion, LawfulCommit, bar_to_table}
 use Rattle.kq_model.specs.Names.{names_of, repeat_of}
+use Rattle.kq_model.specs.Tagged.{least_tagged}
 use Rattle.kq_model.proofs.Tables.{table_numbered-at}
 use Rattle.kq_command.specs.declared.columns.Column.{Column}
 use Rattle.kq_command.specs.declared.columns.Identifier.{Identifier}
 use Rattle.kq_command.specs.declared.command.Change.{Change}
 use Rattle.kq_command.specs.declared.command.Change.TheVariants.{CreateTable, Ingest}
 use Rattle.kq_command.specs.declared.command.Command.{Command}
+use Rattle.kq_command.specs.declared.ingestion.Ingestion.{Ingestion}
 use Rattle.kq_command.specs.declared.command.Command.TheVariants as commands
 use Rattle.kq_command.specs.Columns.{schema_of}
 use Rattle.kq_ingest.specs.declared.fault.IngestFault.{IngestFault}
-use Rattle.kq_ingest.specs.Ingestion.{AreLongs, first_fault, row_of, row_records, rows_of}
+use Rattle.kq_ingest.specs.Ingestion.{first_fault, row_of, row_records, rows_of}
 use Rattle.kq_ingest.proofs.RowLemmas.{rows_typed}
 use Rattle.kq_reply.specs.declared.refusal.Refusal.{Refusal}
 use Rattle.kq_reply.specs.declared.refusal.Refusal.TheVariants as refusals
 use Rattle.kq_reply.specs.declared.reply.Reply.TheVariants as replies
-use Rattle.kq_engine.specs.Due.{Says, Commits, IsChangeDue, IsDueByLog, IsDueByText, IsIngestDue, counted, kept_due, named_due, own_batch, refusal_of, refused, rows_due, table_due, text_refusal}
+use Rattle.kq_engine.specs.Due.{Due, Says, Commits, IsChangeDue, IsDueByLog, IsDueByText, bad_tags, barring_tags, body_due, counted, ingest_due, kept_due, named_due, own_batch, refusal_of, refused, rows_due, table_due, text_refusal, unless_tagged, values_due}
 use Rattle.kq_engine.specs.Found.{IsCommitDue}
 use Rattle.kq_engine.proofs.Texts.{different_names}
 
@@ -100,33 +102,44 @@ none_over false true f g e = cc
 none_over false false f g e = refl
 
 -- a body without a fault has no more rows than a batch
-few_rows : (schema : List Field) (limit : ℕ) (body : List ℕ) → first_fault schema false limit body ≡ None → nat_lt limit (length (rows_of schema false body)) ≡ false
-few_rows schema limit body e = ap (nat_lt limit) (length-map (row_records false body) (row_of schema)) ∙ none_over _ _ _ _ e
+few_rows : (schema : List Field) (skip : Bool) (limit : ℕ) (body : List ℕ) → first_fault schema skip limit body ≡ None → nat_lt limit (length (rows_of schema skip body)) ≡ false
+few_rows schema skip limit body e = ap (nat_lt limit) (length-map (row_records skip body) (row_of schema)) ∙ none_over _ _ _ _ e
 
-own_ingestion : (l : Log) (name body : List ℕ) (found : Numbered) → table_numbered name (tables l) ≡ Some found → AreLongs found.table.schema → IsIngestion l (own_batch found body ∷ []) []
-own_ingestion l name body found named longs = record {
-  own = own_batch found body;
+own_ingestion : (l : Log) (i : Ingestion) (found : Numbered) → table_numbered i.table.text (tables l) ≡ Some found → IsIngestion l (own_batch found i ∷ []) []
+own_ingestion l i found named = record {
+  own = own_batch found i;
   table = found.table;
-  stands = (table_numbered-at name (tables l) found named).1;
-  typed = rows_typed found.table.schema (row_records false body) longs;
+  stands = (table_numbered-at i.table.text (tables l) found named).1;
+  typed = rows_typed found.table.schema (row_records i.properties.ignore_first i.body);
   derived = record { alone = refl; no_failures = refl };
 }
 
-rows-fit : (limits : Limits) (l : Log) (name body : List ℕ) (found : Numbered) (c : Commit) → table_numbered name (tables l) ≡ Some found → AreLongs found.table.schema
-    → Commits c ≡ rows_due limits l (own_batch found body) (first_fault found.table.schema false limits.batch body) → IsFit limits l c
-rows-fit limits l name body found c named longs due = by_fault (first_fault found.table.schema false limits.batch body) refl due
+no_skip : (c : Commit) (cursor : ℕ) → Commits c ≡ Says (replies.Skipped cursor) → ⊥
+no_skip c cursor e = cc
+
+-- a commit that is due is barred by no tag
+pub unbarred : (c : Commit) (o : Option ℕ) (due : Due) → Commits c ≡ unless_tagged o due → (o ≡ None) × (Commits c ≡ due)
+unbarred c None due e = (refl, e)
+unbarred c (Some cursor) due e = absurd (no_skip c cursor e)
+
+good_values : (c : Commit) (o : Option ℕ) (due : Due) → Commits c ≡ values_due o due → Commits c ≡ due
+good_values c None due e = e
+good_values c (Some at) due e = absurd (no_commit c (refusals.BadTags at) e)
+
+rows-fit : (limits : Limits) (l : Log) (i : Ingestion) (found : Numbered) (c : Commit) → table_numbered i.table.text (tables l) ≡ Some found → Commits c ≡ rows_due limits l i found → IsFit limits l c
+rows-fit limits l i found c named due = by_fault (first_fault found.table.schema i.properties.ignore_first limits.batch i.body) refl (good_values c (bad_tags i.properties) _ due)
   where
-    by_fault : (f : Option IngestFault) → first_fault found.table.schema false limits.batch body ≡ f → Commits c ≡ rows_due limits l (own_batch found body) f → IsFit limits l c
+    by_fault : (f : Option IngestFault) → first_fault found.table.schema i.properties.ignore_first limits.batch i.body ≡ f → Commits c ≡ body_due limits l (own_batch found i) (barring_tags i.properties) f → IsFit limits l c
     by_fault (Some fault) sound e = absurd (no_commit c (refusal_of fault) e)
     by_fault None sound e =
-        let (room, is) = counted-commit limits l (commits.Ingest (own_batch found body ∷ []) []) c e in
-        let few = few_rows found.table.schema limits.batch body sound in
-        subst (IsFit limits l) is (record { room = ltb-true (length l) limits.commits room; lawful = (own_ingestion l name body found named longs, rw (few, room) refl) })
+        let put = (unbarred c (least_tagged l found.number (barring_tags i.properties)) (counted limits l (commits.Ingest (own_batch found i ∷ []) [])) e).1 in
+        let (room, is) = counted-commit limits l (commits.Ingest (own_batch found i ∷ []) []) c put in
+        let few = few_rows found.table.schema i.properties.ignore_first limits.batch i.body sound in
+        subst (IsFit limits l) is (record { room = ltb-true (length l) limits.commits room; lawful = (own_ingestion l i found named, rw (few, room) refl) })
 
-ingest-fit : (limits : Limits) (l : Log) (table : Identifier) (body : List ℕ) (o : Option Numbered) (c : Commit) → table_numbered table.text (tables l) ≡ o → IsIngestDue limits l table body o (Commits c) → IsFit limits l c
-ingest-fit limits l table body None c named due = absurd (no_commit c (refusals.Unknown table.at) due)
-ingest-fit limits l table body (Some found) c named (inl put) = rows-fit limits l table.text body found c named put.0 put.1
-ingest-fit limits l table body (Some found) c named (inr other) = absurd (no_commit c refusals.Unbuilt other.1)
+ingest-fit : (limits : Limits) (l : Log) (i : Ingestion) (o : Option Numbered) (c : Commit) → table_numbered i.table.text (tables l) ≡ o → Commits c ≡ ingest_due limits l i o → IsFit limits l c
+ingest-fit limits l i None c named due = absurd (no_commit c (refusals.Unknown i.table.at) due)
+ingest-fit limits l i (Some found) c named due = rows-fit limits l i found c named due
 
 -- ---- all
 
@@ -140,7 +153,7 @@ Due-is_good limits l change c due = by_text (text_refusal change) refl due
 
 Due-fit : (limits : Limits) (l : Log) (change : Change) (c : Commit) → text_refusal change ≡ None → IsDueByLog limits l change (Commits c) → IsFit limits l c
 Due-fit limits l (CreateTable name columns) c good due = table-fit limits l name columns c due.0 (different_names columns good) due.1
-Due-fit limits l (Ingest table body) c good due = ingest-fit limits l table body (table_numbered table.text (tables l)) c refl due
+Due-fit limits l (Ingest i) c good due = ingest-fit limits l i (table_numbered i.table.text (tables l)) c refl due
 
 -- a commit that is due is lawful, and one more is allowed
 pub Due-lawful : (limits : Limits) (l : Log) (change : Change) (c : Commit) → IsChangeDue limits l change (Commits c) → IsFit limits l c
@@ -148,5 +161,6 @@ Due-lawful limits l change c due = let (good, by) = Due-is_good limits l change 
 
 pub Commit-lawful : (limits : Limits) (l : Log) (command : Command) (c : Commit) → IsCommitDue limits l command c → IsFit limits l c
 Commit-lawful limits l (commands.Query query) c due = absurd due
+Commit-lawful limits l (commands.Show show) c due = absurd due
 Commit-lawful limits l (commands.Change change) c due = Due-lawful limits l change c due.0
 Commit-lawful limits l commands.Unbuilt c due = absurd due

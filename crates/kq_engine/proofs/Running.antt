@@ -1,5 +1,5 @@
 -- A run goes on by one step.
-use Rattle.std.proofs.Common.{All, ◌≡◌, ◌≤◌, ◌<◌, ◌+◌, ℕ, Bool, true, false, cond, List, [], ◌∷◌, ◌++◌, length, take, drop, Option, Some, None, ap, sym, ◌∙◌, subst, refl, arith, max, ◌⊎◌, inl, inr, count_by, slice_index_or, length-take, append-nil, suc}
+use Rattle.std.proofs.Common.{All, ◌≡◌, ◌≤◌, ◌<◌, ◌+◌, ℕ, ℤ, Bool, true, false, cond, List, [], ◌∷◌, ◌++◌, length, take, drop, Option, Some, None, ap, sym, ◌∙◌, subst, refl, arith, max, ◌⊎◌, inl, inr, count_by, slice_index_or, length-take, append-nil, suc}
 use Rattle.std.specs.List.{remove}
 use Rattle.std.proofs.lemmas.List.{take-append-le, take_all, flat_map_more, length_push}
 use Rattle.std.proofs.lemmas.List.Elements.{All-nil, All-push, All-weaker, All-append, All-take, All-drop}
@@ -234,10 +234,10 @@ moved_gone false o o' t k e f (inr (q, one)) = cc
 some_given : (t : Told) (made : Option Operation) → t ∷ [] ≡ [] → made ≡ None
 some_given t made e = cc
 
-ready_wants : (limits : Limits) (h now : History) (command : Command) (ready : Ready) → IsReady limits h command ready → TakesToFinish now command ready → MayWantMemory h now command
-ready_wants limits h now command (readies.Answered reply) is takes = absurd takes
-ready_wants limits h now command (readies.ToCommit intent) is takes = inl (found_wants h command is.0 (commit_finds limits h command (commit_of intent) is.1.due))
-ready_wants limits h now command readies.Pending is takes = inr takes
+ready_wants : (limits : Limits) (h later : History) (now : ℤ) (command : Command) (ready : Ready) → IsReady limits h now command ready → TakesToFinish later command ready → MayWantMemory h later command
+ready_wants limits h later now command (readies.Answered reply) is takes = absurd takes
+ready_wants limits h later now command (readies.ToCommit offer) is takes = inl (found_wants h command is.0 (commit_finds limits h command (commit_of offer.intent) is.1.due))
+ready_wants limits h later now command readies.Pending is takes = inr takes
 
 -- open work is finished
 pub finish_open : (limits : Limits) (xs : List Step) (c : By) (old new : CatalogView) (open_ones : List Prepared) (outcomes : List Told) (i : ℕ) (p : Prepared) (outcome : Outcome) → IsAt (opens c) open_ones i → p ≡ slice_index_or open_ones i p → new.limits ≡ old.limits → Advances old.limits old.history new.history p.work p.place outcome → WantsToFinish new.history p outcome → IsRun limits xs old open_ones outcomes → IsRun limits (xs ++ Finish c ∷ []) new (remove open_ones i) (outcomes ++ record { by = c; began = p.place; outcome = outcome } ∷ [])
@@ -267,7 +267,7 @@ finish_open limits xs c old new open_ones outcomes i p outcome is_at value kept 
       found = place_of-append c xs (Finish c ∷ []) run.found (length old.history ∷ []) p.place (subst (λ (m : By). place_of m xs run.found ≡ Some p.place) mark open_one.found);
       fits = subst (λ (m : By). Fits limits new.history m p.work.command p.work.now outcome.place outcome.own outcome.reply) mark (subst (λ (l : Limits). Fits l new.history p.work.by p.work.command p.work.now outcome.place outcome.own outcome.reply) run.same_limits step.fits);
       since = step.since;
-      memory = λ wants. subst (λ (n : History). MayWantMemory n (take outcome.place new.history) p.work.command) (sym (ap (take p.place) is ∙ take-append-le p.place old.history made (omega (arith, open_one.prepared.at, length-take p.place old.history)))) (ready_wants limits (take p.place old.history) (take outcome.place new.history) p.work.command p.ready open_one.prepared.is_ready (takes wants));
+      memory = λ wants. subst (λ (n : History). MayWantMemory n (take outcome.place new.history) p.work.command) (sym (ap (take p.place) is ∙ take-append-le p.place old.history made (omega (arith, open_one.prepared.at, length-take p.place old.history)))) (ready_wants limits (take p.place old.history) (take outcome.place new.history) p.work.now p.work.command p.ready open_one.prepared.is_ready (takes wants));
       finished = inl (is_finished-now c xs p.work asked);
     }))
     (step.appends.commits ∙ ap (λ (m : By). commits_at old.history ++ own_commit outcome.own outcome.place m) mark ∙ ap (λ l. l ++ own_commit outcome.own outcome.place c) run.commits ∙ flat_map_more (λ (x : Told). own_commit x.outcome.own x.outcome.place x.by) [] outcomes t)

@@ -47,6 +47,6 @@ Concludes-answered limits pass prepared reply fresh is answered = record {
   taken = sym (append-nil pass.taken);
   last = record { found = pass.seen; begins = IsPrefix-refl pass.seen; before = fresh.before; last = fresh.last; appends = Appends-none limits pass.seen prepared.work.by prepared.work.command prepared.place reply };
   made = omega arith;
-  fits = Fits-end limits pass.seen prepared.work.by prepared.work.command prepared.work.now prepared.place false reply is.at (inr (subst (IsReady limits pass.seen prepared.work.command) answered is.is_ready));
+  fits = Fits-end limits pass.seen prepared.work.by prepared.work.command prepared.work.now prepared.place false reply is.at (inr (subst (IsReady limits pass.seen prepared.work.now prepared.work.command) answered is.is_ready));
   since = omega (arith, is.at);
 }

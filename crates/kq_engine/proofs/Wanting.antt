@@ -1,7 +1,10 @@
 -- Where preparing a command takes memory.
-use Rattle.std.proofs.Common.{◌≡◌, inl, inr, ℕ, Bool, true, false, cond, List, length, nat_lt, Option, Some, None}
+use Rattle.std.proofs.Common.{◌≡◌, ℕ, ℤ, Bool, true, false, cond, List, length, nat_lt, Option, Some, None}
 use Rattle.std.specs.Option.{option_map}
 use Rattle.std.proofs.lemmas.Bool.{false≢true}
+use Rattle.kq_grammar.specs.declared.expression.Name.{Name}
+use Rattle.kq_grammar.specs.TabularViews.{query_of}
+use Rattle.kq_grammar.specs.Trees.{ItemTree}
 use Rattle.kq_value.specs.declared.schema.Field.{Field}
 use Rattle.kq_value.specs.Schema.{same_fields}
 use Rattle.kq_model.specs.declared.event.Commit.{Commit}
@@ -13,28 +16,32 @@ use Rattle.kq_command.specs.declared.columns.Column.{Column}
 use Rattle.kq_command.specs.declared.columns.Identifier.{Identifier}
 use Rattle.kq_command.specs.declared.command.Change.TheVariants.{CreateTable, Ingest}
 use Rattle.kq_command.specs.declared.command.Command.{Command}
-use Rattle.kq_command.specs.declared.command.Command.TheVariants.{Query, Change, Unbuilt}
-use Rattle.kq_command.specs.declared.command.Query.{Query as Asked}
+use Rattle.kq_command.specs.declared.command.Command.TheVariants.{Query, Show, Change, Unbuilt}
+use Rattle.kq_command.specs.declared.ingestion.Ingestion.{Ingestion}
+use Rattle.kq_command.specs.declared.command.Show.{Show as Showing}
+use Rattle.kq_command.specs.declared.command.Show.TheVariants as shows
 use Rattle.kq_command.specs.Columns.{schema_of}
 use Rattle.kq_reply.specs.declared.refusal.Refusal.TheVariants as refusals
 use Rattle.kq_reply.specs.declared.reply.Reply.TheVariants as replies
-use Rattle.kq_engine.specs.Due.{Due, Says, Commits, IsDueByText, IsIngestDue, counted, named_due, refused, repeated_place}
+use Rattle.kq_engine.specs.Due.{Due, Says, Commits, IsDueByText, counted, ingest_due, named_due, refused, repeated_place}
 use Rattle.kq_engine.specs.Fits.{IsDue}
-use Rattle.kq_engine.specs.Found.{IsCommitDue, TakesAnswer, TakesMemory, TakesRows, TakesToFind, is_prepared_outside}
-use Rattle.kq_engine.specs.Queries.{AnswersTable}
+use Rattle.kq_engine.specs.Found.{IsCommitDue, Stands, TakesAnswer, TakesMemory, TakesToFind, TakesToShow, is_prepared_outside}
+use Rattle.kq_engine.specs.Asked.{asked_of, printed_of}
+use Rattle.kq_engine.specs.Queries.{AnswersAsked}
+use Rattle.kq_engine.specs.Shows.{ShowsExtents, AnswersShow}
 use Rattle.kq_engine.proofs.Dues.{Due-is_good, no_commit, table_due-unnamed}
 
--- rows were read only for a table that stands, all of whose columns are long
-rows_wanted : (limits : Limits) (l : Log) (table : Identifier) (body : List ℕ) (o : Option Numbered) (c : Commit) → IsIngestDue limits l table body o (Commits c) → TakesRows o
-rows_wanted limits l table body None c due = no_commit c _ due
-rows_wanted limits l table body (Some found) c (inl put) = put.0
-rows_wanted limits l table body (Some found) c (inr other) = absurd (no_commit c _ other.1)
+-- rows were read only for a table that stands
+rows_wanted : (limits : Limits) (l : Log) (i : Ingestion) (o : Option Numbered) (c : Commit) → Commits c ≡ ingest_due limits l i o → Stands o
+rows_wanted limits l i None c due = no_commit c (refusals.Unknown i.table.at) due
+rows_wanted limits l i (Some found) c due = tt
 
 -- a commit that is due takes memory
 pub commit_finds : (limits : Limits) (h : History) (command : Command) (c : Commit) → IsCommitDue limits (log h) command c → TakesToFind h command
 commit_finds limits h (Query query) c due = absurd due
+commit_finds limits h (Show show) c due = absurd due
 commit_finds limits h (Change (CreateTable name columns)) c due = table_due-unnamed limits (log h) name (schema_of columns) c (Due-is_good limits (log h) (CreateTable name columns) c due.0).1.1
-commit_finds limits h (Change (Ingest table body)) c due = rows_wanted limits (log h) table body (table_numbered table.text (tables (log h))) c due.0
+commit_finds limits h (Change (Ingest i)) c due = rows_wanted limits (log h) i (table_numbered i.table.text (tables (log h))) c (Due-is_good limits (log h) (Ingest i) c due.0).1
 commit_finds limits h Unbuilt c due = absurd due
 
 -- ---- want of memory isn't due to `.create table`
@@ -76,27 +83,38 @@ not_table limits l name columns None due =
 
 -- ---- want of memory as a reply that is due
 
-answer_finds : (h : History) (query : Asked) (o : Option Numbered) → AnswersTable h query o (replies.Refused refusals.Memory) → TakesAnswer o
-answer_finds h query None due = cc
-answer_finds h query (Some found) due = tt
+answer_finds : (h : History) (now : ℤ) (text : List ℕ) (o : Option (Name × Bool)) (items : Option (List ItemTree)) → AnswersAsked h now text o items (replies.Refused refusals.Memory) → TakesAnswer o items
+answer_finds h now text (Some asked) items due = tt
+answer_finds h now text None (Some items) due = tt
+answer_finds h now text None None due = cc
 
-rows_find : (limits : Limits) (l : Log) (table : Identifier) (body : List ℕ) (o : Option Numbered) → IsIngestDue limits l table body o memory_due → TakesRows o
-rows_find limits l table body None due = cc
-rows_find limits l table body (Some found) (inl put) = put.0
-rows_find limits l table body (Some found) (inr other) = absurd (not_unbuilt other.1)
-  where
-    not_unbuilt : memory_due ≡ refused refusals.Unbuilt → ⊥
-    not_unbuilt e = cc
+extents_find : (h : History) (table : Identifier) (o : Option Numbered) → ShowsExtents h table o (replies.Refused refusals.Memory) → Stands o
+extents_find h table None due = cc
+extents_find h table (Some found) due = tt
 
-pub due_finds : (limits : Limits) (h : History) (command : Command) → IsDue limits h command (replies.Refused refusals.Memory) → TakesToFind h command
-due_finds limits h (Query query) due = answer_finds h query (table_numbered query.table.text (tables (log h))) due
-due_finds limits h (Change (CreateTable name columns)) due = absurd (not_table limits (log h) name columns (repeated_place columns) due)
-due_finds limits h (Change (Ingest table body)) due = rows_find limits (log h) table body (table_numbered table.text (tables (log h))) due
-due_finds limits h Unbuilt due = cc
+show_finds : (h : History) (asked : Showing) → AnswersShow h asked (replies.Refused refusals.Memory) → TakesToShow h asked
+show_finds h (shows.Extents table) due = extents_find h table (table_numbered table.text (tables (log h))) due
+show_finds h shows.Journal due = tt
+
+rows_find : (limits : Limits) (l : Log) (i : Ingestion) (o : Option Numbered) → memory_due ≡ ingest_due limits l i o → Stands o
+rows_find limits l i None due = cc
+rows_find limits l i (Some found) due = tt
+
+ingest_finds : (limits : Limits) (l : Log) (i : Ingestion) (repeated : Option ℕ) → IsDueByText limits l (Ingest i) (option_map (λ (at : ℕ). refusals.Mistyped at) repeated) memory_due → Stands (table_numbered i.table.text (tables l))
+ingest_finds limits l i (Some at) due = cc
+ingest_finds limits l i None due = rows_find limits l i (table_numbered i.table.text (tables l)) due
+
+pub due_finds : (limits : Limits) (h : History) (now : ℤ) (command : Command) → IsDue limits h now command (replies.Refused refusals.Memory) → TakesToFind h command
+due_finds limits h now (Query query) due = answer_finds h now query.text (asked_of (query_of query.tree)) (printed_of (query_of query.tree)) due
+due_finds limits h now (Show asked) due = show_finds h asked due
+due_finds limits h now (Change (CreateTable name columns)) due = absurd (not_table limits (log h) name columns (repeated_place columns) due)
+due_finds limits h now (Change (Ingest i)) due = ingest_finds limits (log h) i i.properties.repeated due
+due_finds limits h now Unbuilt due = cc
 
 -- what is found outside the lock takes the memory of preparing
 pub found_wants : (h : History) (command : Command) → is_prepared_outside command ≡ true → TakesToFind h command → TakesMemory h command
 found_wants h (Query query) outside takes = takes
+found_wants h (Show asked) outside takes = takes
 found_wants h (Change (CreateTable name columns)) outside takes = absurd (false≢true outside)
-found_wants h (Change (Ingest table body)) outside takes = takes
+found_wants h (Change (Ingest i)) outside takes = takes
 found_wants h Unbuilt outside takes = takes

@@ -1,5 +1,5 @@
 -- What a change of the catalogue is due after a log: a reply alone, or a commit with its reply.
-use Rattle.std.specs.Prelude.{◌≡◌, ◌⊎◌, ◌<◌, ◌+◌, ℕ, Bool, true, false, List, [], ◌∷◌, All, length, Option, Some, None, option_and_then, slice_get, nat_lt, if◌then◌else◌}
+use Rattle.std.specs.Prelude.{◌≡◌, ◌<◌, ◌+◌, ℕ, List, [], ◌∷◌, length, map, min, Option, Some, None, option_and_then, slice_get, nat_lt, if◌then◌else◌, unwrap_or}
 use Rattle.std.specs.Option.{option_map}
 use Rattle.kq_value.specs.declared.schema.Field.{Field}
 use Rattle.kq_value.specs.Schema.{same_fields}
@@ -11,14 +11,19 @@ use Rattle.kq_model.specs.declared.table.Table.{Table}
 use Rattle.kq_model.specs.History.{Log, tables, table_named, Numbered, table_numbered}
 use Rattle.kq_model.specs.Lawful.{own_rows}
 use Rattle.kq_model.specs.Names.{repeat_of}
+use Rattle.kq_model.specs.Tagged.{ingested_by, least_tagged}
 use Rattle.kq_command.specs.declared.columns.Column.{Column}
 use Rattle.kq_command.specs.declared.columns.Identifier.{Identifier}
 use Rattle.kq_command.specs.declared.command.Change.{Change}
 use Rattle.kq_command.specs.declared.command.Change.TheVariants.{CreateTable, Ingest}
+use Rattle.kq_command.specs.declared.ingestion.Ingestion.{Ingestion}
+use Rattle.kq_command.specs.declared.ingestion.Properties.{Properties}
+use Rattle.kq_command.specs.declared.ingestion.Quoted.{Quoted}
 use Rattle.kq_command.specs.Columns.{schema_of, column_names}
 use Rattle.kq_ingest.specs.declared.fault.IngestFault.{IngestFault}
 use Rattle.kq_ingest.specs.declared.fault.IngestFault.TheVariants as faults
-use Rattle.kq_ingest.specs.Ingestion.{AreLongs, rows_of, first_fault}
+use Rattle.kq_ingest.specs.Ingestion.{rows_of, first_fault}
+use Rattle.kq_ingest.specs.TagTexts.{tags_of}
 use Rattle.kq_reply.specs.declared.refusal.Refusal.{Refusal}
 use Rattle.kq_reply.specs.declared.refusal.Refusal.TheVariants as refusals
 use Rattle.kq_reply.specs.declared.reply.Reply.{Reply}
@@ -47,10 +52,10 @@ counted limits l c = if nat_lt (length l) limits.commits then Commits c else ref
 abbrev pub repeated_place : List Column → Option ℕ
 repeated_place columns = option_map (λ (c : Column). c.name.at) (option_and_then (slice_get columns) (repeat_of (column_names columns)))
 
--- the refusal of the text, whatever the log: a repeated column
+-- the refusal of the text, whatever the log: a repeated column, or a repeated property
 abbrev pub text_refusal : Change → Option Refusal
 text_refusal (CreateTable name columns) = option_map (λ (at : ℕ). refusals.Mistyped at) (repeated_place columns)
-text_refusal (Ingest table body) = None
+text_refusal (Ingest ingestion) = option_map (λ (at : ℕ). refusals.Mistyped at) ingestion.properties.repeated
 
 -- ---- `.create table`
 
@@ -72,39 +77,81 @@ abbrev pub table_due : Limits → Log → Identifier → List Field → Due
 table_due limits l name schema =
     if nat_lt limits.columns (length schema) then refused (refusals.Full limits.columns) else named_due limits l name schema (table_named name.text (tables l))
 
+-- ---- `.ingest`: tags
+
+-- the place of a value that is no JSON array of strings
+abbrev pub place_unless : Option (List (List ℕ)) → ℕ → Option ℕ
+place_unless (Some tags) at = None
+place_unless None at = Some at
+
+abbrev pub tag_fault : Option Quoted → Option ℕ
+tag_fault None = None
+tag_fault (Some value) = place_unless (tags_of value.text) value.at
+
+abbrev pub leftmost : Option ℕ → Option ℕ → Option ℕ
+leftmost None other = other
+leftmost (Some at) None = Some at
+leftmost (Some at) (Some other) = Some (min at other)
+
+-- the leftmost of the two values that is no JSON array of strings
+abbrev pub bad_tags : Properties → Option ℕ
+bad_tags properties = leftmost (tag_fault properties.tags) (tag_fault properties.if_not_exists)
+
+-- the strings of a value; none where it isn't given
+abbrev pub strings_of : Option Quoted → List (List ℕ)
+strings_of None = []
+strings_of (Some value) = unwrap_or (tags_of value.text) []
+
+-- the tags of which none may stand yet on an extent of the table
+abbrev pub barring_tags : Properties → List (List ℕ)
+barring_tags properties = map ingested_by (strings_of properties.if_not_exists)
+
 -- ---- `.ingest`
 
--- the batch of an ingestion's own: the rows of its body, for a table
-abbrev pub own_batch : Numbered → List ℕ → Batch
-own_batch found body = record { table = found.number; rows = rows_of found.table.schema false body; tags = [] }
+-- the batch of an ingestion's own: the rows of its body with its tags, for a table
+abbrev pub own_batch : Numbered → Ingestion → Batch
+own_batch found i = record { table = found.number; rows = rows_of found.table.schema i.properties.ignore_first i.body; tags = strings_of i.properties.tags }
 
 abbrev pub refusal_of : IngestFault → Refusal
 refusal_of (faults.WideRow row) = refusals.WideRow row
 refusal_of (faults.Full limit) = refusals.Full limit
 refusal_of faults.Memory = refusals.Memory
 
--- a body is refused by its first fault, and without one its batch is put in
-abbrev pub rows_due : Limits → Log → Batch → Option IngestFault → Due
-rows_due limits l own None = counted limits l (commits.Ingest (own ∷ []) [])
-rows_due limits l own (Some fault) = refused (refusal_of fault)
+-- what is due where a commit at this cursor gave the table one of the barring tags, and else
+abbrev pub unless_tagged : Option ℕ → Due → Due
+unless_tagged (Some cursor) due = Says (replies.Skipped cursor)
+unless_tagged None due = due
 
--- the rows of a body are due this for a table whose columns are all long
-abbrev pub body_due : Limits → Log → Numbered → List ℕ → Due
-body_due limits l found body = rows_due limits l (own_batch found body) (first_fault found.table.schema false limits.batch body)
+-- a batch of its own is put in, unless one of these tags stands on an extent of its table
+abbrev pub batch_due : Limits → Log → Batch → List (List ℕ) → Due
+batch_due limits l own barring = unless_tagged (least_tagged l own.table barring) (counted limits l (commits.Ingest (own ∷ []) []))
 
--- into a table whose columns are all long; another column isn't built yet
-abbrev pub IsIngestDue : Limits → Log → Identifier → List ℕ → Option Numbered → Due → Type 0
-IsIngestDue limits l table body None due = due ≡ refused (refusals.Unknown table.at)
-IsIngestDue limits l table body (Some found) due =
-    (AreLongs found.table.schema × (due ≡ body_due limits l found body))
-    ⊎ (¬ (AreLongs found.table.schema) × (due ≡ refused refusals.Unbuilt))
+-- a body is refused by its first fault
+abbrev pub body_due : Limits → Log → Batch → List (List ℕ) → Option IngestFault → Due
+body_due limits l own barring (Some fault) = refused (refusal_of fault)
+body_due limits l own barring None = batch_due limits l own barring
+
+-- values that aren't tags are refused first
+abbrev pub values_due : Option ℕ → Due → Due
+values_due (Some at) due = refused (refusals.BadTags at)
+values_due None due = due
+
+-- into a table that stands
+abbrev pub rows_due : Limits → Log → Ingestion → Numbered → Due
+rows_due limits l i found =
+    values_due (bad_tags i.properties)
+    (body_due limits l (own_batch found i) (barring_tags i.properties) (first_fault found.table.schema i.properties.ignore_first limits.batch i.body))
+
+abbrev pub ingest_due : Limits → Log → Ingestion → Option Numbered → Due
+ingest_due limits l i None = refused (refusals.Unknown i.table.at)
+ingest_due limits l i (Some found) = rows_due limits l i found
 
 -- ---- all
 
 -- what a change of a good text is due; a table has one column or more
 abbrev pub IsDueByLog : Limits → Log → Change → Due → Type 0
 IsDueByLog limits l (CreateTable name columns) due = (0 < length columns) × (due ≡ table_due limits l name (schema_of columns))
-IsDueByLog limits l (Ingest table body) due = IsIngestDue limits l table body (table_numbered table.text (tables l)) due
+IsDueByLog limits l (Ingest ingestion) due = due ≡ ingest_due limits l ingestion (table_numbered ingestion.table.text (tables l))
 
 abbrev pub IsDueByText : Limits → Log → Change → Option Refusal → Due → Type 0
 IsDueByText limits l change (Some r) due = due ≡ refused r
@@ -118,14 +165,3 @@ IsChangeDue limits l change due = IsDueByText limits l change (text_refusal chan
 abbrev pub Accept : Limits → Log → Change → Reply → Option Commit → Type 0
 Accept limits l change reply None = IsChangeDue limits l change (Says reply)
 Accept limits l change reply (Some c) = IsChangeDue limits l change (Commits c) × (reply ≡ reply_to c (length l + 1))
-
--- ---- what stays due
-
--- whether a commit disturbs what was prepared before it: a new table does, rows don't
-abbrev pub disturbs : Commit → Bool
-disturbs (commits.CreateTable name schema) = true
-disturbs (commits.Ingest batches failures) = false
-
--- none of the commits disturbs
-abbrev pub IsQuiet : Log → Type 0
-IsQuiet = All (λ (c : Commit). disturbs c ≡ false)

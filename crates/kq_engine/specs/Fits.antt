@@ -7,7 +7,7 @@ use Rattle.kq_model.specs.declared.event.Operation.TheVariants as operation
 use Rattle.kq_model.specs.declared.limits.Limits.{Limits}
 use Rattle.kq_model.specs.History.{History, Log, CommitAt, log, commits_at}
 use Rattle.kq_command.specs.declared.command.Command.{Command}
-use Rattle.kq_command.specs.declared.command.Command.TheVariants.{Query, Change, Unbuilt}
+use Rattle.kq_command.specs.declared.command.Command.TheVariants.{Query, Show, Change, Unbuilt}
 use Rattle.kq_reply.specs.declared.refusal.Refusal.{Refusal}
 use Rattle.kq_reply.specs.declared.refusal.Refusal.TheVariants as refusals
 use Rattle.kq_reply.specs.declared.reply.Reply.{Reply}
@@ -16,26 +16,29 @@ use Rattle.kq_engine.specs.declared.work.Outcome.{Outcome}
 use Rattle.kq_engine.specs.declared.work.Work.{Work}
 use Rattle.kq_engine.specs.Due.{Accept}
 use Rattle.kq_engine.specs.Queries.{AnswersQuery}
+use Rattle.kq_engine.specs.Shows.{AnswersShow}
 
--- the reply that is due without a commit
-abbrev pub IsDue : Limits → History → Command → Reply → Type 0
-IsDue limits h (Query query) reply = AnswersQuery h query reply
-IsDue limits h (Change change) reply = Accept limits (log h) change reply None
-IsDue limits h Unbuilt reply = reply ≡ replies.Refused refusals.Unbuilt
+-- the reply that is due at a moment without a commit
+abbrev pub IsDue : Limits → History → ℤ → Command → Reply → Type 0
+IsDue limits h now (Query query) reply = AnswersQuery h now query reply
+IsDue limits h now (Show show) reply = AnswersShow h show reply
+IsDue limits h now (Change change) reply = Accept limits (log h) change reply None
+IsDue limits h now Unbuilt reply = reply ≡ replies.Refused refusals.Unbuilt
 
 -- the log admits this reply to the command with this commit, so it is a change
 abbrev pub Makes : Limits → Log → Command → Reply → Commit → Type 0
 Makes limits l (Query query) reply c = ⊥
+Makes limits l (Show show) reply c = ⊥
 Makes limits l (Change change) reply c = Accept limits l change reply (Some c)
 Makes limits l Unbuilt reply c = ⊥
 
 -- a reply without a commit: the one that is due, or want of memory
-abbrev pub Answers : Limits → History → Command → Reply → Type 0
-Answers limits h command reply = (reply ≡ replies.Refused refusals.Memory) ⊎ IsDue limits h command reply
+abbrev pub Answers : Limits → History → ℤ → Command → Reply → Type 0
+Answers limits h now command reply = (reply ≡ replies.Refused refusals.Memory) ⊎ IsDue limits h now command reply
 
 -- the reply fits this whole history: with `own`, its last event is the command's commit
 abbrev pub FitsNow : Limits → History → By → Command → ℤ → Bool → Reply → Type 0
-FitsNow limits h mark command now false reply = Answers limits h command reply
+FitsNow limits h mark command now false reply = Answers limits h now command reply
 FitsNow limits h mark command now true reply = (before : History) × (c : Commit) × (h ≡ before ++ record { by = mark; operation = operation.Commit c } ∷ []) × Makes limits (log before) command reply c
 
 -- the reply fits the command at a place of the history
@@ -62,21 +65,21 @@ abbrev pub IsGranted : Reply → Type 0
 IsGranted reply = (r : Refusal) → reply ≢ replies.Refused r
 
 -- such an operation was appended beside the reply that is due, which is no refusal
-pub record Tended (limits : Limits) (old new : History) (mark : By) (command : Command) (reply : Reply) : Type 0 where
+pub record Tended (limits : Limits) (old new : History) (work : Work) (reply : Reply) : Type 0 where
   pub made : Operation
-  pub tends : Tends limits old command reply made
+  pub tends : Tends limits old work.command reply made
   pub granted : IsGranted reply
-  pub answers : Answers limits old command reply
-  pub appended : new ≡ old ++ event_by mark (Some made)
+  pub answers : Answers limits old work.now work.command reply
+  pub appended : new ≡ old ++ event_by work.by (Some made)
 
 -- with `own` the command's commit was appended; without it the history stayed, or it gained the one operation of another kind that is the command's
-abbrev pub Did : Limits → History → History → By → Command → Bool → Reply → Type 0
-Did limits old new mark command true reply = (c : Commit) × (new ≡ old ++ record { by = mark; operation = operation.Commit c } ∷ []) × Makes limits (log old) command reply c
-Did limits old new mark command false reply = ((new ≡ old) × Answers limits old command reply) ⊎ Tended limits old new mark command reply
+abbrev pub Did : Limits → History → History → Work → Bool → Reply → Type 0
+Did limits old new work true reply = (c : Commit) × (new ≡ old ++ record { by = work.by; operation = operation.Commit c } ∷ []) × Makes limits (log old) work.command reply c
+Did limits old new work false reply = ((new ≡ old) × Answers limits old work.now work.command reply) ⊎ Tended limits old new work reply
 
 -- at most the command's own event, at the new end of the history
-abbrev pub Acts : Limits → History → History → By → Command → Outcome → Type 0
-Acts limits old new mark command outcome = (outcome.place ≡ length new) × Did limits old new mark command outcome.own outcome.reply
+abbrev pub Acts : Limits → History → History → Work → Outcome → Type 0
+Acts limits old new work outcome = (outcome.place ≡ length new) × Did limits old new work outcome.own outcome.reply
 
 -- the commit of an outcome, if it made one
 abbrev pub own_commit : Bool → ℕ → By → List CommitAt

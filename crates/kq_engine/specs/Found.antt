@@ -1,84 +1,129 @@
 -- What is found of a command on a history, what of it stays due, and where memory may be wanting.
-use Rattle.std.specs.Prelude.{◌≡◌, ◌⊎◌, ◌<◌, ◌+◌, ℕ, Bool, true, false, ◌++◌, length, take, drop, Option, Some, None, Result, Ok, Err}
+use Rattle.std.specs.Prelude.{◌≡◌, ◌⊎◌, ◌<◌, ◌+◌, ℕ, ℤ, Bool, true, false, List, ◌++◌, length, take, Option, Some, None, Result, Ok, Err}
+use Rattle.kq_grammar.specs.declared.expression.Name.{Name}
+use Rattle.kq_grammar.specs.TabularViews.{query_of}
+use Rattle.kq_grammar.specs.Trees.{ItemTree}
+use Rattle.kq_model.specs.declared.batch.Batch.{Batch}
 use Rattle.kq_model.specs.declared.event.Commit.{Commit}
 use Rattle.kq_model.specs.declared.limits.Limits.{Limits}
-use Rattle.kq_model.specs.History.{History, Log, log, cursor, tables, table_named, Numbered, table_numbered}
+use Rattle.kq_model.specs.History.{History, Log, log, tables, table_named, Numbered, table_numbered}
+use Rattle.kq_model.specs.Tagged.{least_tagged}
 use Rattle.kq_catalog.specs.Intents.{commit_of}
 use Rattle.kq_command.specs.declared.command.Change.{Change as Changing}
 use Rattle.kq_command.specs.declared.command.Change.TheVariants.{CreateTable, Ingest}
 use Rattle.kq_command.specs.declared.command.Command.{Command}
-use Rattle.kq_command.specs.declared.command.Command.TheVariants.{Query, Change, Unbuilt}
-use Rattle.kq_ingest.specs.Ingestion.{AreLongs}
+use Rattle.kq_command.specs.declared.command.Command.TheVariants.{Query, Show, Change, Unbuilt}
+use Rattle.kq_command.specs.declared.ingestion.Ingestion.{Ingestion}
+use Rattle.kq_command.specs.declared.command.Query.{Query as Querying}
+use Rattle.kq_command.specs.declared.command.Show.{Show as Showing}
+use Rattle.kq_command.specs.declared.command.Show.TheVariants as shows
 use Rattle.kq_reply.specs.declared.refusal.Refusal.{Refusal}
 use Rattle.kq_reply.specs.declared.refusal.Refusal.TheVariants as refusals
+use Rattle.kq_reply.specs.declared.reply.Reply.{Reply}
 use Rattle.kq_reply.specs.declared.reply.Reply.TheVariants as replies
-use Rattle.kq_engine.specs.declared.changes.Found.{Found}
-use Rattle.kq_engine.specs.declared.changes.Found.TheVariants as founds
+use Rattle.kq_engine.specs.declared.work.Barring.{Barring}
+use Rattle.kq_engine.specs.declared.work.Found.{Found}
+use Rattle.kq_engine.specs.declared.work.Found.TheVariants as founds
+use Rattle.kq_engine.specs.declared.work.Offer.{Offer}
 use Rattle.kq_engine.specs.declared.work.Outcome.{Outcome}
 use Rattle.kq_engine.specs.declared.work.Prepared.{Prepared}
 use Rattle.kq_engine.specs.declared.work.Ready.{Ready}
 use Rattle.kq_engine.specs.declared.work.Ready.TheVariants as readies
 use Rattle.kq_engine.specs.declared.work.Work.{Work}
-use Rattle.kq_engine.specs.Due.{Due, Says, Commits, refused, reply_to, text_refusal, IsQuiet}
+use Rattle.kq_engine.specs.Asked.{asked_of, printed_of}
+use Rattle.kq_engine.specs.Due.{Due, Says, Commits, IsChangeDue, batch_due, counted, refused, reply_to, rows_due, text_refusal, unless_tagged}
 use Rattle.kq_engine.specs.Fits.{IsDue, Makes}
 
 -- ---- what was found
 
 abbrev pub due_of : Found → Due
 due_of (founds.Says reply) = Says reply
-due_of (founds.Commits intent) = Commits (commit_of intent)
+due_of (founds.Commits offer) = Commits (commit_of offer.intent)
 
 -- what was found is so due; a refusal is, or memory was wanting
 abbrev pub Finds : (Due → Type 0) → Result Found Refusal → Type 0
 Finds IsSo (Ok found) = IsSo (due_of found)
 Finds IsSo (Err r) = (r ≡ refusals.Memory) ⊎ IsSo (refused r)
 
+-- a refusal is so answered, or memory was wanting
+abbrev pub RefusesBy : (Reply → Type 0) → Refusal → Type 0
+RefusesBy Answers r = (r ≡ refusals.Memory) ⊎ Answers (replies.Refused r)
+
+-- the least cursor of a commit that gave the table one of the tags
+abbrev pub barred_at : Log → Option Barring → Option ℕ
+barred_at l None = None
+barred_at l (Some barring) = least_tagged l barring.table barring.tags
+
+-- what an offer comes to: it is skipped where one of its tags stands, and else its commit is counted
+abbrev pub offer_due : Limits → Log → Offer → Due
+offer_due limits l offer = unless_tagged (barred_at l offer.unless) (counted limits l (commit_of offer.intent))
+
+-- a commit that was found for a batch: whatever the log, the batch is due what the offer comes to
+abbrev pub IsOfferOf : Limits → Batch → List (List ℕ) → Found → Type 0
+IsOfferOf limits own barring (founds.Says reply) = Unit {0}
+IsOfferOf limits own barring (founds.Commits offer) = (l : Log) → batch_due limits l own barring ≡ offer_due limits l offer
+
+-- a commit that was found for an ingestion into a table: whatever the log, the ingestion is due what the offer comes to
+abbrev pub OffersRows : Limits → Ingestion → Numbered → Found → Type 0
+OffersRows limits i table (founds.Says reply) = Unit {0}
+OffersRows limits i table (founds.Commits offer) = (l : Log) → rows_due limits l i table ≡ offer_due limits l offer
+
+-- the same for a table that stands under its name
+abbrev pub OffersInto : Limits → Log → Ingestion → Found → Type 0
+OffersInto limits l i found = (table : Numbered) → table_numbered i.table.text (tables l) ≡ Some table → OffersRows limits i table found
+
+abbrev pub OffersChange : Limits → Log → Changing → Found → Type 0
+OffersChange limits l (CreateTable name columns) found = Unit {0}
+OffersChange limits l (Ingest ingestion) found = OffersInto limits l ingestion found
+
+-- whether a command is prepared outside the lock, on a snapshot: what only asks is, and what reads rows
+abbrev pub is_prepared_outside : Command → Bool
+is_prepared_outside (Query query) = true
+is_prepared_outside (Show show) = true
+is_prepared_outside (Change (CreateTable name columns)) = false
+is_prepared_outside (Change (Ingest ingestion)) = true
+is_prepared_outside Unbuilt = true
+
 -- the commit is due, with its reply
 abbrev pub IsCommitDue : Limits → Log → Command → Commit → Type 0
 IsCommitDue limits l command c = Makes limits l command (reply_to c (length l + 1)) c
 
--- what was found is due to the command
-abbrev pub IsFound : Limits → History → Command → Found → Type 0
-IsFound limits h command (founds.Says reply) = IsDue limits h command reply
-IsFound limits h command (founds.Commits intent) = IsCommitDue limits (log h) command (commit_of intent)
+abbrev pub IsDueTo : Limits → Log → Command → Due → Type 0
+IsDueTo limits l (Query query) due = ⊥
+IsDueTo limits l (Show show) due = ⊥
+IsDueTo limits l (Change change) due = IsChangeDue limits l change due
+IsDueTo limits l Unbuilt due = ⊥
 
--- ---- what stays due
+-- the commit is due; and after more commits, if the command is prepared outside the lock, it is due what the offer comes to
+pub record IsOffered (limits : Limits) (l : Log) (command : Command) (offer : Offer) : Type 0 where
+  pub due : IsCommitDue limits l command (commit_of offer.intent)
+  pub later : is_prepared_outside command ≡ true → (more : Log) → IsDueTo limits (l ++ more) command (offer_due limits (l ++ more) offer)
 
--- the commit is due, and stays so while one more is allowed and none disturbs
-pub record IsLasting (limits : Limits) (l : Log) (command : Command) (c : Commit) : Type 0 where
-  pub due : IsCommitDue limits l command c
-  pub later : (more : Log) → length (l ++ more) < limits.commits → IsQuiet more → IsCommitDue limits (l ++ more) command c
-
--- what was found at a place of the history is still due: one more commit is allowed, and none since disturbs
-pub record IsStill (limits : Limits) (h : History) (place : ℕ) : Type 0 where
-  pub room : cursor h < limits.commits
-  pub quiet : IsQuiet (log (drop place h))
+-- what was found is due to the command at a moment
+abbrev pub IsFound : Limits → History → ℤ → Command → Found → Type 0
+IsFound limits h now command (founds.Says reply) = IsDue limits h now command reply
+IsFound limits h now command (founds.Commits offer) = IsOffered limits (log h) command offer
 
 -- ---- what a snapshot tells
 
 -- the text alone refuses nothing
 abbrev pub IsGoodText : Command → Type 0
 IsGoodText (Query query) = Unit {0}
+IsGoodText (Show show) = Unit {0}
 IsGoodText (Change change) = text_refusal change ≡ None
 IsGoodText Unbuilt = Unit {0}
 
 -- looking at the text of a change takes memory: a repeated column is looked for among more than 256
 abbrev pub TakesToRead : Changing → Type 0
 TakesToRead (CreateTable name columns) = 256 < length columns
-TakesToRead (Ingest table body) = ⊥
+TakesToRead (Ingest ingestion) = ⊥
 
 -- the text alone is refused so, or memory was wanting to look at it
 abbrev pub RefusesText : Command → Refusal → Type 0
 RefusesText (Query query) r = ⊥
+RefusesText (Show show) r = ⊥
 RefusesText (Change change) r = ((r ≡ refusals.Memory) × TakesToRead change) ⊎ (text_refusal change ≡ Some r)
 RefusesText Unbuilt r = ⊥
-
--- whether a command is prepared outside the lock, on a snapshot: queries are, and what reads rows
-abbrev pub is_prepared_outside : Command → Bool
-is_prepared_outside (Query query) = true
-is_prepared_outside (Change (CreateTable name columns)) = false
-is_prepared_outside (Change (Ingest table body)) = true
-is_prepared_outside Unbuilt = false
 
 -- a command of a good text that isn't prepared outside the lock
 pub record IsPending (command : Command) : Type 0 where
@@ -86,15 +131,15 @@ pub record IsPending (command : Command) : Type 0 where
   pub good : IsGoodText command
 
 -- what a snapshot of this history told holds over it: a commit is found outside the lock alone, and want of memory is no answer
-abbrev pub IsReady : Limits → History → Command → Ready → Type 0
-IsReady limits h command (readies.Answered reply) = IsDue limits h command reply
-IsReady limits h command (readies.ToCommit intent) = (is_prepared_outside command ≡ true) × IsLasting limits (log h) command (commit_of intent)
-IsReady limits h command readies.Pending = IsPending command
+abbrev pub IsReady : Limits → History → ℤ → Command → Ready → Type 0
+IsReady limits h now command (readies.Answered reply) = IsDue limits h now command reply
+IsReady limits h now command (readies.ToCommit offer) = (is_prepared_outside command ≡ true) × IsOffered limits (log h) command offer
+IsReady limits h now command readies.Pending = IsPending command
 
 -- prepared on a snapshot of this history
 pub record IsPrepared (limits : Limits) (h : History) (prepared : Prepared) : Type 0 where
   pub at : prepared.place ≡ length h
-  pub is_ready : IsReady limits h prepared.work.command prepared.ready
+  pub is_ready : IsReady limits h prepared.work.now prepared.work.command prepared.ready
 
 -- what `begin` gives
 pub record Begins (limits : Limits) (h : History) (work : Work) (prepared : Prepared) : Type 0 where
@@ -103,28 +148,38 @@ pub record Begins (limits : Limits) (h : History) (work : Work) (prepared : Prep
 
 -- ---- want of memory
 
--- rows are read for a table that stands, all of whose columns are long
-abbrev pub TakesRows : Option Numbered → Type 0
-TakesRows None = ⊥
-TakesRows (Some found) = AreLongs found.table.schema
+-- a table that stands is read or written
+abbrev pub Stands : Option Numbered → Type 0
+Stands None = ⊥
+Stands (Some found) = Unit {0}
 
--- a table that stands is evaluated
-abbrev pub TakesAnswer : Option Numbered → Type 0
-TakesAnswer None = ⊥
-TakesAnswer (Some found) = Unit {0}
+-- a query of a form that is answered reads a name, or binds what it prints
+abbrev pub TakesAnswer : Option (Name × Bool) → Option (List ItemTree) → Type 0
+TakesAnswer (Some asked) items = Unit {0}
+TakesAnswer None (Some items) = Unit {0}
+TakesAnswer None None = ⊥
+
+abbrev pub TakesQuery : Querying → Type 0
+TakesQuery query = let tree = query_of query.tree in TakesAnswer (asked_of tree) (printed_of tree)
+
+abbrev pub TakesToShow : History → Showing → Type 0
+TakesToShow h (shows.Extents table) = Stands (table_numbered table.text (tables (log h)))
+TakesToShow h shows.Journal = Unit {0}
 
 -- finding what the command is due on this history takes memory; to make a table does, and not to keep one
 abbrev pub TakesToFind : History → Command → Type 0
-TakesToFind h (Query query) = TakesAnswer (table_numbered query.table.text (tables (log h)))
+TakesToFind h (Query query) = TakesQuery query
+TakesToFind h (Show show) = TakesToShow h show
 TakesToFind h (Change (CreateTable name columns)) = table_named name.text (tables (log h)) ≡ None
-TakesToFind h (Change (Ingest table body)) = TakesRows (table_numbered table.text (tables (log h)))
+TakesToFind h (Change (Ingest ingestion)) = Stands (table_numbered ingestion.table.text (tables (log h)))
 TakesToFind h Unbuilt = ⊥
 
 -- preparing the command on this history takes memory: to look at its text does, or to find what it is due outside the lock
 abbrev pub TakesMemory : History → Command → Type 0
 TakesMemory h (Query query) = TakesToFind h (Query query)
+TakesMemory h (Show show) = TakesToFind h (Show show)
 TakesMemory h (Change (CreateTable name columns)) = TakesToRead (CreateTable name columns)
-TakesMemory h (Change (Ingest table body)) = TakesToFind h (Change (Ingest table body))
+TakesMemory h (Change (Ingest ingestion)) = TakesToFind h (Change (Ingest ingestion))
 TakesMemory h Unbuilt = ⊥
 
 -- deciding a command on this history, of which a snapshot told nothing, takes memory
@@ -132,10 +187,10 @@ pub record TakesToDecide (h : History) (command : Command) : Type 0 where
   pub pending : IsPending command
   pub takes : TakesToFind h command
 
--- finishing on this history takes memory: a commit that was found is put in, or found again
+-- finishing on this history takes memory: a commit that was found is put in
 abbrev pub TakesToFinish : History → Command → Ready → Type 0
 TakesToFinish h command (readies.Answered reply) = ⊥
-TakesToFinish h command (readies.ToCommit intent) = Unit {0}
+TakesToFinish h command (readies.ToCommit offer) = Unit {0}
 TakesToFinish h command readies.Pending = TakesToDecide h command
 
 -- an outcome that tells of want of memory has its place where finishing takes some

@@ -1,5 +1,5 @@
 -- What contracts see of the shared engine and of its passes, and what a call does to a pass.
-use Rattle.std.specs.Prelude.{◌≡◌, ◌+◌, ◌≤◌, ℕ, Bool, false, List, [], ◌∷◌, ◌++◌, length, if◌then◌else◌}
+use Rattle.std.specs.Prelude.{◌≡◌, ◌+◌, ◌≤◌, ℕ, ℤ, Bool, false, List, [], ◌∷◌, ◌++◌, length, if◌then◌else◌}
 use mathlib.Core.List.{IsPrefix}
 use Rattle.kq_turn.specs.Passes.{TurnId}
 use Rattle.kq_model.specs.declared.limits.Limits.{Limits}
@@ -86,10 +86,10 @@ pub record Concludes (limits : Limits) (old new : PassView) (work : Work) (outco
   pub fits : Fits limits new.seen work.by work.command work.now outcome.place outcome.own outcome.reply
   pub since : length old.seen ≤ outcome.place
 
--- a query went through the pass: one take, no commit, and the outcome is an answer over what the pass has then seen
-pub record Queries (limits : Limits) (old new : PassView) (query : Query) (outcome : Outcome) : Type 0 where
+-- a query went through the pass at a moment: one take, no commit, and the outcome is an answer over what the pass has then seen
+pub record Queries (limits : Limits) (old new : PassView) (query : Query) (now : ℤ) (outcome : Outcome) : Type 0 where
   pub seen : IsPrefix old.seen new.seen
   pub pass : new ≡ record old { seen = new.seen; taken = old.taken ++ length new.seen ∷ [] }
   pub place : outcome.place ≡ length new.seen
   pub own : outcome.own ≡ false
-  pub answers : Answers limits new.seen (commands.Query query) outcome.reply
+  pub answers : Answers limits new.seen now (commands.Query query) outcome.reply

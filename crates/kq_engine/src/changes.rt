@@ -1,41 +1,37 @@
 // What a change is due, over a snapshot.
-ghost use Rattle.std.specs.Prelude.{◌≡◌, ◌≢◌, ◌<◌, [], All, IfErr, None, length, nat_lt};
+ghost use Rattle.std.specs.Prelude.{◌≡◌, ◌≢◌, ◌<◌, [], ◌∷◌, All, IfErr, IfOk, None, length, nat_lt};
 ghost use Rattle.std.specs.Option.{option_copied};
 ghost use Rattle.kq_catalog.specs.Intents.{commit_of};
 ghost use Rattle.kq_command.specs.declared.command.Change.TheVariants as changes;
 ghost use Rattle.kq_command.specs.declared.command.Command.TheVariants as commands;
 ghost use Rattle.kq_command.specs.Columns.{schema_of};
-ghost use Rattle.kq_ingest.specs.Ingestion.{AreLongs};
-ghost use Rattle.kq_engine.specs.Due.{IsDueByLog, body_due, kept_due, made_due, refusal_of as refusal_by, rows_due, table_due};
-ghost use Rattle.kq_engine.specs.Found.{Finds, TakesRows, TakesToFind};
+ghost use Rattle.kq_engine.specs.Due.{IsDueByLog, batch_due, kept_due, made_due, refusal_of as refusal_by, rows_due, table_due};
+ghost use Rattle.kq_engine.specs.Found.{Finds, IsOfferOf, OffersChange, OffersInto, OffersRows, Stands, TakesToFind};
+ghost use Rattle.kq_model.specs.declared.event.Commit.TheVariants as commits;
 ghost use Rattle.kq_model.specs.History.{log, tables, table_named, table_numbered};
 ghost use Rattle.kq_reply.specs.declared.refusal.Refusal.TheVariants as refusals;
 ghost use Rattle.kq_value.specs.Typed.{HasTypes};
 
+use crate::tags::{Labels, barring_cursor, read_labels};
+use crate::work::{Barring, Found, Offer};
 use kq_catalog::{Intent, Part, Snapshot};
-use kq_command::{Change, Columns, Identifier};
+use kq_command::{Change, Columns, Identifier, Ingestion};
 use kq_extent::Draft;
-use kq_ingest::{IngestFault, are_longs, read_rows};
+use kq_ingest::{IngestFault, read_rows};
 use kq_model::{Failures, Table};
 use kq_reply::{Refusal, Reply};
 use kq_rows::Rows;
-use kq_value::{Bytes, Schema, Tags, Text};
-
-/// What is due: a reply alone, or a commit.
-#[derive(Drop)]
-pub(crate) enum Found {
-    Says(Reply),
-    Commits(Intent),
-}
+use kq_value::{Memory, Schema, Tags, Text};
 
 /// What a change is due whose text is good. The rows of an ingestion are read here.
 pub(crate) fn prepare(snapshot: &Snapshot, change: &Change) -> Result<Found, Refusal>
     ensures due { Finds (IsDueByLog snapshot.now.limits (log snapshot.now.history) change.now) result }
+    ensures offers { IfOk result (OffersChange snapshot.now.limits (log snapshot.now.history) change.now) }
     ensures memory { IfErr result (λ r. r ≡ refusals.Memory → TakesToFind snapshot.now.history (commands.Change change.now)) }
 {
     match change {
         Change::CreateTable { name, columns } => create(snapshot, name, columns),
-        Change::Ingest { table, body } => ingest(snapshot, table, body),
+        Change::Ingest(ingestion) => ingest(snapshot, ingestion),
     }
 }
 
@@ -97,33 +93,41 @@ fn make(snapshot: &Snapshot, name: &Identifier, columns: &Columns) -> Result<Fou
     }
     let name = name.text.clone_in()?;
     let schema = columns.schema()?;
-    Ok(Found::Commits(Intent::CreateTable { name, schema }))
+    Ok(Found::Commits(Offer {
+        intent: Intent::CreateTable { name, schema },
+        unless: None,
+    }))
 }
 
-fn ingest(snapshot: &Snapshot, table: &Identifier, body: &Bytes) -> Result<Found, Refusal>
-    ensures due { Finds (IsDueByLog snapshot.now.limits (log snapshot.now.history) (changes.Ingest table.now body.now)) result }
-    ensures memory { IfErr result (λ r. r ≡ refusals.Memory → TakesRows (table_numbered table.now.text (tables (log snapshot.now.history)))) }
+fn ingest(snapshot: &Snapshot, ingestion: &Ingestion) -> Result<Found, Refusal>
+    ensures due { Finds (IsDueByLog snapshot.now.limits (log snapshot.now.history) (changes.Ingest ingestion.now)) result }
+    ensures offers { IfOk result (OffersInto snapshot.now.limits (log snapshot.now.history) ingestion.now) }
+    ensures memory { IfErr result (λ r. r ≡ refusals.Memory → Stands (table_numbered ingestion.now.table.text (tables (log snapshot.now.history)))) }
 {
-    let Some((number, found)) = snapshot.table(&table.text) else {
-        return Err(Refusal::Unknown {
-            at: table.at as u64,
-        });
+    let name = &ingestion.table;
+    let Some((number, table)) = snapshot.table(&name.text) else {
+        return Err(Refusal::Unknown { at: name.at as u64 });
     };
-    if !are_longs(&found.schema) {
-        return Err(Refusal::Unbuilt);
-    }
-    read(snapshot, number, found, body)
+    read(snapshot, number, table, ingestion)
 }
 
-// The rows of a body, for a table whose columns are all long.
-fn read(snapshot: &Snapshot, number: u32, table: &Table, body: &Bytes) -> Result<Found, Refusal>
-    requires { AreLongs table.now.schema }
-    ensures { Finds (λ due. due ≡ body_due snapshot.now.limits (log snapshot.now.history) (record { number = number; table = table.now }) body.now) result }
+// The tags and the rows of an ingestion into a table that stands.
+fn read(
+    snapshot: &Snapshot,
+    number: u32,
+    table: &Table,
+    ingestion: &Ingestion,
+) -> Result<Found, Refusal>
+    ensures due { Finds (λ due. due ≡ rows_due snapshot.now.limits (log snapshot.now.history) ingestion.now (record { number = number; table = table.now })) result }
+    ensures offers { IfOk result (OffersRows snapshot.now.limits ingestion.now (record { number = number; table = table.now })) }
 {
     let alloc = snapshot.allocator();
+    let properties = &ingestion.properties;
+    let labels = read_labels(alloc, properties)?;
     let limit = snapshot.limits().batch;
-    match read_rows(alloc, body.as_slice(), &table.schema, false, limit) {
-        Ok(rows) => put_rows(snapshot, number, &table.schema, &rows),
+    let body = ingestion.body.as_str();
+    match read_rows(alloc, body, &table.schema, properties.ignore_first, limit) {
+        Ok(rows) => put_rows(snapshot, number, &table.schema, &rows, labels),
         Err(fault) => Err(refusal_of(fault)),
     }
 }
@@ -138,30 +142,54 @@ fn refusal_of(fault: IngestFault) -> Refusal
     }
 }
 
-// The rows as columns, in the one part of a commit.
+// The rows as columns, in the one part of a commit, unless a tag bars it.
 fn put_rows(
     snapshot: &Snapshot,
     number: u32,
     schema: &Schema,
     rows: &Rows,
+    labels: Labels,
 ) -> Result<Found, Refusal>
     requires { All (HasTypes schema.now) rows.now }
-    ensures { Finds (λ due. due ≡ rows_due snapshot.now.limits (log snapshot.now.history) (record { table = number; rows = rows.now; tags = [] }) None) result }
+    ensures due { Finds (λ due. due ≡ batch_due snapshot.now.limits (log snapshot.now.history) (record { table = number; rows = rows.now; tags = labels.tags }) labels.barring) result }
+    ensures offers { IfOk result (IsOfferOf snapshot.now.limits (record { table = number; rows = rows.now; tags = labels.tags }) labels.barring) }
 {
+    let Labels { tags, barring } = labels;
+    let unless = Some(Barring {
+        table: number,
+        tags: barring,
+    });
+    if let Some(cursor) = barring_cursor(snapshot, &unless) {
+        return Ok(Found::Says(Reply::Skipped { cursor }));
+    }
     if !has_room(snapshot) {
         return Err(Refusal::Full {
             limit: snapshot.limits().commits,
         });
     }
+    let intent = own_part(snapshot, number, schema, rows, tags)?;
+    Ok(Found::Commits(Offer { intent, unless }))
+}
+
+fn own_part(
+    snapshot: &Snapshot,
+    number: u32,
+    schema: &Schema,
+    rows: &Rows,
+    tags: Tags,
+) -> Result<Intent, Memory>
+    requires { All (HasTypes schema.now) rows.now }
+    ensures { IfOk result (λ intent. commit_of intent ≡ commits.Ingest (record { table = number; rows = rows.now; tags = tags } ∷ []) []) }
+{
     let alloc = snapshot.allocator();
-    let draft = Draft::build(alloc, schema, rows, Tags::new(alloc))?;
+    let draft = Draft::build(alloc, schema, rows, tags)?;
     let mut parts = Vec::new(alloc);
     parts.push(Part {
         table: number,
         draft,
     })?;
-    Ok(Found::Commits(Intent::Ingest {
+    Ok(Intent::Ingest {
         parts,
         failures: Failures::new(alloc),
-    }))
+    })
 }

@@ -5,16 +5,20 @@
 //! crates.
 #![tactic(auto)]
 
+mod asked;
 mod changes;
 mod on_catalog;
 mod on_snapshot;
+mod print;
 mod query;
 mod run;
 mod shared;
+mod shows;
+mod tags;
 mod work;
 
 pub use on_catalog::finish;
 pub use on_snapshot::begin;
 pub use run::{Step, Told, Trace, run_steps};
 pub use shared::{Pass, Shared};
-pub use work::{Outcome, Prepared, Ready, Work};
+pub use work::{Barring, Offer, Outcome, Prepared, Ready, Work};

@@ -1,32 +1,35 @@
 // What a snapshot tells of a command.
-ghost use Rattle.std.specs.Prelude.{◌≡◌, ◌<◌, IfOk, IfErr, OnOk, false, length};
+ghost use Rattle.std.specs.Prelude.{◌≡◌, ◌<◌, IfOk, IfErr, None, OnOk, false, length};
 ghost use Rattle.std.specs.Option.{option_map};
 ghost use Rattle.std.specs.List.{slice_get};
 ghost use Rattle.kq_command.specs.declared.columns.Column.{Column as Described};
-ghost use Rattle.kq_engine.specs.Due.{repeated_place as place_of_repeat};
+ghost use Rattle.kq_command.specs.declared.command.Command.TheVariants as commands;
+ghost use Rattle.kq_engine.specs.Due.{repeated_place as place_of_repeat, text_refusal};
 ghost use Rattle.kq_engine.specs.Fits.{Answers, FitsNow};
 ghost use Rattle.kq_engine.specs.Found.{Begins, IsFound, IsGoodText, IsReady, RefusesText, TakesMemory, TakesToFind, is_prepared_outside as is_prepared_outside_by};
 ghost use Rattle.kq_model.specs.History.{History};
 ghost use Rattle.kq_reply.specs.declared.refusal.Refusal.TheVariants as refusals;
 ghost use Rattle.kq_reply.specs.declared.reply.Reply.TheVariants as replies;
+ghost use Rattle.kq_value.specs.Typed.{IsMoment};
 
-use crate::changes::{Found, prepare};
+use crate::changes::prepare;
 use crate::query::answer;
-use crate::work::{Prepared, Ready, Work};
+use crate::shows::show;
+use crate::work::{Found, Prepared, Ready, Work};
 use kq_catalog::Snapshot;
 use kq_command::{Change, Column, Columns, Command};
 use kq_reply::Refusal;
 use kq_value::Memory;
 
 /// Prepares the work on the snapshot. A refusal is what the snapshot's history gives, or want of memory where the
-/// command takes some here; its place is the snapshot's. A query is answered here, and the rows of an ingestion are
-/// read here and laid out in columns.
+/// command takes some here; its place is the snapshot's. Queries and shows are answered here, and the rows of an ingestion
+/// are read here and laid out in columns.
 pub fn begin(snapshot: &Snapshot, work: Work) -> Result<Prepared, Refusal>
     ensures prepared { IfOk result (Begins snapshot.now.limits snapshot.now.history work) }
     ensures refused { IfErr result (λ r. FitsNow snapshot.now.limits snapshot.now.history work.by work.command work.now false (replies.Refused r)) }
     ensures memory { IfErr result (λ r. r ≡ refusals.Memory → TakesMemory snapshot.now.history work.command) }
 {
-    let ready = look(snapshot, &work.command)?;
+    let ready = look(snapshot, &work.command, work.now)?;
     Ok(Prepared {
         work,
         place: snapshot.place(),
@@ -34,18 +37,19 @@ pub fn begin(snapshot: &Snapshot, work: Work) -> Result<Prepared, Refusal>
     })
 }
 
-fn look(snapshot: &Snapshot, command: &Command) -> Result<Ready, Refusal>
-    ensures ready { IfOk result (IsReady snapshot.now.limits snapshot.now.history command.now) }
-    ensures refused { IfErr result (λ r. Answers snapshot.now.limits snapshot.now.history command.now (replies.Refused r)) }
+fn look(snapshot: &Snapshot, command: &Command, now: i64) -> Result<Ready, Refusal>
+    requires { IsMoment now }
+    ensures ready { IfOk result (IsReady snapshot.now.limits snapshot.now.history now command.now) }
+    ensures refused { IfErr result (λ r. Answers snapshot.now.limits snapshot.now.history now command.now (replies.Refused r)) }
     ensures memory { IfErr result (λ r. r ≡ refusals.Memory → TakesMemory snapshot.now.history command.now) }
 {
     check_text(command)?;
     if !is_prepared_outside(command) {
         return Ok(Ready::Pending);
     }
-    match find(snapshot, command)? {
+    match find(snapshot, command, now)? {
         Found::Says(reply) => Ok(Ready::Answered(reply)),
-        Found::Commits(intent) => Ok(Ready::ToCommit(intent)),
+        Found::Commits(offer) => Ok(Ready::ToCommit(offer)),
     }
 }
 
@@ -56,41 +60,50 @@ fn check_text(command: &Command) -> Result<(), Refusal>
     ensures memory { IfErr result (λ r. r ≡ refusals.Memory → (h : History) → TakesMemory h command.now) }
 {
     match command {
-        Command::Change(Change::CreateTable { name: _, columns }) => match repeated_place(
-            columns,
-        )? {
-            Some(at) => Err(Refusal::Mistyped { at }),
-            None => Ok(()),
-        },
-        Command::Change(Change::Ingest { .. }) | Command::Query(_) | Command::Unbuilt => Ok(()),
+        Command::Change(change) => check_change(change),
+        Command::Query(_) | Command::Show(_) | Command::Unbuilt => Ok(()),
+    }
+}
+
+fn check_change(change: &Change) -> Result<(), Refusal>
+    ensures good { OnOk result (text_refusal change.now ≡ None) }
+    ensures refused { IfErr result (RefusesText (commands.Change change.now)) }
+    ensures memory { IfErr result (λ r. r ≡ refusals.Memory → (h : History) → TakesMemory h (commands.Change change.now)) }
+{
+    let repeated = match change {
+        Change::CreateTable { name: _, columns } => repeated_place(columns)?,
+        Change::Ingest(ingestion) => ingestion.properties.repeated,
+    };
+    match repeated {
+        Some(at) => Err(Refusal::Mistyped { at: at as u64 }),
+        None => Ok(()),
     }
 }
 
 fn is_prepared_outside(command: &Command) -> bool
     ensures { result ≡ is_prepared_outside_by command.now }
 {
-    match command {
-        Command::Query(_) | Command::Change(Change::Ingest { .. }) => true,
-        Command::Change(Change::CreateTable { .. }) | Command::Unbuilt => false,
-    }
+    !matches!(command, Command::Change(Change::CreateTable { .. }))
 }
 
-/// What a command is due whose text is good.
-pub(crate) fn find(snapshot: &Snapshot, command: &Command) -> Result<Found, Refusal>
-    requires { IsGoodText command.now }
-    ensures found { IfOk result (IsFound snapshot.now.limits snapshot.now.history command.now) }
-    ensures refused { IfErr result (λ r. Answers snapshot.now.limits snapshot.now.history command.now (replies.Refused r)) }
+/// What a command is due at a moment whose text is good.
+pub(crate) fn find(snapshot: &Snapshot, command: &Command, now: i64) -> Result<Found, Refusal>
+    requires moment { IsMoment now }
+    requires good { IsGoodText command.now }
+    ensures found { IfOk result (IsFound snapshot.now.limits snapshot.now.history now command.now) }
+    ensures refused { IfErr result (λ r. Answers snapshot.now.limits snapshot.now.history now command.now (replies.Refused r)) }
     ensures memory { IfErr result (λ r. r ≡ refusals.Memory → TakesToFind snapshot.now.history command.now) }
 {
     match command {
-        Command::Query(query) => Ok(Found::Says(answer(snapshot, query)?)),
+        Command::Query(query) => Ok(Found::Says(answer(snapshot, query, now)?)),
+        Command::Show(asked) => Ok(Found::Says(show(snapshot, asked)?)),
         Command::Change(change) => prepare(snapshot, change),
         Command::Unbuilt => Err(Refusal::Unbuilt),
     }
 }
 
 // The place of the first column whose name stands before it.
-fn repeated_place(columns: &Columns) -> Result<Option<u64>, Memory>
+fn repeated_place(columns: &Columns) -> Result<Option<usize>, Memory>
     ensures place { IfOk result (λ place. place ≡ place_of_repeat columns.now) }
     ensures memory { IfErr result (λ _. 256 < length columns.now) }
 {
@@ -100,9 +113,9 @@ fn repeated_place(columns: &Columns) -> Result<Option<u64>, Memory>
     }
 }
 
-fn place_at(columns: &[Column], i: usize) -> Option<u64>
+fn place_at(columns: &[Column], i: usize) -> Option<usize>
     ensures { result ≡ option_map (λ (c : Described). c.name.at) (slice_get columns.now i) }
 {
     let column = columns.get(i)?;
-    Some(column.name.at as u64)
+    Some(column.name.at)
 }

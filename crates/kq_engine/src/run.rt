@@ -65,8 +65,8 @@ fn told_at(outcomes: &[Told], by: By) -> Option<usize>
     None
 }
 
-fn begin_one(running: &mut Running, work: &Work) -> Result<(), Memory>
-    ensures { OnOk result (GoesOn running.old (moves.Begin work.entry.now) running.new) }
+fn begin_one(running: &mut Running, work: Work) -> Result<(), Memory>
+    ensures { OnOk result (GoesOn running.old (moves.Begin work) running.new) }
 {
     if let Some(_at) = open_at(running.waiting.as_slice(), work.by) {
         return Ok(());
@@ -77,7 +77,7 @@ fn begin_one(running: &mut Running, work: &Work) -> Result<(), Memory>
     let snapshot = running.catalog.snapshot()?;
     let began = snapshot.place();
     let by = work.by;
-    match begin(&snapshot, work.clone_in()?) {
+    match begin(&snapshot, work) {
         Ok(prepared) => {
             running.waiting.push(prepared)?;
             Ok(())
@@ -110,20 +110,20 @@ fn finish_one(running: &mut Running, by: By) -> Result<(), Memory>
     Ok(())
 }
 
-fn run_step(running: &mut Running, step: &Step) -> Result<(), Memory>
+fn run_step(running: &mut Running, step: Step) -> Result<(), Memory>
     requires { AreWaiting running.old.catalog running.old.waiting.items }
-    ensures { OnOk result (GoesOn running.old step.now running.new) }
+    ensures { OnOk result (GoesOn running.old step running.new) }
 {
     match step {
         Step::Begin(work) => begin_one(running, work),
-        Step::Finish(by) => finish_one(running, *by),
+        Step::Finish(by) => finish_one(running, by),
     }
 }
 
 /// Runs the steps one after another. A Begin under a mark that was begun does nothing, nor does a Finish of what wasn't
 /// begun or is finished.
-pub fn run_steps(alloc: Global, limits: Limits, steps: &[Step]) -> Result<Trace, Memory>
-    ensures trace { IfOk result (λ t. IsTrace limits steps.now t.catalog t.outcomes.items) }
+pub fn run_steps(alloc: Global, limits: Limits, steps: Vec<Step>) -> Result<Trace, Memory>
+    ensures trace { IfOk result (λ t. IsTrace limits steps.items t.catalog t.outcomes.items) }
 {
     let mut running = Running {
         catalog: Catalog::new(alloc, limits)?,

@@ -4,6 +4,7 @@ ghost use mathlib.Core.List.{IsPrefix};
 ghost use Rattle.kq_turn.specs.Histories.{IsLongerOf};
 ghost use Rattle.kq_model.specs.History.{cursor};
 ghost use Rattle.kq_catalog.specs.Seen.{hist};
+ghost use Rattle.kq_value.specs.Typed.{IsMoment};
 ghost use Rattle.kq_reply.specs.declared.reply.Reply.TheVariants as replies;
 ghost use Rattle.kq_engine.specs.Found.{IsPrepared};
 ghost use Rattle.kq_engine.specs.Shared.{Applies, Concludes, Finishes, IsFresh, Queries};
@@ -175,15 +176,16 @@ impl Shared {
         }
     }
 
-    /// Answers a query from one snapshot, outside the lock, which is taken once. It waits.
-    pub fn query<R: Wait>(&self, rt: &R, pass: &mut Pass, query: &Query) -> Outcome
-        requires { pass.old.of ≡ self.now.turn }
-        ensures { Queries self.now.limits pass.old pass.new query.now result }
+    /// Answers a query at a moment from one snapshot, outside the lock, which is taken once. It waits.
+    pub fn query<R: Wait>(&self, rt: &R, pass: &mut Pass, query: &Query, now: i64) -> Outcome
+        requires of { pass.old.of ≡ self.now.turn }
+        requires moment { IsMoment now }
+        ensures { Queries self.now.limits pass.old pass.new query.now now result }
     {
         let Ok(snapshot) = self.snapshot(rt, pass) else {
             return refused(pass.seen, Refusal::Memory);
         };
-        match answer(&snapshot, query) {
+        match answer(&snapshot, query, now) {
             Ok(reply) => answered(pass.seen, reply),
             Err(refusal) => refused(pass.seen, refusal),
         }

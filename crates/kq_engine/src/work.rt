@@ -1,30 +1,19 @@
 // Work and its outcome.
-ghost use Rattle.std.specs.Prelude.{◌≡◌, IfOk};
+ghost use Rattle.kq_value.specs.Typed.{IsMoment};
 
 use kq_catalog::Intent;
 use kq_command::Command;
 use kq_model::By;
 use kq_reply::Reply;
-use kq_value::Memory;
+use kq_value::Tags;
 
-/// A command, with its mark and its moment in ticks of 100 ns from 0001-01-01.
+/// A command, with its mark and its moment in ticks of 100 ns from 0001-01-01, within the range of datetime.
 #[derive(Drop)]
 pub struct Work {
     pub by: By,
     pub command: Command,
     pub now: i64,
-}
-
-impl Work {
-    pub fn clone_in(&self) -> Result<Work, Memory>
-        ensures { IfOk result (λ w. w ≡ self.entry.now) }
-    {
-        Ok(Work {
-            by: self.by,
-            command: self.command.clone_in()?,
-            now: self.now,
-        })
-    }
+    ghost is_moment: { IsMoment now },
 }
 
 /// The reply to a command. `own` says that the command made the event at `place`; without it the reply is what the
@@ -36,13 +25,34 @@ pub struct Outcome {
     pub reply: Reply,
 }
 
+/// Tags of which none may stand on an extent of a table, which goes by its number.
+#[derive(Drop)]
+pub struct Barring {
+    pub table: u32,
+    pub tags: Tags,
+}
+
+/// A commit that was found due, and the tags that bar it where it is made later.
+#[derive(Drop)]
+pub struct Offer {
+    pub intent: Intent,
+    pub unless: Option<Barring>,
+}
+
+/// What is due: a reply alone, or a commit.
+#[derive(Drop)]
+pub(crate) enum Found {
+    Says(Reply),
+    Commits(Offer),
+}
+
 /// What was found on a snapshot.
 #[derive(Drop)]
 pub enum Ready {
     /// The reply, which the snapshot tells whole.
     Answered(Reply),
-    /// The commit that is due while none since disturbs it.
-    ToCommit(Intent),
+    /// The commit that is due while no tag bars it and one more is allowed.
+    ToCommit(Offer),
     /// Nothing: the catalogue alone tells what is due.
     Pending,
 }

@@ -52,34 +52,34 @@ same_refusal : (r q : Refusal) → replies.Refused r ≡ replies.Refused q → r
 same_refusal r q e = cc
 
 -- a refusal of a text alone
-refused_alone : (limits : Limits) (answers h : History) (block : Block) (place : ℕ) (own : Bool) (reply : Reply) (r : Refusal) → IsValid limits answers block → ((q : Refusal) → q ≡ r → IsRefused limits answers block q) → Refuses h place own reply r → IsGranted reply
-refused_alone limits answers h block place own reply r valid due refuses = granted reply (λ q is. by_reason q is refuses.reason)
+refused_alone : (limits : Limits) (answers h : History) (now : ℤ) (block : Block) (place : ℕ) (own : Bool) (reply : Reply) (r : Refusal) → IsValid limits answers now block → ((q : Refusal) → q ≡ r → IsRefused limits answers now block q) → Refuses h place own reply r → IsGranted reply
+refused_alone limits answers h now block place own reply r valid due refuses = granted reply (λ q is. by_reason q is refuses.reason)
   where
     by_reason : (q : Refusal) → reply ≡ replies.Refused q → (reply ≡ replies.Refused r) ⊎ (reply ≡ replies.Refused refusals.Memory) → q ≡ refusals.Memory
     by_reason q is (inl e) = valid q (due q (same_refusal q r (sym is ∙ e)))
     by_reason q is (inr e) = same_refusal q refusals.Memory (sym is ∙ e)
 
 -- what the engine answered
-granted_now : (limits : Limits) (h : History) (mark : By) (text : List ℕ) (asked : Command) (now : ℤ) (place : ℕ) (own : Bool) (reply : Reply) → Reads text (Ok asked) → FitsNow limits (take place h) mark asked now own reply → IsValid limits (take (place - made_by own) h) (command text) → IsGranted reply
+granted_now : (limits : Limits) (h : History) (mark : By) (text : List ℕ) (asked : Command) (now : ℤ) (place : ℕ) (own : Bool) (reply : Reply) → Reads text (Ok asked) → FitsNow limits (take place h) mark asked now own reply → IsValid limits (take (place - made_by own) h) now (command text) → IsGranted reply
 granted_now limits h mark text asked now place true reply reads fits valid = inl (Accept-commit limits (log fits.0) asked reply fits.1 fits.3)
 granted_now limits h mark text asked now place false reply reads fits valid = granted reply (λ r is. by_answer r is fits)
   where
-    here : IsValid limits (take place h) (command text)
-    here = subst (λ (n : ℕ). IsValid limits (take n h) (command text)) (sub-zero place) valid
+    here : IsValid limits (take place h) now (command text)
+    here = subst (λ (n : ℕ). IsValid limits (take n h) now (command text)) (sub-zero place) valid
 
-    by_answer : (r : Refusal) → reply ≡ replies.Refused r → (reply ≡ replies.Refused refusals.Memory) ⊎ IsDue limits (take place h) asked reply → r ≡ refusals.Memory
+    by_answer : (r : Refusal) → reply ≡ replies.Refused r → (reply ≡ replies.Refused refusals.Memory) ⊎ IsDue limits (take place h) now asked reply → r ≡ refusals.Memory
     by_answer r is (inl e) = same_refusal r refusals.Memory (sym is ∙ e)
-    by_answer r is (inr due) = here r (Ok asked, reads, subst (λ (a : Reply). IsDue limits (take place h) asked a) is due)
+    by_answer r is (inr due) = here r (Ok asked, reads, subst (λ (a : Reply). IsDue limits (take place h) now asked a) is due)
 
-granted_read : (limits : Limits) (h : History) (mark : By) (text : List ℕ) (read : Result Command CommandFault) (now : ℤ) (place : ℕ) (own : Bool) (reply : Reply) → Reads text read → FitsRead limits h mark read now place own reply → IsValid limits (take (place - made_by own) h) (command text) → IsGranted reply
+granted_read : (limits : Limits) (h : History) (mark : By) (text : List ℕ) (read : Result Command CommandFault) (now : ℤ) (place : ℕ) (own : Bool) (reply : Reply) → Reads text read → FitsRead limits h mark read now place own reply → IsValid limits (take (place - made_by own) h) now (command text) → IsGranted reply
 granted_read limits h mark text (Ok asked) now place own reply reads fits valid = granted_now limits h mark text asked now place own reply reads fits.at valid
 granted_read limits h mark text (Err fault) now place own reply reads fits valid =
-    refused_alone limits (take (place - made_by own) h) h (command text) place own reply (refusal_of fault) valid (λ q is. (Err fault, reads, is)) fits
+    refused_alone limits (take (place - made_by own) h) h now (command text) place own reply (refusal_of fault) valid (λ q is. (Err fault, reads, is)) fits
 
-granted_block : (limits : Limits) (h : History) (mark : By) (block : Block) (now : ℤ) (place : ℕ) (own : Bool) (reply : Reply) → FitsBlock limits h mark block now place own reply → IsValid limits (take (place - made_by own) h) block → IsGranted reply
+granted_block : (limits : Limits) (h : History) (mark : By) (block : Block) (now : ℤ) (place : ℕ) (own : Bool) (reply : Reply) → FitsBlock limits h mark block now place own reply → IsValid limits (take (place - made_by own) h) now block → IsGranted reply
 granted_block limits h mark (command text) now place own reply fits valid = granted_read limits h mark text fits.read now place own reply fits.reads fits.fits valid
 granted_block limits h mark (too_long bytes) now place own reply fits valid =
-    refused_alone limits (take (place - made_by own) h) h (too_long bytes) place own reply (refusals.TooLong bytes) valid (λ q is. is) (record { within = fits.within; not_own = fits.not_own; reason = inl fits.refused })
+    refused_alone limits (take (place - made_by own) h) h now (too_long bytes) place own reply (refusals.TooLong bytes) valid (λ q is. is) (record { within = fits.within; not_own = fits.not_own; reason = inl fits.refused })
 
 AreTurns-served : (limits : Limits) (h : History) (actor n q : ℕ) (ts : List Turn) → AreTurns limits h actor n q ts → All (IsServed limits h) ts
 AreTurns-served limits h actor n q [] all = All-nil (IsServed limits h)

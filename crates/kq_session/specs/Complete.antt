@@ -1,5 +1,5 @@
 -- What a session comes to that nothing troubled: each command of its script has its reply.
-use Rattle.std.specs.Prelude.{◌≡◌, ◌⊎◌, ◌<◌, ◌+◌, ◌-◌, ℕ, Bool, true, List, length, take, map, All, Result, Ok, Err}
+use Rattle.std.specs.Prelude.{◌≡◌, ◌⊎◌, ◌<◌, ◌+◌, ◌-◌, ℕ, ℤ, Bool, true, List, length, take, map, All, Result, Ok, Err}
 use Rattle.kq_world.specs.Told.{Adds}
 use Rattle.kq_world.specs.Outside.{Contents, Gives, Rose}
 use Rattle.kq_model.specs.declared.limits.Limits.{Limits}
@@ -24,19 +24,19 @@ use Rattle.kq_session.specs.Session.{Turn, AreTurns, AreAllAtEnd, blocks_of, tex
 
 -- ---- valid commands
 
--- the refusal is due over this history to the command, or is that of the text
-abbrev pub RefusesRead : Limits → History → Result Command CommandFault → Refusal → Type 0
-RefusesRead limits h (Ok asked) r = IsDue limits h asked (replies.Refused r)
-RefusesRead limits h (Err fault) r = r ≡ refusal_of fault
+-- the refusal is due over this history at a moment to the command, or is that of the text
+abbrev pub RefusesRead : Limits → History → ℤ → Result Command CommandFault → Refusal → Type 0
+RefusesRead limits h now (Ok asked) r = IsDue limits h now asked (replies.Refused r)
+RefusesRead limits h now (Err fault) r = r ≡ refusal_of fault
 
--- the refusal is due over this history to the block
-abbrev pub IsRefused : Limits → History → Block → Refusal → Type 0
-IsRefused limits h (command text) r = (read : Result Command CommandFault) × Reads text read × RefusesRead limits h read r
-IsRefused limits h (too_long bytes) r = r ≡ refusals.TooLong bytes
+-- the refusal is due over this history at a moment to the block
+abbrev pub IsRefused : Limits → History → ℤ → Block → Refusal → Type 0
+IsRefused limits h now (command text) r = (read : Result Command CommandFault) × Reads text read × RefusesRead limits h now read r
+IsRefused limits h now (too_long bytes) r = r ≡ refusals.TooLong bytes
 
 -- no refusal is due to the block but want of memory
-abbrev pub IsValid : Limits → History → Block → Type 0
-IsValid limits h block = (r : Refusal) → IsRefused limits h block r → r ≡ refusals.Memory
+abbrev pub IsValid : Limits → History → ℤ → Block → Type 0
+IsValid limits h now block = (r : Refusal) → IsRefused limits h now block r → r ≡ refusals.Memory
 
 -- the history that answers a command: the one up to its place, without its own commit
 abbrev pub answering : History → Receipt → History
@@ -44,7 +44,7 @@ answering h r = take (r.place - made_by r.own) h
 
 -- a valid command has a reply that is no refusal, or one for want of memory
 pub record IsServed (limits : Limits) (h : History) (t : Turn) : Type 0 where
-  pub granted : IsValid limits (answering h t.receipt) t.block → (t.receipt.kind ≡ 0) ⊎ (t.receipt.kind ≡ 1)
+  pub granted : IsValid limits (answering h t.receipt) t.receipt.moment t.block → (t.receipt.kind ≡ 0) ⊎ (t.receipt.kind ≡ 1)
 
 -- ---- sessions
 

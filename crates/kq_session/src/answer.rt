@@ -2,6 +2,7 @@
 ghost use Rattle.std.specs.Prelude.{◌≡◌, ◌≢◌, ℕ, false, length};
 ghost use Rattle.kq_script.specs.Script.{Block, command};
 ghost use Rattle.kq_script.specs.Item.{IsItemOf};
+ghost use Rattle.kq_value.specs.Typed.{IsMoment};
 ghost use Rattle.kq_reply.specs.declared.reply.Reply.TheVariants as replies;
 ghost use Rattle.kq_session.specs.Blocks.{Steps, refusal_of};
 
@@ -25,6 +26,7 @@ pub(crate) fn answer<R: Wait, G: Gate>(
 ) -> Outcome
     requires of { pass.old.of ≡ service.now.shared.now.turn }
     requires block { item ≢ Item.Finished }
+    requires moment { IsMoment now }
     ensures { (limit : ℕ) (block : Block) → IsItemOf limit item block → Steps service.now.shared.now.limits pass.old pass.new by block now result }
 {
     let shared = service.shared;
@@ -43,7 +45,8 @@ fn answer_text<R: Wait, G: Gate>(
     text: &Bytes,
     now: i64,
 ) -> Outcome
-    requires { pass.old.of ≡ service.now.shared.now.turn }
+    requires of { pass.old.of ≡ service.now.shared.now.turn }
+    requires moment { IsMoment now }
     ensures { Steps service.now.shared.now.limits pass.old pass.new by (command text.now) now result }
 {
     let shared = service.shared;

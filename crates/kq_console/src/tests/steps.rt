@@ -34,6 +34,7 @@ fn code(reply: &Reply) -> (u8, u64) {
         Reply::Done { cursor } => (b'd', *cursor),
         Reply::Kept { cursor } => (b'k', *cursor),
         Reply::Ingested { cursor, rows: _ } => (b'i', *cursor),
+        Reply::Skipped { cursor } => (b's', *cursor),
         Reply::Refused(Refusal::Exists { at }) => (b'e', *at),
         Reply::Refused(Refusal::Full { limit }) => (b'f', *limit),
         _ => (b'?', 0),
@@ -62,7 +63,7 @@ fn come_to(
     events: u64,
 ) -> Result<bool, Fail> {
     let steps = steps(alloc, rows)?;
-    let trace = run_steps(alloc, limits, steps.as_slice())?;
+    let trace = run_steps(alloc, limits, steps)?;
     Ok(tells(&trace, expected) && trace.catalog.place() == events)
 }
 
@@ -73,6 +74,9 @@ const OTHER_E: &str = ".create table E (j:long)";
 const F: &str = ".create table F (k:long)";
 
 const INTO_E: &str = ".ingest inline into table E <|\n1";
+
+const ONCE_INTO_E: &str =
+    ".ingest inline into table E with (tags='[\"ingest-by:a\"]', ingestIfNotExists='[\"a\"]') <|\n1";
 
 #[test]
 fn the_first_to_finish_makes_the_table(rt: HostRuntime) -> Result<(), Fail> {
@@ -129,6 +133,24 @@ fn rows_past_the_last_commit_are_refused(rt: HostRuntime) -> Result<(), Fail> {
     let rows = [(0, E), (0, ""), (1, INTO_E), (1, "")];
     let expected = [(0, b'd', 1), (1, b'f', 1)];
     let holds = come_to(rt.alloc(), limits, &rows, &expected, 1)?;
+    assert!(rt; holds);
+    Ok(())
+}
+
+#[test]
+fn of_two_ingestions_by_one_tag_the_second_to_finish_is_skipped(
+    rt: HostRuntime,
+) -> Result<(), Fail> {
+    let rows = [
+        (0, E),
+        (0, ""),
+        (1, ONCE_INTO_E),
+        (2, ONCE_INTO_E),
+        (2, ""),
+        (1, ""),
+    ];
+    let expected = [(0, b'd', 1), (2, b'i', 2), (1, b's', 2)];
+    let holds = come_to(rt.alloc(), Limits::full(), &rows, &expected, 2)?;
     assert!(rt; holds);
     Ok(())
 }

@@ -1,4 +1,5 @@
-use Rattle.std.proofs.Common.{inr, subst}
+use Rattle.std.proofs.Common.{ℤ, ◌≡◌, inr, subst, rules, w64, to_z, of_z}
+use Rattle.std.proofs.lemmas.Int.{to_z-of_z}
 use Rattle.kq_model.specs.History.{log}
 use Rattle.kq_catalog.specs.Intents.{commit_of}
 use Rattle.kq_catalog.specs.Seen.{CatalogView, hist}
@@ -11,28 +12,30 @@ use Rattle.kq_engine.proofs.on_catalog.decide.Goals as goal
 pub put_in-requires : goal.put_in-requires
 put_in-requires c =
     let command = c.args.work.now.command in
-    let found = subst (IsFound c.present.result.now.limits c.present.result.now.history command) c.in-Commits.is c.in_ok-reply.ensures.found in
-    subst (λ (v : CatalogView). IsCommitDue v.limits (log v.history) command (commit_of c.in-Commits.intent)) c.present.ensures found
+    let found = subst (IsFound c.present.result.now.limits c.present.result.now.history (to_z w64 (of_z w64 c.args.work.now.now)) command) c.in-Commits.is c.in_ok-reply.ensures.found in
+    subst (λ (v : CatalogView). IsCommitDue v.limits (log v.history) command (commit_of c.in-Commits.offer.intent)) c.present.ensures found.due
 
 pub returns-in-Says-clause-acts : goal.returns-in-Says-clause-acts
 returns-in-Says-clause-acts c =
     let command = c.args.work.now.command in
     let now = c.args.catalog.now in
-    let found = subst (IsFound c.present.result.now.limits c.present.result.now.history command) c.in-Says.is c.in_ok-reply.ensures.found in
-    let due = subst (λ (v : CatalogView). IsDue v.limits v.history command c.in-Says.reply) c.present.ensures found in
-    Acts-answer now.limits (hist now) c.args.work.now.by command c.place.result c.in-Says.reply c.place.ensures.place (inr due)
+    let same : to_z w64 (of_z w64 c.args.work.now.now) ≡ c.args.work.now.now = search (rules, to_z-of_z) in
+    let found = subst (IsFound c.present.result.now.limits c.present.result.now.history (to_z w64 (of_z w64 c.args.work.now.now)) command) c.in-Says.is c.in_ok-reply.ensures.found in
+    let here = subst (λ (v : CatalogView). IsDue v.limits v.history (to_z w64 (of_z w64 c.args.work.now.now)) command c.in-Says.reply) c.present.ensures found in
+    Acts-answer now.limits (hist now) c.args.work.now c.place.result c.in-Says.reply c.place.ensures.place (inr (subst (λ (t : ℤ). IsDue now.limits (hist now) t command c.in-Says.reply) same here))
 
 pub returns-in-Says-clause-memory : goal.returns-in-Says-clause-memory
 returns-in-Says-clause-memory c = λ wants.
     let command = c.args.work.now.command in
     let now = c.args.catalog.now in
-    let found = subst (IsFound c.present.result.now.limits c.present.result.now.history command) c.in-Says.is c.in_ok-reply.ensures.found in
-    let due = subst (λ (v : CatalogView). IsDue v.limits v.history command c.in-Says.reply) c.present.ensures found in
-    due_finds now.limits (hist now) command (subst (IsDue now.limits (hist now) command) wants due)
+    let moment = to_z w64 (of_z w64 c.args.work.now.now) in
+    let found = subst (IsFound c.present.result.now.limits c.present.result.now.history moment command) c.in-Says.is c.in_ok-reply.ensures.found in
+    let due = subst (λ (v : CatalogView). IsDue v.limits v.history moment command c.in-Says.reply) c.present.ensures found in
+    due_finds now.limits (hist now) moment command (subst (IsDue now.limits (hist now) moment command) wants due)
 
 pub returns-in-Commits-clause-memory : goal.returns-in-Commits-clause-memory
 returns-in-Commits-clause-memory c = λ wants.
     let command = c.args.work.now.command in
     let now = c.args.catalog.now in
-    let found = subst (IsFound c.present.result.now.limits c.present.result.now.history command) c.in-Commits.is c.in_ok-reply.ensures.found in
-    commit_finds now.limits (hist now) command (commit_of c.in-Commits.intent) (subst (λ (v : CatalogView). IsCommitDue v.limits (log v.history) command (commit_of c.in-Commits.intent)) c.present.ensures found)
+    let found = subst (IsFound c.present.result.now.limits c.present.result.now.history (to_z w64 (of_z w64 c.args.work.now.now)) command) c.in-Commits.is c.in_ok-reply.ensures.found in
+    commit_finds now.limits (hist now) command (commit_of c.in-Commits.offer.intent) (subst (λ (v : CatalogView). IsCommitDue v.limits (log v.history) command (commit_of c.in-Commits.offer.intent)) c.present.ensures found.due)

@@ -1,21 +1,23 @@
-use Rattle.std.proofs.Common.{sym, ◌∙◌, subst}
+use Rattle.std.proofs.Common.{ℤ, ◌≡◌, sym, ◌∙◌, subst, rules, w64, to_z, of_z}
+use Rattle.std.proofs.lemmas.Int.{to_z-of_z}
 use Rattle.std.proofs.lemmas.Result.{err_from_is_err_and}
-use Rattle.kq_model.specs.History.{log}
-use Rattle.kq_catalog.specs.Intents.{commit_of}
+use Rattle.kq_engine.specs.Fits.{IsDue}
 use Rattle.kq_engine.specs.Found.{IsFound}
-use Rattle.kq_engine.proofs.Lasting.{Lasting-outside}
 use Rattle.kq_engine.proofs.Wanting.{found_wants}
 use Rattle.kq_engine.proofs.on_snapshot.look.Goals as goal
 
 pub returns-in-Says-clause-ready : goal.returns-in-Says-clause-ready
-returns-in-Says-clause-ready c = subst (IsFound c.args.snapshot.now.limits c.args.snapshot.now.history c.args.command.now) c.in-Says.is c.in_ok-reply.ensures.found
+returns-in-Says-clause-ready c =
+    let now = c.args.snapshot.now in
+    let same : to_z w64 (of_z w64 c.args.now) ≡ c.args.now = search (rules, to_z-of_z) in
+    subst (λ (t : ℤ). IsDue now.limits now.history t c.args.command.now c.in-Says.reply) same
+    (subst (IsFound now.limits now.history (to_z w64 (of_z w64 c.args.now)) c.args.command.now) c.in-Says.is c.in_ok-reply.ensures.found)
 
 pub returns-in-Commits-clause-ready : goal.returns-in-Commits-clause-ready
 returns-in-Commits-clause-ready c =
     let now = c.args.snapshot.now in
     let outside = sym c.is_prepared_outside.ensures ∙ c.if-not-is_prepared_outside.false in
-    let found = subst (IsFound now.limits now.history c.args.command.now) c.in-Commits.is c.in_ok-reply.ensures.found in
-    (outside, Lasting-outside now.limits (log now.history) c.args.command.now (commit_of c.in-Commits.intent) outside found)
+    (outside, subst (IsFound now.limits now.history (to_z w64 (of_z w64 c.args.now)) c.args.command.now) c.in-Commits.is c.in_ok-reply.ensures.found)
 
 pub returns-in_err-check_text-clause-memory : goal.returns-in_err-check_text-clause-memory
 returns-in_err-check_text-clause-memory c =

@@ -1,0 +1,22 @@
+-- The replies to what is shown of the catalogue.
+use Rattle.std.specs.Prelude.{◌≡◌, Option, Some, None}
+use Rattle.kq_model.specs.History.{History, Numbered, log, tables, table_numbered}
+use Rattle.kq_command.specs.declared.columns.Identifier.{Identifier}
+use Rattle.kq_command.specs.declared.command.Show.{Show}
+use Rattle.kq_command.specs.declared.command.Show.TheVariants.{Extents, Journal}
+use Rattle.kq_reply.specs.declared.refusal.Refusal.TheVariants as refusals
+use Rattle.kq_reply.specs.declared.reply.Reply.{Reply}
+use Rattle.kq_reply.specs.declared.reply.Reply.TheVariants as replies
+use Rattle.kq_show.specs.ExtentRows.{extent_columns, extent_rows}
+use Rattle.kq_show.specs.JournalRows.{journal_columns, journal_rows}
+use Rattle.kq_engine.specs.Printed.{IsShown, PrintsAnswer}
+
+-- a table with its extents, or a name that no table has
+abbrev pub ShowsExtents : History → Identifier → Option Numbered → Reply → Type 0
+ShowsExtents h table None reply = reply ≡ replies.Refused (refusals.Unknown table.at)
+ShowsExtents h table (Some found) reply = PrintsAnswer (IsShown extent_columns (extent_rows h found.number)) reply
+
+-- a show reads the history alone
+abbrev pub AnswersShow : History → Show → Reply → Type 0
+AnswersShow h (Extents table) reply = ShowsExtents h table (table_numbered table.text (tables (log h))) reply
+AnswersShow h Journal reply = PrintsAnswer (IsShown journal_columns (journal_rows h)) reply
