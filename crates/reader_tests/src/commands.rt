@@ -2,7 +2,10 @@
 
 use crate::page::Page;
 use crate::reading::{Reader, assert_reads, assert_rows, repeated};
-use kq_command::{Change, Column, Columns, Command, Identifier, read_command};
+use crate::tabulars::put_query;
+use kq_command::{
+    Change, Column, Columns, Command, Identifier, Ingestion, Quoted, Show, read_command,
+};
 use std::alloc::{AllocError, Global};
 use std::test::Fail;
 
@@ -18,20 +21,42 @@ fn put_columns(page: &mut Page<'_>, columns: &[Column]) {
     }
 }
 
-/// A table to be made as `NAME@PLACE` and then each column as ` NAME@PLACE:TYPE`, TYPE by its place in the order of types; an
-/// ingestion as `NAME@PLACE < ROWS`; a query as `NAME@PLACE rows` or `NAME@PLACE count`.
+fn put_quoted(page: &mut Page<'_>, word: &str, quoted: &Option<Quoted>) {
+    if let Some(quoted) = quoted {
+        page.put(word);
+        page.put_place(quoted.text.as_str(), quoted.at);
+    }
+}
+
+/// The table, the properties, and ` < ROWS`.
+fn put_ingestion(page: &mut Page<'_>, ingestion: &Ingestion) {
+    put_identifier(page, &ingestion.table);
+    put_quoted(page, " tags=", &ingestion.properties.tags);
+    put_quoted(page, " unless=", &ingestion.properties.if_not_exists);
+    if ingestion.properties.ignore_first {
+        page.put(" headed");
+    }
+    if let Some(at) = ingestion.properties.repeated {
+        page.put_place(" twice", at);
+    }
+    page.put(" < ");
+    page.put(ingestion.body.as_str());
+}
+
+/// A table to be made as `NAME@PLACE` and then each column as ` NAME@PLACE:TYPE`, TYPE by its place in the order of types.
 pub fn put_command(page: &mut Page<'_>, command: &Command) {
     match command {
         Command::Unbuilt => page.put("unbuilt"),
-        Command::Change(Change::Ingest { table, body }) => {
-            put_identifier(page, table);
-            page.put(" < ");
-            page.put(std::str::from_utf8(body.as_slice()).unwrap_or("no text"));
-        }
         Command::Query(query) => {
-            put_identifier(page, &query.table);
-            page.put(if query.counted { " count" } else { " rows" });
+            page.put("query ");
+            put_query(page, &query.tree);
         }
+        Command::Show(Show::Extents(table)) => {
+            page.put("extents ");
+            put_identifier(page, table);
+        }
+        Command::Show(Show::Journal) => page.put("journal"),
+        Command::Change(Change::Ingest(ingestion)) => put_ingestion(page, ingestion),
         Command::Change(Change::CreateTable { name, columns }) => {
             put_identifier(page, name);
             put_columns(page, columns.as_slice());
@@ -50,12 +75,15 @@ fn texts_read_as_their_commands(rt: HostRuntime) -> Result<(), Fail> {
  . create table _t9(date:date) => _t9@16 date@20:4
 .create table By(k:long,k:int) => By@14 k@17:0 k@24:1
 .ingest inline into table E <| => E@26 < 
-E => E@0 rows
-E; => E@0 rows
-E | count => E@0 count
-E|count; => E@0 count
-count | count => count@0 count
-with => with@0 rows
+.ingest inline into table E with (format='csv') <| 1 => E@26 < 1
+.ingest inline into table E with (tags='a', ignoreFirstRecord=true, format=@\"csv\", ingestIfNotExists=\"b\") <|1 => E@26 tags=a@39 unless=b@101 headed < 1
+.ingest inline into table E with (format='csv', tags='a', tags='b', format='csv') <| => E@26 tags=a@53 twice@58 < 
+.ingest inline into table E with (ignoreFirstRecord=false, ignoreFirstRecord=true) <| => E@26 twice@59 < 
+.show table ['my table'] extents => extents my table@12
+.show journal => journal
+E => query E
+count | count; => query count|Count
+let x = E; print x.y => query x=E:E; Print {x .y}
 ";
     Ok(assert_rows(&rt, rt.alloc(), Reader::Command, rows)?)
 }
@@ -77,9 +105,11 @@ fn commands_go_over_lines(rt: HostRuntime) -> Result<(), Fail> {
             ".ingest // 1\ninline\ninto // <|\ntable\n['my table'] // x\n<| // 'a",
             "my table@37 < // 'a",
         ),
-        (" E\n", "E@1 rows"),
-        ("// all\n[ 'my table' ] // of it", "my table@7 rows"),
-        ("['by'] // rows\n|\n\n// their number\ncount", "by@0 count"),
+        ("// all\n[ 'my table' ] // of it", "query ['my table']"),
+        (
+            "['by'] // rows\n|\n\n// their number\ncount",
+            "query ['by']|Count",
+        ),
     ] {
         assert_reads(&rt, rt.alloc(), Reader::Command, text, want)?;
     }
@@ -95,29 +125,10 @@ fn other_forms_are_not_built_yet(rt: HostRuntime) -> Result<(), Fail> {
 .create async ifnotexists materialized-view with (backfill=true) with on table E { E }
 .show materialized-view V
 .show ingestion failures
-.show table E extents
-.show journal
 # fold V
 #merge E
 #export X
 #export X over E { E }
-.ingest inline into table E with (format='csv') <| 1
-.ingest inline into table E with (tags='', ignoreFirstRecord=false, format=@\"csv\", ingestIfNotExists='') <|
-(E)
-E | count | count
-E | where a > 1
-let x = 1; E
-let x = print; E
-let print = E | count; ['print'];
-print + 1
-print has(1)
-union print
-union kind, with
-range from from 1 to 9 step 2
-E | join kind=['inner'] (F) on k
-E | summarize by (k)
-materialized_view('V')
-datatable (kind: long) [1, -2,]
 ";
     for text in rows.lines() {
         assert_reads(&rt, rt.alloc(), Reader::Command, text, "unbuilt")?;
@@ -127,13 +138,27 @@ datatable (kind: long) [1, -2,]
 
 #[test]
 fn as_many_as_120_brackets_are_read(rt: HostRuntime) -> Result<(), Fail> {
+    let nested = [("(", 120), ("1", 1), (")", 120)];
     let view = ".create materialized-view V on table E { print a[";
-    for pieces in [
-        [("print ", 1), ("(", 120), ("1", 1), (")", 120)],
-        [(view, 1), ("a[f(", 59), (")]", 59), ("] }", 1)],
+    for (text, want) in [
+        (
+            [("print ", 1), nested[0], nested[1], nested[2]],
+            [("query Print ", 1), nested[0], nested[1], nested[2]],
+        ),
+        (
+            [(view, 1), ("a[f(", 59), (")]", 59), ("] }", 1)],
+            [("unbuilt", 1), ("", 0), ("", 0), ("", 0)],
+        ),
     ] {
-        let text = repeated(rt.alloc(), &pieces)?;
-        assert_reads(&rt, rt.alloc(), Reader::Command, text.as_str(), "unbuilt")?;
+        let text = repeated(rt.alloc(), &text)?;
+        let want = repeated(rt.alloc(), &want)?;
+        assert_reads(
+            &rt,
+            rt.alloc(),
+            Reader::Command,
+            text.as_str(),
+            want.as_str(),
+        )?;
     }
     Ok(())
 }

@@ -88,12 +88,14 @@ fn put_list(page: &mut Page<'_>, list: &[Expression], depth: usize) {
 #[cycle(expression)]
 fn put_step(page: &mut Page<'_>, step: &Step, depth: usize) {
     match step {
-        Step::Member(name) => {
-            page.put(" .");
+        Step::Member(dot, name) => {
+            page.put(" ");
+            page.put_symbol(*dot);
             page.put_name(*name);
         }
-        Step::Index(inner) => {
-            page.put(" [");
+        Step::Index(open, inner) => {
+            page.put(" ");
+            page.put_symbol(*open);
             put_whole(page, inner, depth);
             page.put("]");
         }

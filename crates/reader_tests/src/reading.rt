@@ -79,13 +79,9 @@ fn put_command_fault(page: &mut Page<'_>, fault: CommandFault) {
     }
 }
 
-/// The copy of the command.
 fn put_command_read(page: &mut Page<'_>, alloc: Global, text: &str) {
     match read_command(alloc, text.as_bytes()) {
-        Ok(command) => match command.clone_in() {
-            Ok(copy) => put_command(page, &copy),
-            Err(_) => page.tear(),
-        },
+        Ok(command) => put_command(page, &command),
         Err(fault) => put_command_fault(page, fault),
     }
 }

@@ -45,9 +45,9 @@ fn literals(alloc: Global, places: &[u8]) -> Result<Vec<Expression>, AllocError>
 
 fn steps(alloc: Global) -> Result<Vec<Step>, AllocError> {
     let mut steps = Vec::new(alloc);
-    steps.push(member(name(1)))?;
-    steps.push(index(literal(2)))?;
-    steps.push(member(name(3)))?;
+    steps.push(member(symbol(1), name(2)))?;
+    steps.push(index(symbol(3), literal(4)))?;
+    steps.push(member(symbol(5), name(6)))?;
     Ok(steps)
 }
 
@@ -125,7 +125,7 @@ fn a_tree_holds_what_its_builder_is_given(rt: HostRuntime) -> Result<(), Fail> {
         (Builder::Compare, "{0 1 2}"),
         (Builder::Within, "{0 1 (2,3,4)}"),
         (Builder::Between, "{0 1 2..3}"),
-        (Builder::Path, "{0 .b [2] .d}"),
+        (Builder::Path, "{0 1c 34] 5g}"),
         (Builder::PathOfNone, "0"),
         (Builder::Chain, "{0 1 2 3 4}"),
         (Builder::ChainOfNone, "0"),

@@ -1,7 +1,7 @@
 // Bodies of CSV, and what is read from them: rows between slashes, with their cells between spaces, or the fault.
-use kq_ingest::{IngestFault, are_longs, read_rows};
+use kq_ingest::{IngestFault, read_rows, read_tags};
 use kq_rows::Rows;
-use kq_value::{Field, Memory, Schema, Text, Ty, Value};
+use kq_value::{Dyn, Field, Memory, Schema, Text, Ty, Value};
 use std::alloc::Global;
 use std::process::Abort;
 
@@ -41,14 +41,11 @@ fn shown_rows(alloc: Global, rows: &Rows) -> Result<String, Memory> {
 fn shown(
     alloc: Global,
     names: &[&str],
-    body: &[u8],
+    body: &str,
     skip_first: bool,
     limit: u64,
 ) -> Result<String, Memory> {
     let schema = schema(alloc, names, Ty::Long)?;
-    if !are_longs(&schema) {
-        return String::from_str(alloc, "another column");
-    }
     match read_rows(alloc, body, &schema, skip_first, limit) {
         Ok(rows) => shown_rows(alloc, &rows),
         Err(IngestFault::WideRow { row }) => format!(in alloc; "WideRow {row}"),
@@ -74,7 +71,7 @@ fn records_of_rfc_4180_are_rows(rt: HostRuntime) -> Result<(), Memory> {
         (" \"1\",2", "null 2"),
         ("1,\"2", "1 2"),
     ] {
-        let text = shown(rt.alloc(), &["k", "v"], body.as_bytes(), false, 100)?;
+        let text = shown(rt.alloc(), &["k", "v"], body, false, 100)?;
         assert_eq!(rt; text.as_str(), want, "{body}");
     }
     Ok(())
@@ -102,16 +99,9 @@ fn cells_are_longs_or_null(rt: HostRuntime) -> Result<(), Memory> {
             "12 null",
         ),
     ] {
-        let text = shown(rt.alloc(), &["k", "v"], body.as_bytes(), false, 100)?;
+        let text = shown(rt.alloc(), &["k", "v"], body, false, 100)?;
         assert_eq!(rt; text.as_str(), want, "{body}");
     }
-    Ok(())
-}
-
-#[test]
-fn bytes_that_are_no_text_are_null(rt: HostRuntime) -> Result<(), Memory> {
-    let bytes = shown(rt.alloc(), &["k", "v"], b"\xff1,1", false, 100)?;
-    assert_eq!(rt; bytes.as_str(), "null 1");
     Ok(())
 }
 
@@ -134,7 +124,7 @@ fn the_first_fault_is_named(rt: HostRuntime) -> Result<(), Memory> {
         ("1,2", true, 0, ""),
         ("", true, 2, ""),
     ] {
-        let text = shown(rt.alloc(), &["k", "v"], body.as_bytes(), skip_first, limit)?;
+        let text = shown(rt.alloc(), &["k", "v"], body, skip_first, limit)?;
         assert_eq!(rt; text.as_str(), want, "{body}");
     }
     Ok(())
@@ -150,18 +140,70 @@ fn the_columns_decide_the_width(rt: HostRuntime) -> Result<(), Memory> {
             "1 null null/1 2 null/1 2 3",
         ),
     ] {
-        let text = shown(rt.alloc(), names, body.as_bytes(), false, 100)?;
+        let text = shown(rt.alloc(), names, body, false, 100)?;
         assert_eq!(rt; text.as_str(), want, "{body}");
     }
     Ok(())
 }
 
+// Whether the cell is the same as that which a body of one cell gives in a column of the cell's type.
+fn reads_as(alloc: Global, body: &str, want: &Value) -> Result<bool, Memory> {
+    let schema = schema(alloc, &["c"], want.ty())?;
+    match read_rows(alloc, body, &schema, false, 1) {
+        Ok(rows) => Ok(rows.len() == 1 && rows.row(0).len() == 1 && rows.row(0)[0].same(want)),
+        Err(_) => Ok(false),
+    }
+}
+
 #[test]
-fn another_type_is_no_long(rt: HostRuntime) -> Result<(), Memory> {
-    let mut columns = schema(rt.alloc(), &["k", "v"], Ty::Long)?;
-    assert!(rt; are_longs(&columns));
-    let name = Text::from_str(rt.alloc(), "s")?;
-    columns.push(Field { name, ty: Ty::Text })?;
-    assert!(rt; !are_longs(&columns));
+fn cells_are_of_the_types_of_their_columns(rt: HostRuntime) -> Result<(), Memory> {
+    for (body, want) in [
+        (" -2147483648 ", Value::Int(-2_147_483_648)),
+        ("2147483648", Value::Null(Ty::Int)),
+        ("\tTrUe", Value::Bool(true)),
+        ("0", Value::Bool(false)),
+        ("yes", Value::Null(Ty::Bool)),
+        ("0001-01-02 ", Value::Moment(864_000_000_000)),
+        ("1970-1-1", Value::Null(Ty::Moment)),
+        ("-00:00:01", Value::Span(-10_000_000)),
+        ("1.5h", Value::Span(54_000_000_000)),
+        ("1 h", Value::Null(Ty::Span)),
+    ] {
+        assert!(rt; reads_as(rt.alloc(), body, &want)?);
+    }
+    let text = Text::from_str(rt.alloc(), " é \"")?;
+    assert!(rt; reads_as(rt.alloc(), " é \"", &Value::Text(text))?);
+    let text = Dyn::Text(Text::from_str(rt.alloc(), " {")?);
+    let value = Value::dynamic(rt.alloc(), text)?;
+    assert!(rt; reads_as(rt.alloc(), " {", &value)?);
+    Ok(())
+}
+
+fn shown_tags(alloc: Global, text: &str) -> Result<String, Memory> {
+    let Some(tags) = read_tags(alloc, text)? else {
+        return String::from_str(alloc, "none");
+    };
+    let mut shown = String::new(alloc);
+    for tag in tags.as_slice() {
+        shown.push_str(tag.as_str())?;
+        shown.push_str("/")?;
+    }
+    Ok(shown)
+}
+
+#[test]
+fn tags_are_kept_once(rt: HostRuntime) -> Result<(), Memory> {
+    for (text, want) in [
+        (r#"["b", "a", "b", "c", "a"]"#, "b/a/c/"),
+        (r#" [ "\u0061" , "a" ] "#, "a/"),
+        ("[]", ""),
+        (r#"["a", 1]"#, "none"),
+        (r#""a""#, "none"),
+        (r#"["a""#, "none"),
+        ("", "none"),
+    ] {
+        let tags = shown_tags(rt.alloc(), text)?;
+        assert_eq!(rt; tags.as_str(), want, "{text}");
+    }
     Ok(())
 }
