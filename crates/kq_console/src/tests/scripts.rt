@@ -38,7 +38,7 @@ const TEXTS: &[u8] =
     b"\xff\n\n.create table A (k:long) \xff\n\n.create table A (k:long, b:int, k:long)\n\n.create table by (k:long)\n\n.create table A ()\n\n.create table A (k:long) x\n\n.create table A (k:real)\n\nprint \"abc\n\nE | | count\n\nprint 1";
 
 const TEXTS_OUT: &[u8] =
-    b"refused NotText at 0\n\nrefused NotText at 25\n\nrefused Type at 32\n\nrefused Syntax at 14\n\nrefused Syntax at 17\n\nrefused Syntax at 25\n\nrefused Unsupported at 19\n\nrefused Syntax at 6\n\nrefused Syntax at 4\n\nrefused Unbuilt\n\n";
+    b"refused NotText at 0\n\nrefused NotText at 25\n\nrefused Type at 32\n\nrefused Syntax at 14\n\nrefused Syntax at 17\n\nrefused Syntax at 25\n\nrefused Unsupported at 19\n\nrefused Syntax at 6\n\nrefused Syntax at 4\n\nrows 1\nprint_0:long\n1\n\n";
 
 const ROWS: &[u8] =
     b".create table E (k:long, v:long)\n\n.ingest inline into table E <|\n2,30\n10,5\n,\n-1,x\n\nE\n\nE | count\n\n.ingest inline into table E <|\n1,2,3\n\n.ingest inline into table X <|\n1\n";
