@@ -23,7 +23,21 @@ use kq_scalar::eval;
 use kq_value::{Memory, Schema, Value};
 use std::alloc::Global;
 
-/// One row of what the items come to at a moment, under their columns.
+/// A print of more bytes that aren't blank could nest its expressions deeper than a thread's stack allows: each operand of a chain is
+/// a level, and takes two bytes at least.
+const MOST_BYTES: usize = 16_384;
+
+fn is_white(byte: u8) -> bool {
+    byte == b' ' || byte == b'\t' || byte == b'\r' || byte == b'\n'
+}
+
+// Whether there is room on the stack for the expressions of a text.
+fn fits_on_stack(text: &str) -> bool {
+    let bytes = text.as_bytes().iter();
+    bytes.filter(|byte| !is_white(**byte)).count() <= MOST_BYTES
+}
+
+/// One row of what the items come to at a moment, under their columns. Want of memory is told of a text that is too long for the stack.
 pub(crate) fn print(
     alloc: Global,
     text: &str,
@@ -35,6 +49,9 @@ pub(crate) fn print(
     ensures answer { IfOk result (AnswersPrint now text.now (item_view first.now ∷ map item_view others.now)) }
     ensures refused { IfErr result (RefusesBy (AnswersPrint now text.now (item_view first.now ∷ map item_view others.now))) }
 {
+    if !fits_on_stack(text) {
+        return Err(Refusal::Memory);
+    }
     match bind_print(alloc, text, first, others) {
         Ok(printing) => print_bound(alloc, printing, now),
         Err(fault) => Err(refusal(fault)),
