@@ -137,24 +137,38 @@ module _ (x : Side) (t₀ : Symbol) (is_t₀ : of (k.side x) t₀ ≡ true) wher
   sided_example : Example (sided x)
   sided_example = skip_example (of (k.side x)) t₀ is_t₀ behind_dot nothing (skip_example (of k.dot) a_dot refl name_text nothing name_example)
 
-abbrev one_side : Side → Side → Name × Name → Text
-one_side x y p = sided x p.0 ⨾ some (of k.equals) ⨾ sided y p.1
+abbrev behind_side : Side → Symbol × Name → Text
+behind_side y = Then (one (of k.equals)) (sided y)
+
+abbrev sides : Side → Side → Name × (Symbol × Name) → Text
+sides x y = Then (sided x) (behind_side y)
 
 module _ (x y : Side) (t₀ s₀ : Symbol) (is_t₀ : of (k.side x) t₀ ≡ true) (is_s₀ : of (k.side y) s₀ ≡ true) where
-  sides_exact : (more : Symbol → Bool) (n : ℕ) → Exact (one_side x y) more (both (reading.sided x) (skip (of k.equals) (reading.sided y))) n
-  sides_exact more n =
-      both_exact (sided x) (λ m. some (of k.equals) ⨾ sided y m) nothing more (λ m v z s stops. stops_nothing (v ++ z)) n (reading.sided x) (skip (of k.equals) (reading.sided y)) (sided_exact x t₀ is_t₀ nothing n)
-      (skip_exact (of k.equals) an_equals refl (sided y) more n n (omega arith) (reading.sided y) (sided_exact y s₀ is_s₀ more n) (sided_example y s₀ is_s₀))
-      (skip_example (of k.equals) an_equals refl (sided y) nothing (sided_example y s₀ is_s₀))
+  behind_side_example : Example (behind_side y)
+  behind_side_example =
+      let e = sided_example y s₀ is_s₀ in
+      record { value = (an_equals, e.value); text = an_equals ∷ e.text; spelled = record { left = an_equals ∷ []; right = e.text; joined = refl; before = (refl, refl); after = e.spelled } }
 
-  sides_begin : Begins (k.side x) (one_side x y)
-  sides_begin p u z s = front_begins (k.side x) (sided x p.0) (some (of k.equals) ⨾ sided y p.1) true (λ v z s. skip_leads (of (k.side x)) t₀ is_t₀ behind_dot nothing p.0 v z s) u z s
+  sides_exact : (more : Symbol → Bool) (n : ℕ) → Exact (sides x y) more (reading.sides x y) n
+  sides_exact more n =
+      both_exact (sided x) (behind_side y) nothing more (λ m v z s stops. stops_nothing (v ++ z)) n (reading.sided x) (both (expect (of k.equals)) (reading.sided y)) (sided_exact x t₀ is_t₀ nothing n)
+      (both_exact (one (of k.equals)) (sided y) nothing more (λ m v z s stops. stops_nothing (v ++ z)) n (expect (of k.equals)) (reading.sided y) (one_exact (of k.equals) an_equals refl nothing n) (sided_exact y s₀ is_s₀ more n) (sided_example y s₀ is_s₀))
+      behind_side_example
+
+  sides_begin : Begins (k.side x) (sides x y)
+  sides_begin p u z s = front_begins (k.side x) (sided x p.0) (behind_side y p.1) true (λ v z s. skip_leads (of (k.side x)) t₀ is_t₀ behind_dot nothing p.0 v z s) u z s
+
+abbrev left_right : Name × (Symbol × Name) → JoinKey
+left_right p = pair.LeftRight p.0 p.1.0 p.1.1
+
+abbrev right_left : Name × (Symbol × Name) → JoinKey
+right_left p = pair.RightLeft p.0 p.1.0 p.1.1
 
 abbrev left_right_form : JoinKey → Text
-left_right_form = Image (λ (p : Name × Name). pair.LeftRight p.0 p.1) (one_side side.Left side.Right)
+left_right_form = Image left_right (sides side.Left side.Right)
 
 abbrev right_left_form : JoinKey → Text
-right_left_form = Image (λ (p : Name × Name). pair.RightLeft p.0 p.1) (one_side side.Right side.Left)
+right_left_form = Image right_left (sides side.Right side.Left)
 
 abbrev both_form : JoinKey → Text
 both_form = Image pair.Both name_text
@@ -171,8 +185,8 @@ from_others y u (inr s) = subst (λ w. grammar.join_key_text w u) (sym s.is) s.s
 
 join_key_cases : (y : JoinKey) (u : List Symbol) → grammar.join_key_text y u → left_right_form y u ⊎ others_form y u
 join_key_cases (pair.Both m) u s = inr (inr (record { value = m; is = refl; spelled = s }))
-join_key_cases (pair.LeftRight a b) u s = inl (record { value = (a, b); is = refl; spelled = s })
-join_key_cases (pair.RightLeft a b) u s = inr (inl (record { value = (a, b); is = refl; spelled = s }))
+join_key_cases (pair.LeftRight a t b) u s = inl (record { value = (a, (t, b)); is = refl; spelled = s })
+join_key_cases (pair.RightLeft a t b) u s = inr (inl (record { value = (a, (t, b)); is = refl; spelled = s }))
 
 abbrev a_left : Symbol
 a_left = example_of (kind.Side side.Left)
@@ -196,12 +210,12 @@ join_key_exact more n =
     choose_exact (of (k.side side.Left)) left_right_form others_form grammar.join_key_text more from_left_right from_others join_key_cases
     (λ y u z s stops. left_right_begins y u z s) (λ y u z s stops. others_begin y u z s)
     n reading.left_right (choose (of (k.side side.Right)) reading.right_left (pair.Both <$> name))
-    (image_exact (λ (p : Name × Name). pair.LeftRight p.0 p.1) (one_side side.Left side.Right) more n (both (reading.sided side.Left) (skip (of k.equals) (reading.sided side.Right))) (sides_exact side.Left side.Right a_left a_right refl refl more n))
+    (image_exact left_right (sides side.Left side.Right) more n (reading.sides side.Left side.Right) (sides_exact side.Left side.Right a_left a_right refl refl more n))
     (choose_exact (of (k.side side.Right)) right_left_form both_form others_form more (λ y u s. inl s) (λ y u s. inr s) (λ y u s. s)
     (λ y u z s stops. right_left_begins y u z s)
     (λ y u z s stops. starts_apart k.begins_name (k.side side.Right) (apart k.begins_name (k.side side.Right) refl) (u ++ z) (name_leads s.value u z s.spelled))
     n reading.right_left (pair.Both <$> name)
-    (image_exact (λ (p : Name × Name). pair.RightLeft p.0 p.1) (one_side side.Right side.Left) more n (both (reading.sided side.Right) (skip (of k.equals) (reading.sided side.Left))) (sides_exact side.Right side.Left a_right a_left refl refl more n))
+    (image_exact right_left (sides side.Right side.Left) more n (reading.sides side.Right side.Left) (sides_exact side.Right side.Left a_right a_left refl refl more n))
     (image_exact pair.Both name_text more n name (name_exact more n)))
 
 pub join_key_example : Example grammar.join_key_text
@@ -209,8 +223,8 @@ join_key_example = record { value = pair.Both name_example.value; text = name_ex
 
 pub join_key_begins : Begins begins_join_key grammar.join_key_text
 join_key_begins (pair.Both m) u z s = starts_part k.begins_name begins_join_key (part k.begins_name begins_join_key refl) (u ++ z) (name_leads m u z s)
-join_key_begins (pair.LeftRight a b) u z s = starts_part (k.side side.Left) begins_join_key (part (k.side side.Left) begins_join_key refl) (u ++ z) (sides_begin side.Left side.Right a_left a_right refl refl (a, b) u z s)
-join_key_begins (pair.RightLeft a b) u z s = starts_part (k.side side.Right) begins_join_key (part (k.side side.Right) begins_join_key refl) (u ++ z) (sides_begin side.Right side.Left a_right a_left refl refl (a, b) u z s)
+join_key_begins (pair.LeftRight a t b) u z s = starts_part (k.side side.Left) begins_join_key (part (k.side side.Left) begins_join_key refl) (u ++ z) (sides_begin side.Left side.Right a_left a_right refl refl (a, (t, b)) u z s)
+join_key_begins (pair.RightLeft a t b) u z s = starts_part (k.side side.Right) begins_join_key (part (k.side side.Right) begins_join_key refl) (u ++ z) (sides_begin side.Right side.Left a_right a_left refl refl (a, (t, b)) u z s)
 
 pub join_keys_exact : (n : ℕ) → Exact (grammar.listed grammar.join_key_text) (of join_keys_go_on) (reading.join_keys n) n
 unfolding reading.join_keys

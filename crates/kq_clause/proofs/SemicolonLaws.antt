@@ -128,13 +128,13 @@ sided_free x m =
     joined_free (some (of (k.side x))) (some (of k.dot) ⨾ name_text m) (free_some (k.side x) (side_apart x))
     (joined_free (some (of k.dot)) (name_text m) (free_some k.dot (apart k.dot k.semicolon refl)) (no_semicolon_in_name m))
 
-sides_free : (x y : Side) (a b : Name) → Free (sided x a ⨾ some (of k.equals) ⨾ sided y b)
-sides_free x y a b = joined_free (sided x a) (some (of k.equals) ⨾ sided y b) (sided_free x a) (joined_free (some (of k.equals)) (sided y b) (free_some k.equals (apart k.equals k.semicolon refl)) (sided_free y b))
+sides_free : (x y : Side) (a : Name) (t : Symbol) (b : Name) → Free (sided x a ⨾ one (of k.equals) t ⨾ sided y b)
+sides_free x y a t b = joined_free (sided x a) (one (of k.equals) t ⨾ sided y b) (sided_free x a) (joined_free (one (of k.equals) t) (sided y b) (free_one k.equals (apart k.equals k.semicolon refl) t) (sided_free y b))
 
 pub join_key_free : (q : JoinKey) → Free (grammar.join_key_text q)
 join_key_free (pair.Both m) = no_semicolon_in_name m
-join_key_free (pair.LeftRight a b) = sides_free side.Left side.Right a b
-join_key_free (pair.RightLeft a b) = sides_free side.Right side.Left a b
+join_key_free (pair.LeftRight a t b) = sides_free side.Left side.Right a t b
+join_key_free (pair.RightLeft a t b) = sides_free side.Right side.Left a t b
 
 pub join_keys_free : (p : JoinKey × List JoinKey) → Free (grammar.listed grammar.join_key_text p)
 join_keys_free = listed_free grammar.join_key_text join_key_free

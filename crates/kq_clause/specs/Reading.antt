@@ -104,11 +104,14 @@ join_kind = choose (of k.open_bracket) ((λ p. shown.Bracketed p.0 p.1) <$> both
 abbrev pub sided : Side → Parser Symbol Name
 sided s = skip (of (k.side s)) (skip (of k.dot) name)
 
+abbrev pub sides : Side → Side → Parser Symbol (Name × (Symbol × Name))
+sides first second = both (sided first) (both (expect (of k.equals)) (sided second))
+
 unfoldable pub left_right : Parser Symbol JoinKey
-left_right = (λ p. pair.LeftRight p.0 p.1) <$> both (sided side.Left) (skip (of k.equals) (sided side.Right))
+left_right = (λ p. pair.LeftRight p.0 p.1.0 p.1.1) <$> sides side.Left side.Right
 
 unfoldable pub right_left : Parser Symbol JoinKey
-right_left = (λ p. pair.RightLeft p.0 p.1) <$> both (sided side.Right) (skip (of k.equals) (sided side.Left))
+right_left = (λ p. pair.RightLeft p.0 p.1.0 p.1.1) <$> sides side.Right side.Left
 
 unfoldable pub join_key : Parser Symbol JoinKey
 join_key = choose (of (k.side side.Left)) left_right (choose (of (k.side side.Right)) right_left (pair.Both <$> name))

@@ -39,9 +39,9 @@ fn left_right(cursor: &mut Cursor<'_>) -> Result<JoinKey, Stop>
     ensures { Gives (λ q. q) (spec.left_right cursor.old) result cursor.new }
 {
     let left = sided(Side::Left, cursor)?;
-    cursor.expect(Class::Operator(Operator::Equal))?;
+    let equals = cursor.expect(Class::Operator(Operator::Equal))?;
     let right = sided(Side::Right, cursor)?;
-    Ok(JoinKey::LeftRight(left, right))
+    Ok(JoinKey::LeftRight(left, equals, right))
 }
 
 #[tactic(auto, unfolding(crate::specs::Reading::right_left))]
@@ -49,9 +49,9 @@ fn right_left(cursor: &mut Cursor<'_>) -> Result<JoinKey, Stop>
     ensures { Gives (λ q. q) (spec.right_left cursor.old) result cursor.new }
 {
     let right = sided(Side::Right, cursor)?;
-    cursor.expect(Class::Operator(Operator::Equal))?;
+    let equals = cursor.expect(Class::Operator(Operator::Equal))?;
     let left = sided(Side::Left, cursor)?;
-    Ok(JoinKey::RightLeft(right, left))
+    Ok(JoinKey::RightLeft(right, equals, left))
 }
 
 /// One key of a join.

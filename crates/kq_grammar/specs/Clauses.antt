@@ -69,8 +69,8 @@ join_kind_text (n.Bracketed t s) = one (of k.open_bracket) t ⨾ one (of k.quote
 
 abbrev pub join_key_text : JoinKey → Text
 join_key_text (key.Both n) = name_text n
-join_key_text (key.LeftRight a b) = (some (of (k.side side.Left)) ⨾ some (of k.dot) ⨾ name_text a) ⨾ some (of k.equals) ⨾ (some (of (k.side side.Right)) ⨾ some (of k.dot) ⨾ name_text b)
-join_key_text (key.RightLeft a b) = (some (of (k.side side.Right)) ⨾ some (of k.dot) ⨾ name_text a) ⨾ some (of k.equals) ⨾ (some (of (k.side side.Left)) ⨾ some (of k.dot) ⨾ name_text b)
+join_key_text (key.LeftRight a t b) = (some (of (k.side side.Left)) ⨾ some (of k.dot) ⨾ name_text a) ⨾ one (of k.equals) t ⨾ (some (of (k.side side.Right)) ⨾ some (of k.dot) ⨾ name_text b)
+join_key_text (key.RightLeft a t b) = (some (of (k.side side.Right)) ⨾ some (of k.dot) ⨾ name_text a) ⨾ one (of k.equals) t ⨾ (some (of (k.side side.Left)) ⨾ some (of k.dot) ⨾ name_text b)
 
 abbrev pub column_text : Column → Text
 column_text c = name_text c.name ⨾ some (of k.colon) ⨾ one (of k.any_word) c.ty

@@ -17,12 +17,12 @@ pub struct Cell {
     pub literal: Symbol,
 }
 
-/// What a join matches: a column of both sides, or one of each in the order of the text.
+/// What a join matches: a column of both sides, or one of each in the order of the text, with the symbol of `==`.
 #[derive(Clone, Copy)]
 pub enum JoinKey {
     Both(Name),
-    LeftRight(Name, Name),
-    RightLeft(Name, Name),
+    LeftRight(Name, Symbol, Name),
+    RightLeft(Name, Symbol, Name),
 }
 
 /// An expression, which may be given a name.

@@ -119,13 +119,13 @@ free_left n = free_behind (k.side side.Left) (apart (k.side side.Left) k.semicol
 free_right : (n : Name) → Free (some (of (k.side side.Right)) ⨾ some (of k.dot) ⨾ name_text n)
 free_right n = free_behind (k.side side.Right) (apart (k.side side.Right) k.semicolon refl) (some (of k.dot) ⨾ name_text n) (free_dotted n)
 
-free_equal : (first second : Text) → Free first → Free second → Free (first ⨾ some (of k.equals) ⨾ second)
-free_equal first second a b = free_then first (some (of k.equals) ⨾ second) a (free_behind k.equals (apart k.equals k.semicolon refl) second b)
+free_equal : (t : Symbol) (first second : Text) → Free first → Free second → Free (first ⨾ one (of k.equals) t ⨾ second)
+free_equal t first second a b = free_then first (one (of k.equals) t ⨾ second) a (free_then (one (of k.equals) t) second (free_one k.equals (apart k.equals k.semicolon refl) t) b)
 
 free_join_key : (j : JoinKey) → Free (grammar.join_key_text j)
 free_join_key (pair.Both n) = no_semicolon_in_name n
-free_join_key (pair.LeftRight a b) = free_equal (some (of (k.side side.Left)) ⨾ some (of k.dot) ⨾ name_text a) (some (of (k.side side.Right)) ⨾ some (of k.dot) ⨾ name_text b) (free_left a) (free_right b)
-free_join_key (pair.RightLeft a b) = free_equal (some (of (k.side side.Right)) ⨾ some (of k.dot) ⨾ name_text a) (some (of (k.side side.Left)) ⨾ some (of k.dot) ⨾ name_text b) (free_right a) (free_left b)
+free_join_key (pair.LeftRight a t b) = free_equal t (some (of (k.side side.Left)) ⨾ some (of k.dot) ⨾ name_text a) (some (of (k.side side.Right)) ⨾ some (of k.dot) ⨾ name_text b) (free_left a) (free_right b)
+free_join_key (pair.RightLeft a t b) = free_equal t (some (of (k.side side.Right)) ⨾ some (of k.dot) ⨾ name_text a) (some (of (k.side side.Left)) ⨾ some (of k.dot) ⨾ name_text b) (free_right a) (free_left b)
 
 free_column : (c : Column) → Free (grammar.column_text c)
 free_column c = free_then (name_text c.name) (some (of k.colon) ⨾ one (of k.any_word) c.ty) (no_semicolon_in_name c.name) (free_behind k.colon (apart k.colon k.semicolon refl) (one (of k.any_word) c.ty) (free_one k.any_word (apart k.any_word k.semicolon refl) c.ty))

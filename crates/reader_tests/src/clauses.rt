@@ -3,6 +3,7 @@
 use crate::expressions::put_expression;
 use crate::page::Page;
 use kq_grammar::{Aggregate, Argument, Cell, Column, Grouping, Item, JoinKey, Key, Name};
+use kq_syntax::Symbol;
 
 fn put_item(page: &mut Page<'_>, item: &Item) {
     match item {
@@ -129,10 +130,10 @@ pub fn put_cells(page: &mut Page<'_>, cells: &[Cell]) {
     }
 }
 
-fn put_sides(page: &mut Page<'_>, first: (&str, Name), second: (&str, Name)) {
+fn put_sides(page: &mut Page<'_>, first: (&str, Name), equals: Symbol, second: (&str, Name)) {
     page.put(first.0);
     page.put_name(first.1);
-    page.put("==");
+    page.put_symbol(equals);
     page.put(second.0);
     page.put_name(second.1);
 }
@@ -140,8 +141,12 @@ fn put_sides(page: &mut Page<'_>, first: (&str, Name), second: (&str, Name)) {
 fn put_join_key(page: &mut Page<'_>, key: JoinKey) {
     match key {
         JoinKey::Both(name) => page.put_name(name),
-        JoinKey::LeftRight(left, right) => put_sides(page, ("left.", left), ("right.", right)),
-        JoinKey::RightLeft(right, left) => put_sides(page, ("right.", right), ("left.", left)),
+        JoinKey::LeftRight(left, equals, right) => {
+            put_sides(page, ("left.", left), equals, ("right.", right));
+        }
+        JoinKey::RightLeft(right, equals, left) => {
+            put_sides(page, ("right.", right), equals, ("left.", left));
+        }
     }
 }
 
