@@ -52,8 +52,8 @@ fn all_taken(alloc: Global, given: Vec<Typed>, widened: bool) -> Result<Vec<Expr
     Ok(args)
 }
 
-// The expression; an int as the long of its value, where ints are widened.
-fn taken(alloc: Global, one: Typed, widened: bool) -> Result<Expr, Memory>
+/// The expression; an int as the long of its value, where ints are widened.
+pub fn taken(alloc: Global, one: Typed, widened: bool) -> Result<Expr, Memory>
     ensures { IfOk result (λ e. term_of e ≡ as_taken widened (typed_of one)) }
 {
     match one.ty {

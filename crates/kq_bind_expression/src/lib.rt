@@ -2,6 +2,7 @@
 #![tactic(auto)]
 
 mod apply;
+mod depth;
 mod expressions;
 mod fault;
 mod literals;
@@ -9,7 +10,9 @@ mod lookup;
 mod operators;
 mod scope;
 
-pub use expressions::bind_expression;
+pub use apply::taken;
+pub use depth::bind_expression;
 pub use fault::BindFault;
-pub use literals::unsupported;
+pub use literals::{unsupported, valueless};
+pub use lookup::first_named;
 pub use scope::Scope;

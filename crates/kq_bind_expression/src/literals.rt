@@ -114,7 +114,8 @@ fn in_steps(text: &str, steps: &Vec<Step>) -> Option<usize>
     None
 }
 
-fn valueless(text: &str, symbol: Symbol) -> Option<usize>
+/// The place of the literal, where it isn't supported. Takes no memory.
+pub fn valueless(text: &str, symbol: Symbol) -> Option<usize>
     ensures { result ≡ the_valueless text.now symbol }
 {
     if has_value(text, symbol) {

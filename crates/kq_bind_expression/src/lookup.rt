@@ -56,8 +56,8 @@ fn meant(scope: &Scope, columns: &[Field], name: &str) -> Option<Typed>
     }
 }
 
-// The number, from 0, and the type of the first of this name.
-fn first_named(fields: &[Field], name: &str) -> Option<(usize, Ty)>
+/// The number, from 0, and the type of the first of these that has this name.
+pub fn first_named(fields: &[Field], name: &str) -> Option<(usize, Ty)>
     ensures { result ≡ the_first_named 0 fields.now name.now }
 {
     for i in 0..fields.len() {

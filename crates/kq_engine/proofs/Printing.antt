@@ -1,10 +1,10 @@
 -- What a print is bound to has the types of its columns, and so has what it comes to.
 use Rattle.std.proofs.Common.{◌≡◌, ℕ, ℤ, ◌+◌, Bool, true, false, cond, List, [], ◌∷◌, ◌++◌, map, Option, Some, None, Ok, Err, inl, inr, refl, ap, sym, ◌∙◌, subst}
 use Rattle.kq_arithmetic.specs.Numbers.{GivesType}
-use Rattle.kq_bind_columns.specs.Items.{Making, nothing_made, put, put_default, put_given, unsupported_items}
-use Rattle.kq_bind_columns.specs.Made.{printing_of}
-use Rattle.kq_bind_columns.specs.Naming.{free_name, is_taken}
-use Rattle.kq_bind_columns.specs.Printed.{item_printed, items_printed, position_name, printed}
+use Rattle.kq_bind_print.specs.Items.{Making, nothing_made, put, put_default, put_given, unsupported_items}
+use Rattle.kq_bind_print.specs.Made.{printing_of}
+use Rattle.kq_bind_print.specs.Naming.{free_name, is_taken}
+use Rattle.kq_bind_print.specs.Printed.{item_printed, items_printed, position_name, printed}
 use Rattle.kq_bind_expression.specs.declared.fault.BindFault.{BindFault}
 use Rattle.kq_bind_expression.specs.declared.fault.BindFault.TheVariants as faults
 use Rattle.kq_bind_expression.specs.Bound.{bound}

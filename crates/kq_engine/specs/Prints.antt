@@ -1,7 +1,7 @@
 -- The replies to prints.
 use Rattle.std.specs.Prelude.{◌≡◌, ℕ, ℤ, List, [], ◌∷◌, map, Ok, Err}
-use Rattle.kq_bind_columns.specs.Items.{Making}
-use Rattle.kq_bind_columns.specs.Printed.{printed}
+use Rattle.kq_bind_print.specs.Items.{Making}
+use Rattle.kq_bind_print.specs.Printed.{printed}
 use Rattle.kq_bind_expression.specs.Verdicts.{Fault, unsupported, unknown, mistyped, Verdict}
 use Rattle.kq_computed.specs.Computed.{Computed, Is, Overflow}
 use Rattle.kq_expr.specs.Terms.{Term}

@@ -1,6 +1,6 @@
 // Prints.
 ghost use Rattle.std.specs.Prelude.{◌≡◌, ◌∷◌, [], IfOk, IfErr, map};
-ghost use Rattle.kq_bind_columns.specs.Made.{printing_of};
+ghost use Rattle.kq_bind_print.specs.Made.{printing_of};
 ghost use Rattle.kq_computed.specs.Computed.{AnswersAs};
 ghost use Rattle.kq_expr.specs.Terms.{term_of};
 ghost use Rattle.kq_grammar.specs.Views.{item_view};
@@ -11,8 +11,8 @@ ghost use Rattle.kq_engine.specs.Found.{RefusesBy};
 ghost use Rattle.kq_engine.specs.Printed.{IsShown, PrintsAnswer};
 ghost use Rattle.kq_engine.specs.Prints.{AnswersMade, AnswersPrint};
 
-use kq_bind_columns::{Printing, bind_print};
 use kq_bind_expression::BindFault;
+use kq_bind_print::{Printing, bind_print};
 use kq_computed::EvalFault;
 use kq_expr::Expr;
 use kq_grammar::Item;

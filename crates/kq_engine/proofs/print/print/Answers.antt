@@ -1,8 +1,8 @@
 use Rattle.std.proofs.Common.{IfErr, IfOk, ◌≡◌, ◌∷◌, map, rules, subst, sym, w64, to_z, of_z}
 use Rattle.std.proofs.lemmas.Int.{to_z-of_z}
-use Rattle.kq_bind_columns.specs.Items.{Making}
-use Rattle.kq_bind_columns.specs.Made.{printing_of}
-use Rattle.kq_bind_columns.specs.Printed.{printed}
+use Rattle.kq_bind_print.specs.Items.{Making}
+use Rattle.kq_bind_print.specs.Made.{printing_of}
+use Rattle.kq_bind_print.specs.Printed.{printed}
 use Rattle.kq_bind_expression.specs.Verdicts.{Verdict}
 use Rattle.kq_grammar.specs.Views.{item_view}
 use Rattle.kq_engine.specs.Found.{RefusesBy}

@@ -1,0 +1,6 @@
+pub mod Sorts
+pub mod Joins
+pub mod Unions
+pub mod Tables
+pub mod Ranges
+pub mod Seen

@@ -1,0 +1,60 @@
+-- What a plan gives over a world.
+use Rattle.std.specs.Prelude.{◌≡◌, ℕ, ℤ, Bool, true, false, List, [], ◌∷◌, ◌++◌, map, MatchBool}
+use Rattle.kq_value.specs.declared.schema.Field.{Field}
+use Rattle.kq_value.specs.Same.{Same}
+use Rattle.kq_computed.specs.Computed.{Computed, Is, Overflow, each}
+use Rattle.kq_plan.specs.declared.work.LeafKind.{LeafKind}
+use Rattle.kq_plan.specs.Plans.{Planned, Stepping, Doing, leaf, one_row, numbers, written, scalar, kept, mapped, cut, counted, sorted, topped, apart, summarized, joined, united, expanded}
+use Rattle.kq_scalar.specs.Val.{Surroundings, surroundings, meaning}
+use Rattle.kq_pipe.specs.declared.outcome.Outcome.{Outcome}
+use Rattle.kq_pipe.specs.declared.outcome.Outcome.TheVariants as outcome
+use Rattle.kq_pipe.specs.Outcomes.{Row, is_fault, outcome_at, rows_of, order_of, cells_of}
+use Rattle.kq_pipe.specs.Operators.{values_at, filtered, single, tally, in_stage, cell_in_stage, Taken}
+
+-- which rows a name may give, of this kind and under these columns, or that it may overflow
+abbrev pub World : Type 1
+World = List ℕ → LeafKind → List Field → Computed (List Row) → Type 0
+
+-- rows in any order, or an overflow at this stage
+abbrev pub Unordered : ℕ → Computed (List Row) → Outcome → Type 0
+Unordered stage (Is given) o = (rows : List Row) × Same rows given × (o ≡ outcome.Table false rows)
+Unordered stage Overflow o = o ≡ outcome.Overflow stage
+
+-- the same of one of what there may be
+abbrev pub Handed : (Computed (List Row) → Type 0) → ℕ → Outcome → Type 0
+Handed may_be stage o = (given : Computed (List Row)) × may_be given × Unordered stage given o
+
+-- what stands around a row: the moment, and the cells of the lets so far
+abbrev pub around : ℤ → List Outcome → Surroundings
+around now done = surroundings now (cells_of done)
+
+-- after these outcomes, the work may give o at its stage
+abbrev pub Does : World → ℤ → List Outcome → ℕ → List Field → Doing → Outcome → Type 0
+Does w now done stage columns (leaf kind name) o = Handed (w name kind columns) stage o
+Does w now done stage columns (one_row es) o = o ≡ in_stage stage false (single es (around now done))
+Does w now done stage columns (written rows) o = o ≡ outcome.Table false rows
+Does w now done stage columns (scalar e) o = o ≡ cell_in_stage stage (meaning e (around now done) [])
+Does w now done stage columns (kept i e) o = o ≡ in_stage stage (order_of done i) (filtered e (around now done) (rows_of done i))
+Does w now done stage columns (mapped i es) o = o ≡ in_stage stage (order_of done i) (each (values_at es (around now done)) (rows_of done i))
+Does w now done stage columns (cut i n) o = Taken (order_of done i) (rows_of done i) n o
+Does w now done stage columns (counted i) o = o ≡ outcome.Table false (tally (rows_of done i))
+-- these aren't built yet
+Does w now done stage columns (numbers from to by) o = ⊥
+Does w now done stage columns (sorted i ks) o = ⊥
+Does w now done stage columns (topped i n k) o = ⊥
+Does w now done stage columns (apart i cs) o = ⊥
+Does w now done stage columns (summarized i es gs) o = ⊥
+Does w now done stage columns (joined kind i j on) o = ⊥
+Does w now done stage columns (united arms) o = ⊥
+Does w now done stage columns (expanded i e c t) o = ⊥
+
+abbrev pub Case : World → ℤ → List Outcome → Stepping → Outcome → Type 0
+Case w now done s o = Does w now done s.stage s.columns s.doing o
+
+-- after these outcomes, the steps come to o: the first fault, or else the outcome of the step with the number `output`
+abbrev pub Follows : World → ℤ → List Outcome → List Stepping → ℕ → Outcome → Type 0
+Follows w now done [] output o = o ≡ outcome_at done output
+Follows w now done (s ∷ steps) output o = (x : Outcome) × Case w now done s x × MatchBool (is_fault x) (o ≡ x) (Follows w now (done ++ x ∷ []) steps output o)
+
+abbrev pub Gives : Planned → World → ℤ → Outcome → Type 0
+Gives p w now o = Follows w now [] p.steps p.output o

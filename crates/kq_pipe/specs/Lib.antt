@@ -1,0 +1,4 @@
+pub mod Outcomes
+pub mod Operators
+pub mod Gives
+pub mod Built

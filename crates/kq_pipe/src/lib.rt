@@ -1,0 +1,16 @@
+//! What a plan gives over a world: its steps run one after another, row by row. How a query becomes a plan is left to the crates beside it, and where the rows of a name come from to those above.
+#![tactic(auto)]
+
+mod built;
+mod filter;
+mod leaves;
+mod outcome;
+mod run;
+mod single;
+mod step;
+mod terms;
+
+pub use built::is_built;
+pub use leaves::Leaves;
+pub use outcome::Outcome;
+pub use run::run_plan;

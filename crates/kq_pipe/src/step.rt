@@ -1,0 +1,193 @@
+// One step of a plan.
+ghost use Rattle.std.specs.Prelude.{◌≡◌, [], IfOk, IsTrue, false, map};
+ghost use Rattle.kq_computed.specs.Computed.{each};
+ghost use Rattle.kq_expr.specs.Terms.{term_of};
+ghost use Rattle.kq_plan.specs.Plans.{cells_seen, stepping_of};
+ghost use Rattle.kq_scalar.specs.Val.{meaning, surroundings};
+ghost use Rattle.kq_pipe.specs.Built.{are_wide, is_built_step};
+ghost use Rattle.kq_pipe.specs.Gives.{Case, Handed};
+ghost use Rattle.kq_pipe.specs.Operators.{AnswersOne, Taken, cell_in_stage, filtered, in_stage, single, tally, values_at};
+
+use crate::filter::{filter_rows, first_rows, map_rows};
+use crate::leaves::Leaves;
+use crate::outcome::{Outcome, cells, order_at, rows_at};
+use crate::single::{single_row, tally_row, written_rows};
+use crate::terms::value_of;
+use kq_computed::EvalFault;
+use kq_expr::Expr;
+use kq_plan::{LeafKind, Step, Work};
+use kq_rows::Rows;
+use kq_value::{Field, Memory, Text, Value};
+use std::alloc::{AllocError, Global};
+
+// What a step gives after these outcomes.
+pub(crate) fn run_step<L: Leaves>(
+    alloc: Global,
+    step: &Step,
+    done: &[Outcome],
+    leaves: &L,
+    now: i64,
+) -> Result<Outcome, Memory>
+    requires { IsTrue (is_built_step (stepping_of step.now)) }
+    ensures { IfOk result (Case (L.may_give leaves.now) now done.now (stepping_of step.now)) }
+{
+    let none = Rows::new(alloc);
+    let lets = cells(alloc, done)?;
+    let stage = step.stage;
+    match &step.work {
+        Work::Leaf(kind, name) => leaf(alloc, stage, *kind, name, step.columns.as_slice(), leaves),
+        Work::Row(exprs) => print(alloc, stage, exprs.as_slice(), lets.as_slice(), now),
+        Work::Table(rows) => datatable(alloc, rows.as_slice(), step.columns.len()),
+        Work::Scalar(expr) => scalar(alloc, stage, expr, lets.as_slice(), now),
+        Work::Where(i, condition) => {
+            let ordered = order_at(done, *i);
+            let rows = rows_at(done, *i, &none);
+            filter(alloc, stage, ordered, rows, condition, lets.as_slice(), now)
+        }
+        Work::Project(i, exprs) => {
+            let ordered = order_at(done, *i);
+            let rows = rows_at(done, *i, &none);
+            project(
+                alloc,
+                stage,
+                ordered,
+                rows,
+                exprs.as_slice(),
+                lets.as_slice(),
+                now,
+            )
+        }
+        Work::Take(i, count) => take(order_at(done, *i), rows_at(done, *i, &none), *count),
+        Work::Count(i) => count(alloc, rows_at(done, *i, &none)),
+        _ => unreachable!(),
+    }
+}
+
+fn leaf<L: Leaves>(
+    alloc: Global,
+    stage: u32,
+    kind: LeafKind,
+    name: &Text,
+    columns: &[Field],
+    leaves: &L,
+) -> Result<Outcome, Memory>
+    ensures { IfOk result (Handed (L.may_give leaves.now name.now kind columns.now) stage) }
+{
+    match leaves.rows(alloc, kind, name, columns) {
+        Ok(rows) => Ok(Outcome::Table {
+            ordered: false,
+            rows,
+        }),
+        Err(EvalFault::Overflow) => Ok(Outcome::Overflow { stage }),
+        Err(EvalFault::Memory) => Err(AllocError),
+    }
+}
+
+fn print(
+    alloc: Global,
+    stage: u32,
+    exprs: &[Expr],
+    lets: &[Value],
+    now: i64,
+) -> Result<Outcome, Memory>
+    ensures { IfOk result (λ o. o ≡ in_stage stage false (single (map term_of exprs.now) (surroundings now lets.now))) }
+{
+    match single_row(alloc, exprs, lets, now) {
+        Ok(rows) => Ok(Outcome::Table {
+            ordered: false,
+            rows,
+        }),
+        Err(EvalFault::Overflow) => Ok(Outcome::Overflow { stage }),
+        Err(EvalFault::Memory) => Err(AllocError),
+    }
+}
+
+fn datatable(alloc: Global, rows: &[Vec<Value>], width: usize) -> Result<Outcome, Memory>
+    requires { IsTrue (are_wide width (map cells_seen rows.now)) }
+    ensures { IfOk result (λ o. o ≡ Outcome.Table false (map cells_seen rows.now)) }
+{
+    let rows = written_rows(alloc, rows, width)?;
+    Ok(Outcome::Table {
+        ordered: false,
+        rows,
+    })
+}
+
+fn scalar(
+    alloc: Global,
+    stage: u32,
+    expr: &Expr,
+    lets: &[Value],
+    now: i64,
+) -> Result<Outcome, Memory>
+    ensures { IfOk result (λ o. o ≡ cell_in_stage stage (meaning (term_of expr.now) (surroundings now lets.now) [])) }
+{
+    match value_of(alloc, expr, &[], lets, now) {
+        Ok(value) => Ok(Outcome::Cell(value)),
+        Err(EvalFault::Overflow) => Ok(Outcome::Overflow { stage }),
+        Err(EvalFault::Memory) => Err(AllocError),
+    }
+}
+
+fn filter(
+    alloc: Global,
+    stage: u32,
+    ordered: bool,
+    rows: &Rows,
+    condition: &Expr,
+    lets: &[Value],
+    now: i64,
+) -> Result<Outcome, Memory>
+    ensures { IfOk result (λ o. o ≡ in_stage stage ordered (filtered (term_of condition.now) (surroundings now lets.now) rows.now)) }
+{
+    match filter_rows(alloc, rows, condition, lets, now) {
+        Ok(rows) => Ok(Outcome::Table { ordered, rows }),
+        Err(EvalFault::Overflow) => Ok(Outcome::Overflow { stage }),
+        Err(EvalFault::Memory) => Err(AllocError),
+    }
+}
+
+fn project(
+    alloc: Global,
+    stage: u32,
+    ordered: bool,
+    rows: &Rows,
+    exprs: &[Expr],
+    lets: &[Value],
+    now: i64,
+) -> Result<Outcome, Memory>
+    ensures { IfOk result (λ o. o ≡ in_stage stage ordered (each (values_at (map term_of exprs.now) (surroundings now lets.now)) rows.now)) }
+{
+    match map_rows(alloc, rows, exprs, lets, now) {
+        Ok(rows) => Ok(Outcome::Table { ordered, rows }),
+        Err(EvalFault::Overflow) => Ok(Outcome::Overflow { stage }),
+        Err(EvalFault::Memory) => Err(AllocError),
+    }
+}
+
+fn take(ordered: bool, rows: &Rows, count: u64) -> Result<Outcome, Memory>
+    ensures { IfOk result (Taken ordered rows.now count) }
+{
+    let rows = first_rows(rows, count)?;
+    if ordered {
+        Ok(Outcome::Table {
+            ordered: true,
+            rows,
+        })
+    } else {
+        Ok(Outcome::Table {
+            ordered: false,
+            rows,
+        })
+    }
+}
+
+fn count(alloc: Global, rows: &Rows) -> Result<Outcome, Memory>
+    ensures { IfOk result (λ o. o ≡ Outcome.Table false (tally rows.now)) }
+{
+    let rows = tally_row(alloc, rows)?;
+    Ok(Outcome::Table {
+        ordered: false,
+        rows,
+    })
+}
