@@ -13,8 +13,6 @@ are_wide width (r ∷ rows) = nat_eq (length r) width && are_wide width rows
 abbrev pub is_built_work : List Field → Doing → Bool
 is_built_work columns (written rows) = are_wide (length columns) rows
 is_built_work columns (numbers from to by) = false
-is_built_work columns (sorted i ks) = false
-is_built_work columns (topped i n k) = false
 is_built_work columns (apart i cs) = false
 is_built_work columns (summarized i es gs) = false
 is_built_work columns (joined kind i j on) = false

@@ -4,10 +4,11 @@ use Rattle.kq_value.specs.declared.schema.Field.{Field}
 use Rattle.kq_value.specs.Same.{Same}
 use Rattle.kq_computed.specs.Computed.{Computed, Is, Overflow, each}
 use Rattle.kq_plan.specs.declared.work.LeafKind.{LeafKind}
-use Rattle.kq_plan.specs.Plans.{Planned, Stepping, Doing, leaf, one_row, numbers, written, scalar, kept, mapped, cut, counted, sorted, topped, apart, summarized, joined, united, expanded}
+use Rattle.kq_plan.specs.Plans.{Planned, Stepping, Sorting, Doing, leaf, one_row, numbers, written, scalar, kept, mapped, cut, counted, sorted, topped, apart, summarized, joined, united, expanded}
 use Rattle.kq_scalar.specs.Val.{Surroundings, surroundings, meaning}
 use Rattle.kq_pipe.specs.declared.outcome.Outcome.{Outcome}
 use Rattle.kq_pipe.specs.declared.outcome.Outcome.TheVariants as outcome
+use Rattle.kq_pipe.specs.Orders.{Sorted, Topped}
 use Rattle.kq_pipe.specs.Outcomes.{Row, is_fault, outcome_at, rows_of, order_of, cells_of}
 use Rattle.kq_pipe.specs.Operators.{values_at, filtered, single, tally, in_stage, cell_in_stage, Taken}
 
@@ -24,6 +25,18 @@ Unordered stage Overflow o = o ≡ outcome.Overflow stage
 abbrev pub Handed : (Computed (List Row) → Type 0) → ℕ → Outcome → Type 0
 Handed may_be stage o = (given : Computed (List Row)) × may_be given × Unordered stage given o
 
+-- the rows in an order of the keys, or an overflow at this stage
+pub record SortsTo (ks : List Sorting) (s : Surroundings) (rows : List Row) (stage : ℕ) (o : Outcome) : Type 0 where
+  pub came : Computed (List Row)
+  pub sorted_so : Sorted ks s rows came
+  pub is : o ≡ in_stage stage true came
+
+-- the first of the rows in an order of the key, or an overflow at this stage
+pub record TopsTo (n : ℕ) (k : Sorting) (s : Surroundings) (rows : List Row) (stage : ℕ) (o : Outcome) : Type 0 where
+  pub came : Computed (List Row)
+  pub topped_so : Topped n k s rows came
+  pub is : o ≡ in_stage stage true came
+
 -- what stands around a row: the moment, and the cells of the lets so far
 abbrev pub around : ℤ → List Outcome → Surroundings
 around now done = surroundings now (cells_of done)
@@ -38,10 +51,10 @@ Does w now done stage columns (kept i e) o = o ≡ in_stage stage (order_of done
 Does w now done stage columns (mapped i es) o = o ≡ in_stage stage (order_of done i) (each (values_at es (around now done)) (rows_of done i))
 Does w now done stage columns (cut i n) o = Taken (order_of done i) (rows_of done i) n o
 Does w now done stage columns (counted i) o = o ≡ outcome.Table false (tally (rows_of done i))
+Does w now done stage columns (sorted i ks) o = SortsTo ks (around now done) (rows_of done i) stage o
+Does w now done stage columns (topped i n k) o = TopsTo n k (around now done) (rows_of done i) stage o
 -- these aren't built yet
 Does w now done stage columns (numbers from to by) o = ⊥
-Does w now done stage columns (sorted i ks) o = ⊥
-Does w now done stage columns (topped i n k) o = ⊥
 Does w now done stage columns (apart i cs) o = ⊥
 Does w now done stage columns (summarized i es gs) o = ⊥
 Does w now done stage columns (joined kind i j on) o = ⊥

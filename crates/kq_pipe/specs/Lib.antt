@@ -1,4 +1,6 @@
 pub mod Outcomes
+pub mod Orders
+pub mod Keyed
 pub mod Operators
 pub mod Gives
 pub mod Built

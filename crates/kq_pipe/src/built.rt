@@ -28,7 +28,9 @@ fn is_built_step(step: &Step) -> bool
         | Work::Where(..)
         | Work::Project(..)
         | Work::Take(..)
-        | Work::Count(_) => true,
+        | Work::Count(_)
+        | Work::Sort(..)
+        | Work::Top(..) => true,
         Work::Table(rows) => are_wide(rows.as_slice(), step.columns.len()),
         _ => false,
     }

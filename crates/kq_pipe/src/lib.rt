@@ -7,6 +7,7 @@ mod leaves;
 mod outcome;
 mod run;
 mod single;
+mod sort;
 mod step;
 mod terms;
 

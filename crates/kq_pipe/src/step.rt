@@ -2,20 +2,21 @@
 ghost use Rattle.std.specs.Prelude.{◌≡◌, [], IfOk, IsTrue, false, map};
 ghost use Rattle.kq_computed.specs.Computed.{each};
 ghost use Rattle.kq_expr.specs.Terms.{term_of};
-ghost use Rattle.kq_plan.specs.Plans.{cells_seen, stepping_of};
+ghost use Rattle.kq_plan.specs.Plans.{cells_seen, sorting_of, stepping_of};
 ghost use Rattle.kq_scalar.specs.Val.{meaning, surroundings};
 ghost use Rattle.kq_pipe.specs.Built.{are_wide, is_built_step};
-ghost use Rattle.kq_pipe.specs.Gives.{Case, Handed};
+ghost use Rattle.kq_pipe.specs.Gives.{Case, Handed, SortsTo, TopsTo};
 ghost use Rattle.kq_pipe.specs.Operators.{AnswersOne, Taken, cell_in_stage, filtered, in_stage, single, tally, values_at};
 
 use crate::filter::{filter_rows, first_rows, map_rows};
 use crate::leaves::Leaves;
 use crate::outcome::{Outcome, cells, order_at, rows_at};
 use crate::single::{single_row, tally_row, written_rows};
+use crate::sort::{sort_rows, top_rows};
 use crate::terms::value_of;
 use kq_computed::EvalFault;
 use kq_expr::Expr;
-use kq_plan::{LeafKind, Step, Work};
+use kq_plan::{LeafKind, SortKey, Step, Work};
 use kq_rows::Rows;
 use kq_value::{Field, Memory, Text, Value};
 use std::alloc::{AllocError, Global};
@@ -59,6 +60,14 @@ pub(crate) fn run_step<L: Leaves>(
         }
         Work::Take(i, count) => take(order_at(done, *i), rows_at(done, *i, &none), *count),
         Work::Count(i) => count(alloc, rows_at(done, *i, &none)),
+        Work::Sort(i, keys) => {
+            let rows = rows_at(done, *i, &none);
+            sort(alloc, stage, rows, keys.as_slice(), lets.as_slice(), now)
+        }
+        Work::Top(i, count, key) => {
+            let rows = rows_at(done, *i, &none);
+            top(alloc, stage, rows, *count, key, lets.as_slice(), now)
+        }
         _ => unreachable!(),
     }
 }
@@ -160,6 +169,47 @@ fn project(
 {
     match map_rows(alloc, rows, exprs, lets, now) {
         Ok(rows) => Ok(Outcome::Table { ordered, rows }),
+        Err(EvalFault::Overflow) => Ok(Outcome::Overflow { stage }),
+        Err(EvalFault::Memory) => Err(AllocError),
+    }
+}
+
+fn sort(
+    alloc: Global,
+    stage: u32,
+    rows: &Rows,
+    keys: &[SortKey],
+    lets: &[Value],
+    now: i64,
+) -> Result<Outcome, Memory>
+    ensures { IfOk result (SortsTo (map sorting_of keys.now) (surroundings now lets.now) rows.now stage) }
+{
+    match sort_rows(alloc, rows, keys, lets, now) {
+        Ok(rows) => Ok(Outcome::Table {
+            ordered: true,
+            rows,
+        }),
+        Err(EvalFault::Overflow) => Ok(Outcome::Overflow { stage }),
+        Err(EvalFault::Memory) => Err(AllocError),
+    }
+}
+
+fn top(
+    alloc: Global,
+    stage: u32,
+    rows: &Rows,
+    count: u64,
+    key: &SortKey,
+    lets: &[Value],
+    now: i64,
+) -> Result<Outcome, Memory>
+    ensures { IfOk result (TopsTo count (sorting_of key.now) (surroundings now lets.now) rows.now stage) }
+{
+    match top_rows(alloc, rows, count, key, lets, now) {
+        Ok(rows) => Ok(Outcome::Table {
+            ordered: true,
+            rows,
+        }),
         Err(EvalFault::Overflow) => Ok(Outcome::Overflow { stage }),
         Err(EvalFault::Memory) => Err(AllocError),
     }
