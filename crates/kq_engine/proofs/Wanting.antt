@@ -2,9 +2,6 @@
 use Rattle.std.proofs.Common.{◌≡◌, ℕ, ℤ, Bool, true, false, cond, List, length, nat_lt, Option, Some, None}
 use Rattle.std.specs.Option.{option_map}
 use Rattle.std.proofs.lemmas.Bool.{false≢true}
-use Rattle.kq_grammar.specs.declared.expression.Name.{Name}
-use Rattle.kq_grammar.specs.TabularViews.{query_of}
-use Rattle.kq_grammar.specs.Trees.{ItemTree}
 use Rattle.kq_value.specs.declared.schema.Field.{Field}
 use Rattle.kq_value.specs.Schema.{same_fields}
 use Rattle.kq_model.specs.declared.event.Commit.{Commit}
@@ -25,9 +22,7 @@ use Rattle.kq_reply.specs.declared.refusal.Refusal.TheVariants as refusals
 use Rattle.kq_reply.specs.declared.reply.Reply.TheVariants as replies
 use Rattle.kq_engine.specs.Due.{Due, Says, Commits, IsDueByText, counted, ingest_due, named_due, refused, repeated_place}
 use Rattle.kq_engine.specs.Fits.{IsDue}
-use Rattle.kq_engine.specs.Found.{IsCommitDue, Stands, TakesAnswer, TakesMemory, TakesToFind, TakesToShow, is_prepared_outside}
-use Rattle.kq_engine.specs.Asked.{asked_of, printed_of}
-use Rattle.kq_engine.specs.Queries.{AnswersAsked}
+use Rattle.kq_engine.specs.Found.{IsCommitDue, Stands, TakesMemory, TakesToFind, TakesToShow, is_prepared_outside}
 use Rattle.kq_engine.specs.Shows.{ShowsExtents, AnswersShow}
 use Rattle.kq_engine.proofs.Dues.{Due-is_good, no_commit, table_due-unnamed}
 
@@ -83,11 +78,6 @@ not_table limits l name columns None due =
 
 -- ---- want of memory as a reply that is due
 
-answer_finds : (h : History) (now : ℤ) (text : List ℕ) (o : Option (Name × Bool)) (items : Option (List ItemTree)) → AnswersAsked h now text o items (replies.Refused refusals.Memory) → TakesAnswer o items
-answer_finds h now text (Some asked) items due = tt
-answer_finds h now text None (Some items) due = tt
-answer_finds h now text None None due = cc
-
 extents_find : (h : History) (table : Identifier) (o : Option Numbered) → ShowsExtents h table o (replies.Refused refusals.Memory) → Stands o
 extents_find h table None due = cc
 extents_find h table (Some found) due = tt
@@ -105,7 +95,7 @@ ingest_finds limits l i (Some at) due = cc
 ingest_finds limits l i None due = rows_find limits l i (table_numbered i.table.text (tables l)) due
 
 pub due_finds : (limits : Limits) (h : History) (now : ℤ) (command : Command) → IsDue limits h now command (replies.Refused refusals.Memory) → TakesToFind h command
-due_finds limits h now (Query query) due = answer_finds h now query.text (asked_of (query_of query.tree)) (printed_of (query_of query.tree)) due
+due_finds limits h now (Query query) due = tt
 due_finds limits h now (Show asked) due = show_finds h asked due
 due_finds limits h now (Change (CreateTable name columns)) due = absurd (not_table limits (log h) name columns (repeated_place columns) due)
 due_finds limits h now (Change (Ingest i)) due = ingest_finds limits (log h) i i.properties.repeated due

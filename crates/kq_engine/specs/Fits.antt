@@ -8,6 +8,8 @@ use Rattle.kq_model.specs.declared.limits.Limits.{Limits}
 use Rattle.kq_model.specs.History.{History, Log, CommitAt, log, commits_at}
 use Rattle.kq_command.specs.declared.command.Command.{Command}
 use Rattle.kq_command.specs.declared.command.Command.TheVariants.{Query, Show, Change, Unbuilt}
+use Rattle.kq_grammar.specs.TabularViews.{query_of}
+use Rattle.kq_query.specs.Answers.{AnswersQuery}
 use Rattle.kq_reply.specs.declared.refusal.Refusal.{Refusal}
 use Rattle.kq_reply.specs.declared.refusal.Refusal.TheVariants as refusals
 use Rattle.kq_reply.specs.declared.reply.Reply.{Reply}
@@ -15,12 +17,11 @@ use Rattle.kq_reply.specs.declared.reply.Reply.TheVariants as replies
 use Rattle.kq_engine.specs.declared.work.Outcome.{Outcome}
 use Rattle.kq_engine.specs.declared.work.Work.{Work}
 use Rattle.kq_engine.specs.Due.{Accept}
-use Rattle.kq_engine.specs.Queries.{AnswersQuery}
 use Rattle.kq_engine.specs.Shows.{AnswersShow}
 
 -- the reply that is due at a moment without a commit
 abbrev pub IsDue : Limits → History → ℤ → Command → Reply → Type 0
-IsDue limits h now (Query query) reply = AnswersQuery h now query reply
+IsDue limits h now (Query query) reply = AnswersQuery h now query.text (query_of query.tree) reply
 IsDue limits h now (Show show) reply = AnswersShow h show reply
 IsDue limits h now (Change change) reply = Accept limits (log h) change reply None
 IsDue limits h now Unbuilt reply = reply ≡ replies.Refused refusals.Unbuilt

@@ -1,8 +1,5 @@
 -- What is found of a command on a history, what of it stays due, and where memory may be wanting.
 use Rattle.std.specs.Prelude.{◌≡◌, ◌⊎◌, ◌<◌, ◌+◌, ℕ, ℤ, Bool, true, false, List, ◌++◌, length, take, Option, Some, None, Result, Ok, Err}
-use Rattle.kq_grammar.specs.declared.expression.Name.{Name}
-use Rattle.kq_grammar.specs.TabularViews.{query_of}
-use Rattle.kq_grammar.specs.Trees.{ItemTree}
 use Rattle.kq_model.specs.declared.batch.Batch.{Batch}
 use Rattle.kq_model.specs.declared.event.Commit.{Commit}
 use Rattle.kq_model.specs.declared.limits.Limits.{Limits}
@@ -14,7 +11,6 @@ use Rattle.kq_command.specs.declared.command.Change.TheVariants.{CreateTable, In
 use Rattle.kq_command.specs.declared.command.Command.{Command}
 use Rattle.kq_command.specs.declared.command.Command.TheVariants.{Query, Show, Change, Unbuilt}
 use Rattle.kq_command.specs.declared.ingestion.Ingestion.{Ingestion}
-use Rattle.kq_command.specs.declared.command.Query.{Query as Querying}
 use Rattle.kq_command.specs.declared.command.Show.{Show as Showing}
 use Rattle.kq_command.specs.declared.command.Show.TheVariants as shows
 use Rattle.kq_reply.specs.declared.refusal.Refusal.{Refusal}
@@ -30,7 +26,6 @@ use Rattle.kq_engine.specs.declared.work.Prepared.{Prepared}
 use Rattle.kq_engine.specs.declared.work.Ready.{Ready}
 use Rattle.kq_engine.specs.declared.work.Ready.TheVariants as readies
 use Rattle.kq_engine.specs.declared.work.Work.{Work}
-use Rattle.kq_engine.specs.Asked.{asked_of, printed_of}
 use Rattle.kq_engine.specs.Due.{Due, Says, Commits, IsChangeDue, batch_due, counted, refused, reply_to, rows_due, text_refusal, unless_tagged}
 use Rattle.kq_engine.specs.Fits.{IsDue, Makes}
 
@@ -44,10 +39,6 @@ due_of (founds.Commits offer) = Commits (commit_of offer.intent)
 abbrev pub Finds : (Due → Type 0) → Result Found Refusal → Type 0
 Finds IsSo (Ok found) = IsSo (due_of found)
 Finds IsSo (Err r) = (r ≡ refusals.Memory) ⊎ IsSo (refused r)
-
--- a refusal is so answered, or memory was wanting
-abbrev pub RefusesBy : (Reply → Type 0) → Refusal → Type 0
-RefusesBy Answers r = (r ≡ refusals.Memory) ⊎ Answers (replies.Refused r)
 
 -- the least cursor of a commit that gave the table one of the tags
 abbrev pub barred_at : Log → Option Barring → Option ℕ
@@ -153,22 +144,13 @@ abbrev pub Stands : Option Numbered → Type 0
 Stands None = ⊥
 Stands (Some found) = Unit {0}
 
--- a query of a form that is answered reads a name, or binds what it prints
-abbrev pub TakesAnswer : Option (Name × Bool) → Option (List ItemTree) → Type 0
-TakesAnswer (Some asked) items = Unit {0}
-TakesAnswer None (Some items) = Unit {0}
-TakesAnswer None None = ⊥
-
-abbrev pub TakesQuery : Querying → Type 0
-TakesQuery query = let tree = query_of query.tree in TakesAnswer (asked_of tree) (printed_of tree)
-
 abbrev pub TakesToShow : History → Showing → Type 0
 TakesToShow h (shows.Extents table) = Stands (table_numbered table.text (tables (log h)))
 TakesToShow h shows.Journal = Unit {0}
 
--- finding what the command is due on this history takes memory; to make a table does, and not to keep one
+-- finding what the command is due on this history takes memory: to bind a query does; to make a table does, and not to keep one
 abbrev pub TakesToFind : History → Command → Type 0
-TakesToFind h (Query query) = TakesQuery query
+TakesToFind h (Query query) = Unit {0}
 TakesToFind h (Show show) = TakesToShow h show
 TakesToFind h (Change (CreateTable name columns)) = table_named name.text (tables (log h)) ≡ None
 TakesToFind h (Change (Ingest ingestion)) = Stands (table_numbered ingestion.table.text (tables (log h)))

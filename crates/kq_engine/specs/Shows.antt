@@ -1,5 +1,6 @@
 -- The replies to what is shown of the catalogue.
-use Rattle.std.specs.Prelude.{◌≡◌, Option, Some, None}
+use Rattle.std.specs.Prelude.{◌≡◌, false, List, Option, Some, None}
+use Rattle.kq_model.specs.declared.answer.Answer.{Answer}
 use Rattle.kq_model.specs.History.{History, Numbered, log, tables, table_numbered}
 use Rattle.kq_command.specs.declared.columns.Identifier.{Identifier}
 use Rattle.kq_command.specs.declared.command.Show.{Show}
@@ -9,7 +10,16 @@ use Rattle.kq_reply.specs.declared.reply.Reply.{Reply}
 use Rattle.kq_reply.specs.declared.reply.Reply.TheVariants as replies
 use Rattle.kq_show.specs.ExtentRows.{extent_columns, extent_rows}
 use Rattle.kq_show.specs.JournalRows.{journal_columns, journal_rows}
-use Rattle.kq_engine.specs.Printed.{IsShown, PrintsAnswer}
+use Rattle.kq_query.specs.Printed.{PrintsAnswer}
+use Rattle.kq_value.specs.declared.schema.Field.{Field}
+use Rattle.kq_value.specs.declared.value.Value.{Value}
+use Rattle.kq_value.specs.Same.{Same}
+
+-- these rows under these columns, in any order
+pub record IsShown (columns : List Field) (rows : List (List Value)) (answer : Answer) : Type 0 where
+  pub headed : answer.schema ≡ columns
+  pub unordered : answer.ordered ≡ false
+  pub same : Same answer.rows rows
 
 -- a table with its extents, or a name that no table has
 abbrev pub ShowsExtents : History → Identifier → Option Numbered → Reply → Type 0

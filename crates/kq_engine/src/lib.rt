@@ -1,15 +1,13 @@
 //! The core: what a command answers and commits, on a snapshot and on the catalogue, for every interleaving of commands.
 //!
 //! `begin` prepares work on a snapshot, `finish` makes at most one event on the catalogue as it stands; `Shared` does
-//! both for many threads, over one lock. Reading texts, printing replies and going along a script are left to other
-//! crates.
+//! both for many threads, over one lock. Reading texts, answering queries, printing replies and going along a script are
+//! left to other crates.
 #![tactic(auto)]
 
-mod asked;
 mod changes;
 mod on_catalog;
 mod on_snapshot;
-mod print;
 mod query;
 mod run;
 mod shared;

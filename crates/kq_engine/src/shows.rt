@@ -2,7 +2,8 @@
 ghost use Rattle.std.specs.Prelude.{◌≡◌, IfOk, IfErr};
 ghost use Rattle.kq_command.specs.declared.command.Show.TheVariants as told;
 ghost use Rattle.kq_reply.specs.declared.refusal.Refusal.TheVariants as refusals;
-ghost use Rattle.kq_engine.specs.Found.{RefusesBy, TakesToShow};
+ghost use Rattle.kq_query.specs.Answers.{RefusesBy};
+ghost use Rattle.kq_engine.specs.Found.{TakesToShow};
 ghost use Rattle.kq_engine.specs.Shows.{AnswersShow};
 
 use kq_catalog::Snapshot;

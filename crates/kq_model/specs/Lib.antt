@@ -1,6 +1,5 @@
 pub mod Derived
 pub mod Edits
-pub mod Gives
 pub mod History
 pub mod Lawful
 pub mod Limits

@@ -4,3 +4,4 @@ pub mod Keyed
 pub mod Operators
 pub mod Gives
 pub mod Built
+pub mod Typed

@@ -1,4 +1,0 @@
-pub mod Naming
-pub mod Items
-pub mod Printed
-pub mod Made

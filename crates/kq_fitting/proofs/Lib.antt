@@ -1,0 +1,13 @@
+pub mod Progress
+pub mod Columns
+pub mod Items
+pub mod Chosen
+pub mod Operators
+pub mod Tables
+pub mod Clauses
+pub mod Several
+pub mod Aggregates
+pub mod Groups
+pub mod Sources
+pub mod Pipes
+pub mod Fitting

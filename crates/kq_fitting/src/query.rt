@@ -1,0 +1,27 @@
+// Queries that are bound to plans that fit.
+ghost use Rattle.std.specs.Prelude.{◌≡◌, Ok, IfOk};
+ghost use Rattle.kq_bind.specs.Flows.{columns_at};
+ghost use Rattle.kq_bind.specs.Queries.{query_bound};
+ghost use Rattle.kq_bind_expression.specs.Verdicts.{Answers};
+ghost use Rattle.kq_grammar.specs.TabularViews.{query_of};
+ghost use Rattle.kq_plan.specs.Fits.{Fits};
+ghost use Rattle.kq_plan.specs.Plans.{planned_of};
+
+use kq_bind::bind;
+use kq_bind_expression::BindFault;
+use kq_grammar::Query;
+use kq_plan::{Names, Plan};
+use std::alloc::Global;
+
+/// The plan of a query over the names of a catalogue, or its first fault, as `kq_bind::bind` gives it: a plan fits those names.
+pub fn bind_fitting<N: Names>(
+    alloc: Global,
+    text: &str,
+    query: &Query,
+    names: &N,
+) -> Result<Plan, BindFault>
+    ensures bound { Answers planned_of (query_bound text.now (N.known names.now) (query_of query.now)) result }
+    ensures fits { IfOk result (λ p. Fits (N.known names.now) (planned_of p) (columns_at (planned_of p).steps p.output)) }
+{
+    bind(alloc, text, query, names)
+}

@@ -1,0 +1,222 @@
+-- What a fitting step gives after typed outcomes is typed: a lemma for each operator.
+use Rattle.std.proofs.Common.{◌≡◌, ℤ, ℕ, zero, suc, Bool, true, false, List, [], ◌∷◌, ◌++◌, length, pos, take, map, Option, Some, refl, sym, subst}
+use Rattle.std.specs.Prelude.{All}
+use Rattle.std.specs.List.{AllZip}
+use Rattle.std.proofs.lemmas.List.Elements.{All-nil, All-take}
+use Rattle.kq_arithmetic.specs.Numbers.{GivesType}
+use Rattle.kq_computed.specs.Computed.{Computed, Is, Overflow, each}
+use Rattle.kq_expr.specs.Terms.{Term}
+use Rattle.kq_plan.specs.declared.work.LeafKind.{LeafKind}
+use Rattle.kq_plan.specs.Fits.{AreTyped, FitsLeaf, FitsStep, GivesColumns, IsTyped, cells_in, lets_of, rows_in as columns_in, ty_of}
+use Rattle.kq_plan.specs.Names.{Known}
+use Rattle.kq_plan.specs.Plans.{Doing, Sorting, Stepping, leaf, one_row, numbers, written, scalar, kept, mapped, cut, counted, sorted, topped, apart, summarized, joined, united, expanded}
+use Rattle.kq_scalar.specs.Val.{Surroundings, meaning}
+use Rattle.kq_value.proofs.SameLemmas.{All-Same, Same-sym}
+use Rattle.kq_value.specs.declared.schema.Field.{Field}
+use Rattle.kq_value.specs.declared.ty.Ty.{Ty}
+use Rattle.kq_value.specs.declared.ty.Ty.TheVariants as ty
+use Rattle.kq_value.specs.declared.value.Value.{Value}
+use Rattle.kq_value.specs.declared.value.Value.TheVariants.{Long}
+use Rattle.kq_value.specs.Typed.{HasTypes, IsMoment}
+use Rattle.kq_pipe.specs.declared.outcome.Outcome.{Outcome}
+use Rattle.kq_pipe.specs.declared.outcome.Outcome.TheVariants as outcome
+use Rattle.kq_pipe.specs.Gives.{Does, Handed, SortsTo, TopsTo, Unordered, World, around}
+use Rattle.kq_pipe.specs.Operators.{Taken, cell_in_stage, filtered, in_stage, single, tally, values_at}
+use Rattle.kq_pipe.specs.Orders.{Sorted, Topped}
+use Rattle.kq_pipe.specs.Outcomes.{Row, cells_of, is_fault, order_of, outcome_at, rows_in, rows_of}
+use Rattle.kq_pipe.specs.Typed.{IsTypedTable, TypedWorld}
+use Rattle.kq_pipe.proofs.TypedRows.{All-NoOftener, All-one, GivesRows, HasTypes-append, HasTypes-one, Surrounds, each_typed, filtered_typed, meaning_typed, single_typed, values_typed}
+
+-- ---- outcomes
+
+-- a cell of the one column's type, or a fault
+abbrev pub IsTypedCell : List Field → Outcome → Type 0
+IsTypedCell cs (outcome.Table ordered rows) = ⊥
+IsTypedCell cs (outcome.Cell v) = HasTypes cs (v ∷ [])
+IsTypedCell cs (outcome.Overflow stage) = Unit {0}
+IsTypedCell cs (outcome.Full limit) = Unit {0}
+
+-- a scalar let gives a cell, and all else gives rows
+abbrev pub IsTypedBy : Doing → List Field → Outcome → Type 0
+IsTypedBy (scalar e) cs o = IsTypedCell cs o
+IsTypedBy doing cs o = IsTypedTable cs o
+
+-- a step's outcome, where the plan goes on
+pub record Stands (s : Stepping) (o : Outcome) : Type 0 where
+  pub typed : IsTypedBy s.doing s.columns o
+  pub no_fault : is_fault o ≡ false
+
+-- steps and their outcomes side by side
+abbrev pub Stood : List Stepping → List Outcome → Type 0
+Stood before done = AllZip Stands before done
+
+pub Stood-push : (before : List Stepping) (done : List Outcome) (s : Stepping) (o : Outcome)
+    → Stood before done → Stands s o → Stood (before ++ s ∷ []) (done ++ o ∷ [])
+Stood-push [] [] s o stood next = (next, tt)
+Stood-push [] (p ∷ done) s o stood next = absurd stood
+Stood-push (t ∷ before) [] s o stood next = absurd stood
+Stood-push (t ∷ before) (p ∷ done) s o stood next = (stood.0, Stood-push before done s o stood.1 next)
+
+cells_next : (doing : Doing) (cs : List Field) (o : Outcome) (lets : List Field) (done : List Outcome) → IsTypedBy doing cs o → is_fault o ≡ false
+    → HasTypes lets (cells_of done) → HasTypes (cells_in doing cs ++ lets) (cells_of (o ∷ done))
+cells_next doing cs (outcome.Overflow stage) lets done typed stood more = absurd (cc)
+cells_next doing cs (outcome.Full limit) lets done typed stood more = absurd (cc)
+cells_next (scalar e) cs (outcome.Table ordered rows) lets done typed stood more = absurd typed
+cells_next (scalar e) cs (outcome.Cell v) lets done typed stood more = HasTypes-append cs lets (v ∷ []) (cells_of done) typed more
+cells_next doing cs (outcome.Table ordered rows) lets done typed stood more = more
+cells_next doing cs (outcome.Cell v) lets done typed stood more = absurd typed
+
+-- the cells of the lets have the types of the lets
+pub cells_typed : (before : List Stepping) (done : List Outcome) → Stood before done → HasTypes (lets_of before) (cells_of done)
+cells_typed [] [] stood = tt
+cells_typed [] (o ∷ done) stood = absurd stood
+cells_typed (s ∷ before) [] stood = absurd stood
+cells_typed (s ∷ before) (o ∷ done) stood =
+    cells_next s.doing s.columns o (lets_of before) done stood.0.typed stood.0.no_fault (cells_typed before done stood.1)
+
+columns_typed : (own cs : List Field) (o : Outcome) → Some own ≡ Some cs → IsTypedTable own o → IsTypedTable cs o
+columns_typed own cs o is typed = let same : own ≡ cs = cc in subst (λ (fs : List Field). IsTypedTable fs o) same typed
+
+given_typed : (doing : Doing) (own cs : List Field) (o : Outcome) → columns_in doing own ≡ Some cs → IsTypedBy doing own o → IsTypedTable cs o
+given_typed (scalar e) own cs o is typed = absurd (cc)
+given_typed doing own cs o is typed = columns_typed own cs o is typed
+
+-- a step that gives rows of these columns gave a table of their types
+pub outcome_typed : (before : List Stepping) (done : List Outcome) (i : ℕ) (cs : List Field)
+    → Stood before done → GivesColumns before i cs → IsTypedTable cs (outcome_at done i)
+outcome_typed [] [] i cs stood is = absurd (cc)
+outcome_typed [] (o ∷ done) i cs stood is = absurd stood
+outcome_typed (s ∷ before) [] i cs stood is = absurd stood
+outcome_typed (s ∷ before) (o ∷ done) zero cs stood is = given_typed s.doing s.columns cs o is stood.0.typed
+outcome_typed (s ∷ before) (o ∷ done) (suc i) cs stood is = outcome_typed before done i cs stood.1 is
+
+rows_within : (cs : List Field) (o : Outcome) → IsTypedTable cs o → All (HasTypes cs) (rows_in o)
+rows_within cs (outcome.Table ordered rows) typed = typed
+rows_within cs (outcome.Cell v) typed = absurd typed
+rows_within cs (outcome.Overflow stage) typed = All-nil (HasTypes cs)
+rows_within cs (outcome.Full limit) typed = All-nil (HasTypes cs)
+
+pub rows_typed : (before : List Stepping) (done : List Outcome) (i : ℕ) (cs : List Field)
+    → Stood before done → GivesColumns before i cs → All (HasTypes cs) (rows_of done i)
+rows_typed before done i cs stood is = rows_within cs (outcome_at done i) (outcome_typed before done i cs stood is)
+
+pub around_typed : (now : ℤ) (before : List Stepping) (done : List Outcome)
+    → IsMoment now → Stood before done → Surrounds (lets_of before) (around now done)
+around_typed now before done moment stood = record { moment = moment; typed = cells_typed before done stood }
+
+-- ---- from what is computed to an outcome
+
+pub table_typed : (cs : List Field) (ordered : Bool) (rows : List Row) (o : Outcome)
+    → o ≡ outcome.Table ordered rows → All (HasTypes cs) rows → IsTypedTable cs o
+table_typed cs ordered rows o is all = subst (IsTypedTable cs) (sym is) all
+
+in_stage_typed : (cs : List Field) (stage : ℕ) (ordered : Bool) (c : Computed (List Row)) → GivesRows cs c → IsTypedTable cs (in_stage stage ordered c)
+in_stage_typed cs stage ordered (Is rows) all = all
+in_stage_typed cs stage ordered Overflow all = tt
+
+pub staged_typed : (cs : List Field) (stage : ℕ) (ordered : Bool) (c : Computed (List Row)) (o : Outcome)
+    → o ≡ in_stage stage ordered c → GivesRows cs c → IsTypedTable cs o
+staged_typed cs stage ordered c o is all = subst (IsTypedTable cs) (sym is) (in_stage_typed cs stage ordered c all)
+
+cell_typed : (cs : List Field) (t : Ty) (stage : ℕ) (c : Computed Value)
+    → map ty_of cs ≡ t ∷ [] → GivesType t c → IsTypedCell cs (cell_in_stage stage c)
+cell_typed cs t stage (Is v) one has = HasTypes-one cs t v one has
+cell_typed cs t stage Overflow one has = tt
+
+unordered_typed : (cs : List Field) (stage : ℕ) (given : Computed (List Row)) (o : Outcome)
+    → Unordered stage given o → GivesRows cs given → IsTypedTable cs o
+unordered_typed cs stage (Is given) o (rows, same, is) all = table_typed cs false rows o is (All-Same (HasTypes cs) given rows (Same-sym rows given same) all)
+unordered_typed cs stage Overflow o is all = subst (IsTypedTable cs) (sym is) tt
+
+-- ---- operators
+
+world_typed : (known : List ℕ → Option Known) (w : World) (kind : LeafKind) (name : List ℕ) (cs : List Field) (given : Computed (List Row))
+    → TypedWorld known w → FitsLeaf kind (known name) cs → w name kind cs given → GivesRows cs given
+world_typed known w kind name cs (Is rows) typed fits may = typed name kind cs rows fits may
+world_typed known w kind name cs Overflow typed fits may = tt
+
+leaf_typed : (known : List ℕ → Option Known) (w : World) (kind : LeafKind) (name : List ℕ) (cs : List Field) (stage : ℕ) (o : Outcome)
+    → TypedWorld known w → FitsLeaf kind (known name) cs → Handed (w name kind cs) stage o → IsTypedTable cs o
+leaf_typed known w kind name cs stage o typed fits (given, may, is) =
+    unordered_typed cs stage given o is (world_typed known w kind name cs given typed fits may)
+
+row_typed : (lets cs : List Field) (s : Surroundings) (es : List Term) (stage : ℕ) (o : Outcome)
+    → Surrounds lets s → AreTyped lets [] es cs → o ≡ in_stage stage false (single es s) → IsTypedTable cs o
+row_typed lets cs s es stage o around are is = staged_typed cs stage false (single es s) o is (single_typed lets cs s es around are)
+
+scalar_typed : (lets cs : List Field) (s : Surroundings) (e : Term) (t : Ty) (stage : ℕ) (o : Outcome)
+    → Surrounds lets s → map ty_of cs ≡ t ∷ [] → IsTyped lets [] e t → o ≡ cell_in_stage stage (meaning e s []) → IsTypedCell cs o
+scalar_typed lets cs s e t stage o around one has is =
+    subst (IsTypedCell cs) (sym is) (cell_typed cs t stage (meaning e s []) one (meaning_typed lets [] s [] e t around tt has))
+
+kept_typed : (cs : List Field) (s : Surroundings) (e : Term) (rows : List Row) (stage : ℕ) (ordered : Bool) (o : Outcome)
+    → All (HasTypes cs) rows → o ≡ in_stage stage ordered (filtered e s rows) → IsTypedTable cs o
+kept_typed cs s e rows stage ordered o all is = staged_typed cs stage ordered (filtered e s rows) o is (filtered_typed cs e s rows all)
+
+mapped_typed : (lets from cs : List Field) (s : Surroundings) (es : List Term) (rows : List Row) (stage : ℕ) (ordered : Bool) (o : Outcome)
+    → Surrounds lets s → AreTyped lets from es cs → All (HasTypes from) rows → o ≡ in_stage stage ordered (each (values_at es s) rows)
+    → IsTypedTable cs o
+mapped_typed lets from cs s es rows stage ordered o around are all is =
+    let came = each_typed from cs (values_at es s) (λ r has. values_typed lets from s r es cs around has are) rows all in
+    staged_typed cs stage ordered (each (values_at es s) rows) o is came
+
+cut_typed : (cs : List Field) (ordered : Bool) (rows : List Row) (n : ℕ) (o : Outcome)
+    → All (HasTypes cs) rows → Taken ordered rows n o → IsTypedTable cs o
+cut_typed cs true rows n o all is = table_typed cs true (take n rows) o is (All-take (HasTypes cs) n rows all)
+cut_typed cs false rows n o all (few, many, less, is) = table_typed cs false few o is (All-NoOftener (HasTypes cs) few rows less all)
+
+counted_typed : (cs : List Field) (rows : List Row) (o : Outcome)
+    → map ty_of cs ≡ ty.Long ∷ [] → o ≡ outcome.Table false (tally rows) → IsTypedTable cs o
+counted_typed cs rows o one is =
+    let v = Long (pos (length rows)) in
+    table_typed cs false (tally rows) o is (All-one cs (v ∷ []) (HasTypes-one cs ty.Long v one (refl, tt)))
+
+in_order_typed : (cs : List Field) (ks : List Sorting) (s : Surroundings) (rows : List Row) (came : Computed (List Row))
+    → All (HasTypes cs) rows → Sorted ks s rows came → GivesRows cs came
+in_order_typed cs ks s rows (Is out) all (keys, computed, same, up) = All-Same (HasTypes cs) rows out (Same-sym out rows same) all
+in_order_typed cs ks s rows Overflow all over = tt
+
+sorted_typed : (cs : List Field) (ks : List Sorting) (s : Surroundings) (rows : List Row) (stage : ℕ) (o : Outcome)
+    → All (HasTypes cs) rows → SortsTo ks s rows stage o → IsTypedTable cs o
+sorted_typed cs ks s rows stage o all to = staged_typed cs stage true to.came o to.is (in_order_typed cs ks s rows to.came all to.sorted_so)
+
+first_typed : (cs : List Field) (n : ℕ) (k : Sorting) (s : Surroundings) (rows : List Row) (came : Computed (List Row))
+    → All (HasTypes cs) rows → Topped n k s rows came → GivesRows cs came
+first_typed cs n k s rows (Is first) all (out, order, is) =
+    subst (All (HasTypes cs)) (sym is) (All-take (HasTypes cs) n out (in_order_typed cs (k ∷ []) s rows (Is out) all order))
+first_typed cs n k s rows Overflow all over = tt
+
+topped_typed : (cs : List Field) (n : ℕ) (k : Sorting) (s : Surroundings) (rows : List Row) (stage : ℕ) (o : Outcome)
+    → All (HasTypes cs) rows → TopsTo n k s rows stage o → IsTypedTable cs o
+topped_typed cs n k s rows stage o all to = staged_typed cs stage true to.came o to.is (first_typed cs n k s rows to.came all to.topped_so)
+
+-- a line for each operator: the rows of its inputs and what stands around them are typed, and so is what it gives
+pub does_typed : (known : List ℕ → Option Known) (w : World) (now : ℤ) (before : List Stepping) (done : List Outcome) (stage : ℕ) (cs : List Field)
+    (doing : Doing) (o : Outcome)
+    → IsMoment now → TypedWorld known w → Stood before done → FitsStep known before doing cs → Does w now done stage cs doing o
+    → IsTypedBy doing cs o
+does_typed known w now before done stage cs (leaf kind name) o m typed stood fits does = leaf_typed known w kind name cs stage o typed fits does
+does_typed known w now before done stage cs (one_row es) o m typed stood fits does =
+    row_typed (lets_of before) cs (around now done) es stage o (around_typed now before done m stood) fits does
+does_typed known w now before done stage cs (written rows) o m typed stood fits does = table_typed cs false rows o does fits
+does_typed known w now before done stage cs (scalar e) o m typed stood (t, one, has) does =
+    scalar_typed (lets_of before) cs (around now done) e t stage o (around_typed now before done m stood) one has does
+does_typed known w now before done stage cs (kept i e) o m typed stood (gives, has) does =
+    kept_typed cs (around now done) e (rows_of done i) stage (order_of done i) o (rows_typed before done i cs stood gives) does
+does_typed known w now before done stage cs (mapped i es) o m typed stood (from, gives, are) does =
+    mapped_typed (lets_of before) from cs (around now done) es (rows_of done i) stage (order_of done i) o (around_typed now before done m stood) are
+    (rows_typed before done i from stood gives) does
+does_typed known w now before done stage cs (cut i n) o m typed stood gives does =
+    cut_typed cs (order_of done i) (rows_of done i) n o (rows_typed before done i cs stood gives) does
+does_typed known w now before done stage cs (counted i) o m typed stood (from, gives, one) does = counted_typed cs (rows_of done i) o one does
+does_typed known w now before done stage cs (sorted i ks) o m typed stood (gives, keys) does =
+    sorted_typed cs ks (around now done) (rows_of done i) stage o (rows_typed before done i cs stood gives) does
+does_typed known w now before done stage cs (topped i n k) o m typed stood (gives, key) does =
+    topped_typed cs n k (around now done) (rows_of done i) stage o (rows_typed before done i cs stood gives) does
+-- these aren't built yet
+does_typed known w now before done stage cs (numbers from to by) o m typed stood fits does = absurd does
+does_typed known w now before done stage cs (apart i is) o m typed stood fits does = absurd does
+does_typed known w now before done stage cs (summarized i es gs) o m typed stood fits does = absurd does
+does_typed known w now before done stage cs (joined kind i j on) o m typed stood fits does = absurd does
+does_typed known w now before done stage cs (united arms) o m typed stood fits does = absurd does
+does_typed known w now before done stage cs (expanded i e c t) o m typed stood fits does = absurd does

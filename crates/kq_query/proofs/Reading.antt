@@ -1,0 +1,60 @@
+-- The rows of extents, as those of a world.
+use Rattle.std.proofs.Common.{◌≡◌, ℕ, List, [], All, map, Option, Some, None, Result, Ok, Err, IfOk, ap, sym, subst}
+use Rattle.std.specs.List.Sorted.{IsPermutation}
+use Rattle.std.specs.Option.{option_map}
+use Rattle.std.proofs.lemmas.List.Sorted.{IsPermutation-map, IsPermutation-sym, All-permutation}
+use Rattle.std.proofs.lemmas.List.Elements.{All-nil}
+use Rattle.kq_computed.specs.Computed.{Computed, Is}
+use Rattle.kq_extent.specs.Seen.{row_of}
+use Rattle.kq_model.specs.History.{History, Numbered, log}
+use Rattle.kq_model.specs.Records.{records, rows_in}
+use Rattle.kq_pipe.specs.Typed.{TypedWorld}
+use Rattle.kq_plan.specs.declared.names.NameKind.TheVariants as name
+use Rattle.kq_plan.specs.declared.work.LeafKind.TheVariants as kind
+use Rattle.kq_plan.specs.Names.{Known}
+use Rattle.kq_value.specs.declared.record.Record.{Record}
+use Rattle.kq_value.specs.declared.schema.Field.{Field}
+use Rattle.kq_value.specs.declared.value.Value.{Value}
+use Rattle.kq_value.specs.Same.{Same}
+use Rattle.kq_value.specs.Typed.{HasTypes}
+use Rattle.kq_value.proofs.SameLemmas.{Same-from_permutation}
+use Rattle.kq_query.specs.Worlds.{MayGive, TableGives, known_in, known_table, table_found}
+
+-- ---- what a table holds
+
+pub typed_held : (schema : List Field) (h : History) (number : ℕ) (held : List Record) → IsPermutation held (records (log h) number) → All (HasTypes schema) (rows_in h number)
+    → All (HasTypes schema) (map row_of held)
+typed_held schema h number held same typed =
+    All-permutation (HasTypes schema) (rows_in h number) (map row_of held) (IsPermutation-sym (map row_of held) (rows_in h number) (IsPermutation-map row_of held (records (log h) number) same)) typed
+
+pub same_held : (h : History) (number : ℕ) (held : List Record) → IsPermutation held (records (log h) number) → Same (map row_of held) (rows_in h number)
+same_held h number held same = Same-from_permutation (map row_of held) (rows_in h number) (IsPermutation-map row_of held (records (log h) number) same)
+
+pub given_held : {E : Type 0} (h : History) (found : Numbered) (held : List Record) (r : Result (List (List Value)) E) → IsPermutation held (records (log h) found.number)
+    → All (HasTypes found.table.schema) (rows_in h found.number) → IfOk r (λ rows. rows ≡ map row_of held) → IfOk r (λ rows. TableGives h (Some found) (Is rows))
+given_held h found held (Ok rows) same typed is = rw is (same_held h found.number held same, typed_held found.table.schema h found.number held same typed)
+given_held h found held (Err e) same typed is = is
+
+-- ---- the world's rows have the types of their names
+
+abbrev columns_known : Option Known → List Field
+columns_known (Some k) = k.1
+columns_known None = []
+
+same_columns : (found : Numbered) (cs : List Field) → Some (known_table found) ≡ Some (name.Table, cs) → found.table.schema ≡ cs
+same_columns found cs e = ap columns_known e
+
+no_rows : (cs : List Field) (rows : List (List Value)) → Is rows ≡ Is [] → All (HasTypes cs) rows
+no_rows cs rows e = subst (All (HasTypes cs)) (sym (same_rows rows e)) (All-nil (HasTypes cs))
+  where
+    same_rows : (rs : List (List Value)) → Is rs ≡ Is [] → rs ≡ []
+    same_rows rs same = cc
+
+table_typed : (h : History) (o : Option Numbered) (cs : List Field) (rows : List (List Value)) → option_map known_table o ≡ Some (name.Table, cs) → TableGives h o (Is rows) → All (HasTypes cs) rows
+table_typed h (Some found) cs rows fits gives = subst (λ (fs : List Field). All (HasTypes fs) rows) (same_columns found cs fits) gives.1
+table_typed h None cs rows fits gives = cc
+
+pub world_typed : (h : History) → TypedWorld (known_in h) (MayGive h)
+world_typed h said kind.Table cs rows fits gives = table_typed h (table_found h said) cs rows fits gives
+world_typed h said kind.View cs rows fits gives = no_rows cs rows gives
+world_typed h said kind.Part cs rows fits gives = no_rows cs rows gives

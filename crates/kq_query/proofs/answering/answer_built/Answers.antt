@@ -1,0 +1,15 @@
+use Rattle.std.proofs.Common.{◌≡◌, rules, w64, to_z, of_z}
+use Rattle.std.proofs.lemmas.Int.{to_z-of_z}
+use Rattle.kq_pipe.proofs.Typed.{gives_typed}
+use Rattle.kq_plan.specs.Plans.{planned_of}
+use Rattle.kq_query.specs.Answers.{columns_given}
+use Rattle.kq_query.specs.Worlds.{MayGive, known_in}
+use Rattle.kq_query.proofs.Reading.{world_typed}
+use Rattle.kq_query.proofs.answering.answer_built.Goals as goal
+
+pub show-requires : goal.show-requires
+show-requires c =
+    let h = c.args.snapshot.now.history in
+    let p = planned_of c.args.plan in
+    let same : to_z w64 (of_z w64 c.args.now) ≡ c.args.now = search (rules, to_z-of_z) in
+    rw c.header.ensures (gives_typed (known_in h) (MayGive h) c.args.now p (columns_given p) c.in_ok-outcome.outcome c.requires.moment (world_typed h) c.requires.fits (rw same at c.in_ok-outcome.ensures))

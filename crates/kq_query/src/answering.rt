@@ -1,0 +1,124 @@
+// Queries and their replies.
+ghost use Rattle.std.specs.Prelude.{◌≡◌, All, IfErr, IfOk, IsTrue};
+ghost use Rattle.kq_grammar.specs.TabularViews.{query_of};
+ghost use Rattle.kq_pipe.specs.Built.{is_built};
+ghost use Rattle.kq_pipe.specs.Typed.{IsTypedTable};
+ghost use Rattle.kq_plan.specs.Fits.{Fits};
+ghost use Rattle.kq_plan.specs.Plans.{planned_of};
+ghost use Rattle.kq_value.specs.Typed.{HasTypes, IsMoment};
+ghost use Rattle.kq_query.specs.Answers.{AnswersPlan, AnswersQuery, AnswersRun, RefusesBy, Shows, columns_given, refusal_of};
+ghost use Rattle.kq_query.specs.Printed.{PrintsAnswer};
+ghost use Rattle.kq_query.specs.Worlds.{known_in};
+
+use crate::catalogue::Catalogue;
+use kq_bind_expression::BindFault;
+use kq_catalog::Snapshot;
+use kq_fitting::bind_fitting;
+use kq_grammar::Query;
+use kq_model::Answer;
+use kq_pipe::{Outcome, is_built, run_plan};
+use kq_plan::{Plan, Step};
+use kq_reply::{Refusal, Reply, render};
+use kq_value::{Memory, Schema};
+use std::alloc::Global;
+
+/// The answer to a query at a moment, from the snapshot alone: its rows as they are printed, or the first fault of its binding, that
+/// a step of its plan isn't built, or the fault of its plan. The symbols of the tree are places in the text.
+pub fn answer(snapshot: &Snapshot, text: &str, query: &Query, now: i64) -> Result<Reply, Refusal>
+    requires { IsMoment now }
+    ensures answer { IfOk result (AnswersQuery snapshot.now.history now text.now (query_of query.now)) }
+    ensures refused { IfErr result (RefusesBy (AnswersQuery snapshot.now.history now text.now (query_of query.now))) }
+{
+    let catalogue = Catalogue { snapshot };
+    match bind_fitting(snapshot.allocator(), text, query, &catalogue) {
+        Ok(plan) => answer_plan(snapshot, plan, now),
+        Err(fault) => Err(refusal(fault)),
+    }
+}
+
+fn refusal(fault: BindFault) -> Refusal
+    ensures { result ≡ refusal_of fault }
+{
+    match fault {
+        BindFault::Unsupported { at } => Refusal::Unsupported { at: at as u64 },
+        BindFault::Unknown { at } => Refusal::Unknown { at: at as u64 },
+        BindFault::Mistyped { at } => Refusal::Mistyped { at: at as u64 },
+        BindFault::Memory => Refusal::Memory,
+    }
+}
+
+// What a plan gives, or that a step of it isn't built.
+fn answer_plan(snapshot: &Snapshot, plan: Plan, now: i64) -> Result<Reply, Refusal>
+    requires moment { IsMoment now }
+    requires fits { Fits (known_in snapshot.now.history) (planned_of plan) (columns_given (planned_of plan)) }
+    ensures answer { IfOk result (AnswersPlan snapshot.now.history now (planned_of plan)) }
+    ensures refused { IfErr result (RefusesBy (AnswersPlan snapshot.now.history now (planned_of plan))) }
+{
+    if is_built(&plan) {
+        answer_built(snapshot, plan, now)
+    } else {
+        Err(Refusal::Unbuilt)
+    }
+}
+
+fn answer_built(snapshot: &Snapshot, plan: Plan, now: i64) -> Result<Reply, Refusal>
+    requires moment { IsMoment now }
+    requires built { IsTrue (is_built (planned_of plan)) }
+    requires fits { Fits (known_in snapshot.now.history) (planned_of plan) (columns_given (planned_of plan)) }
+    ensures answer { IfOk result (AnswersRun snapshot.now.history now (planned_of plan)) }
+    ensures refused { IfErr result (RefusesBy (AnswersRun snapshot.now.history now (planned_of plan))) }
+{
+    let alloc = snapshot.allocator();
+    let catalogue = Catalogue { snapshot };
+    let outcome = run_plan(alloc, &plan, &catalogue, now)?;
+    show(alloc, header(alloc, plan), outcome)
+}
+
+// The columns of what a plan gives.
+fn header(alloc: Global, plan: Plan) -> Schema
+    ensures { result ≡ columns_given (planned_of plan) }
+{
+    let Plan { steps, output } = plan;
+    let mut steps = steps;
+    if output < steps.len() {
+        columns_in(steps.swap_remove(output))
+    } else {
+        Schema::new(alloc)
+    }
+}
+
+fn columns_in(step: Step) -> Schema
+    ensures { result ≡ step.columns.items }
+{
+    Schema::from_vec(step.columns)
+}
+
+// Rows under their columns, or the refusal of a fault.
+fn show(alloc: Global, schema: Schema, outcome: Outcome) -> Result<Reply, Refusal>
+    requires { IsTypedTable schema outcome }
+    ensures answer { IfOk result (Shows schema outcome) }
+    ensures refused { IfErr result (RefusesBy (Shows schema outcome)) }
+{
+    match outcome {
+        Outcome::Table { ordered, rows } => Ok(print(
+            alloc,
+            Answer {
+                schema,
+                ordered,
+                rows,
+            },
+        )?),
+        Outcome::Cell(_) => unreachable!(),
+        Outcome::Overflow { stage } => Err(Refusal::Overflow { stage }),
+        Outcome::Full { limit } => Err(Refusal::Full { limit }),
+    }
+}
+
+fn print(alloc: Global, answer: Answer) -> Result<Reply, Memory>
+    requires { All (HasTypes answer.schema) answer.rows }
+    ensures { IfOk result (PrintsAnswer (λ a. a ≡ answer)) }
+{
+    Ok(Reply::Rows {
+        text: render(alloc, &answer)?,
+    })
+}

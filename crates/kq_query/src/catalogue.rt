@@ -1,0 +1,74 @@
+// The names of a snapshot, and the rows that they stand for.
+ghost use Rattle.std.specs.Prelude.{◌≡◌, IfOk, Some};
+ghost use Rattle.std.specs.List.{slice_get};
+ghost use Rattle.kq_computed.specs.Computed.{Is};
+ghost use Rattle.kq_model.specs.History.{log, tables};
+ghost use Rattle.kq_pipe.specs.Operators.{AnswersOne};
+ghost use Rattle.kq_query.specs.Worlds.{TableGives, table_found};
+
+use kq_catalog::Snapshot;
+use kq_computed::EvalFault;
+use kq_model::Table;
+use kq_pipe::Leaves;
+use kq_plan::{LeafKind, NameKind, Names};
+use kq_rows::Rows;
+use kq_value::{Field, Memory, Schema, Text};
+use std::alloc::Global;
+
+/// The tables of a snapshot, as a query sees them.
+#[derive(Drop)]
+pub(crate) struct Catalogue<'a> {
+    pub snapshot: &'a Snapshot,
+}
+
+impl Names for Catalogue<'_> {
+    ghost use Rattle.kq_query.specs.Worlds.{known_in};
+
+    ghost known = { λ c. known_in c.snapshot.now.history };
+
+    fn find(&self, name: &Text) -> Option<(NameKind, &Schema)> {
+        let (_, table) = self.snapshot.table(name)?;
+        Some((NameKind::Table, &table.schema))
+    }
+}
+
+impl Leaves for Catalogue<'_> {
+    ghost use Rattle.kq_query.specs.Worlds.{MayGive};
+
+    ghost may_give = { λ c. MayGive c.snapshot.now.history };
+
+    fn rows(
+        &self,
+        alloc: Global,
+        kind: LeafKind,
+        name: &Text,
+        _columns: &[Field],
+    ) -> Result<Rows, EvalFault> {
+        match kind {
+            LeafKind::Table => Ok(rows_named(alloc, self.snapshot, name)?),
+            LeafKind::View | LeafKind::Part => Ok(Rows::new(alloc)),
+        }
+    }
+}
+
+fn rows_named(alloc: Global, snapshot: &Snapshot, name: &Text) -> Result<Rows, Memory>
+    ensures { IfOk result (λ rows. TableGives snapshot.now.history (table_found snapshot.now.history name.now) (Is rows)) }
+{
+    match snapshot.table(name) {
+        Some((number, table)) => table_rows(alloc, snapshot, number, table),
+        None => Ok(Rows::new(alloc)),
+    }
+}
+
+fn table_rows(
+    alloc: Global,
+    snapshot: &Snapshot,
+    number: u32,
+    table: &Table,
+) -> Result<Rows, Memory>
+    requires { slice_get (tables (log snapshot.now.history)) number ≡ Some table.now }
+    ensures { IfOk result (λ rows. TableGives snapshot.now.history (Some (record { number = number; table = table.now })) (Is rows)) }
+{
+    let extents = snapshot.extents(number);
+    extents.all_rows(alloc)
+}
