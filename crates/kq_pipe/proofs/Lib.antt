@@ -2,5 +2,8 @@ pub mod Plans
 pub mod Ranked
 pub mod Placed
 pub mod TypedRows
+pub mod TypedOutcomes
+pub mod TypedReshaped
 pub mod TypedSteps
+pub mod Widths
 pub mod Typed

@@ -11,8 +11,9 @@ use Rattle.kq_pipe.specs.declared.outcome.Outcome.{Outcome}
 use Rattle.kq_pipe.specs.declared.outcome.Outcome.TheVariants as outcome
 use Rattle.kq_pipe.specs.Gives.{Follows, Gives, World}
 use Rattle.kq_pipe.specs.Outcomes.{is_fault}
-use Rattle.kq_pipe.specs.Typed.{IsTypedTable, TypedWorld}
-use Rattle.kq_pipe.proofs.TypedSteps.{Stood, Stood-push, does_typed, outcome_typed}
+use Rattle.kq_pipe.specs.Typed.{IsTypedTable, Stood, TypedWorld}
+use Rattle.kq_pipe.proofs.TypedOutcomes.{Stood-push, outcome_typed}
+use Rattle.kq_pipe.proofs.TypedSteps.{does_typed}
 
 -- a fault ends the plan, and is typed
 ended_or_not : (cs : List Field) (x o : Outcome) (Rest : Type 0)
@@ -25,14 +26,14 @@ ended_or_not cs (outcome.Full limit) o Rest more is = subst (IsTypedTable cs) (s
 follows_typed : (known : List ℕ → Option Known) (w : World) (now : ℤ) (before steps : List Stepping) (done : List Outcome) (output : ℕ)
     (cs : List Field) (o : Outcome)
     → IsMoment now → TypedWorld known w → Stood before done → FitAfter known before steps → GivesColumns (before ++ steps) output cs
-    → Follows w now done steps output o → IsTypedTable cs o
+    → Follows w now before done steps output o → IsTypedTable cs o
 follows_typed known w now before [] done output cs o m typed stood fit gives is =
     let last = subst (λ (ss : List Stepping). GivesColumns ss output cs) (append-nil before) gives in
     subst (IsTypedTable cs) (sym is) (outcome_typed before done output cs stood last)
 follows_typed known w now before (s ∷ steps) done output cs o m typed stood fit gives (x, does, next) =
     let is = does_typed known w now before done s.stage s.columns s.doing x m typed stood fit.0 does in
     let rest = subst (λ (ss : List Stepping). GivesColumns ss output cs) (sym (append_assoc before (s ∷ []) steps)) gives in
-    ended_or_not cs x o (Follows w now (done ++ x ∷ []) steps output o)
+    ended_or_not cs x o (Follows w now (before ++ s ∷ []) (done ++ x ∷ []) steps output o)
     (λ no_fault goes_on. follows_typed known w now (before ++ s ∷ []) steps (done ++ x ∷ []) output cs o m typed
     (Stood-push before done s x stood (record { typed = is; no_fault = no_fault })) fit.1 rest goes_on)
     next

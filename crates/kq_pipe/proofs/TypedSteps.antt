@@ -7,7 +7,7 @@ use Rattle.kq_arithmetic.specs.Numbers.{GivesType}
 use Rattle.kq_computed.specs.Computed.{Computed, Is, Overflow, each}
 use Rattle.kq_expr.specs.Terms.{Term}
 use Rattle.kq_plan.specs.declared.work.LeafKind.{LeafKind}
-use Rattle.kq_plan.specs.Fits.{AreTyped, FitsLeaf, FitsStep, GivesColumns, IsTyped, cells_in, lets_of, rows_in as columns_in, ty_of}
+use Rattle.kq_plan.specs.Fits.{AreTyped, FitsLeaf, FitsStep, GivesColumns, IsTyped, cells_in, lets_of, ty_of}
 use Rattle.kq_plan.specs.Names.{Known}
 use Rattle.kq_plan.specs.Plans.{Doing, Sorting, Stepping, leaf, one_row, numbers, written, scalar, kept, mapped, cut, counted, sorted, topped, apart, summarized, joined, united, expanded}
 use Rattle.kq_scalar.specs.Val.{Surroundings, meaning}
@@ -24,109 +24,10 @@ use Rattle.kq_pipe.specs.Gives.{Does, Handed, SortsTo, TopsTo, Unordered, World,
 use Rattle.kq_pipe.specs.Operators.{Taken, cell_in_stage, filtered, in_stage, single, tally, values_at}
 use Rattle.kq_pipe.specs.Orders.{Sorted, Topped}
 use Rattle.kq_pipe.specs.Outcomes.{Row, cells_of, is_fault, order_of, outcome_at, rows_in, rows_of}
-use Rattle.kq_pipe.specs.Typed.{IsTypedTable, TypedWorld}
+use Rattle.kq_pipe.specs.Typed.{IsTypedBy, IsTypedCell, IsTypedTable, Stands, Stood, TypedWorld}
+use Rattle.kq_pipe.proofs.TypedOutcomes.{around_typed, cell_typed, rows_typed, staged_typed, table_typed, unordered_typed}
+use Rattle.kq_pipe.proofs.TypedReshaped.{apart_typed, expanded_typed, joined_typed, numbers_typed, united_typed}
 use Rattle.kq_pipe.proofs.TypedRows.{All-NoOftener, All-one, GivesRows, HasTypes-append, HasTypes-one, Surrounds, each_typed, filtered_typed, meaning_typed, single_typed, values_typed}
-
--- ---- outcomes
-
--- a cell of the one column's type, or a fault
-abbrev pub IsTypedCell : List Field → Outcome → Type 0
-IsTypedCell cs (outcome.Table ordered rows) = ⊥
-IsTypedCell cs (outcome.Cell v) = HasTypes cs (v ∷ [])
-IsTypedCell cs (outcome.Overflow stage) = Unit {0}
-IsTypedCell cs (outcome.Full limit) = Unit {0}
-
--- a scalar let gives a cell, and all else gives rows
-abbrev pub IsTypedBy : Doing → List Field → Outcome → Type 0
-IsTypedBy (scalar e) cs o = IsTypedCell cs o
-IsTypedBy doing cs o = IsTypedTable cs o
-
--- a step's outcome, where the plan goes on
-pub record Stands (s : Stepping) (o : Outcome) : Type 0 where
-  pub typed : IsTypedBy s.doing s.columns o
-  pub no_fault : is_fault o ≡ false
-
--- steps and their outcomes side by side
-abbrev pub Stood : List Stepping → List Outcome → Type 0
-Stood before done = AllZip Stands before done
-
-pub Stood-push : (before : List Stepping) (done : List Outcome) (s : Stepping) (o : Outcome)
-    → Stood before done → Stands s o → Stood (before ++ s ∷ []) (done ++ o ∷ [])
-Stood-push [] [] s o stood next = (next, tt)
-Stood-push [] (p ∷ done) s o stood next = absurd stood
-Stood-push (t ∷ before) [] s o stood next = absurd stood
-Stood-push (t ∷ before) (p ∷ done) s o stood next = (stood.0, Stood-push before done s o stood.1 next)
-
-cells_next : (doing : Doing) (cs : List Field) (o : Outcome) (lets : List Field) (done : List Outcome) → IsTypedBy doing cs o → is_fault o ≡ false
-    → HasTypes lets (cells_of done) → HasTypes (cells_in doing cs ++ lets) (cells_of (o ∷ done))
-cells_next doing cs (outcome.Overflow stage) lets done typed stood more = absurd (cc)
-cells_next doing cs (outcome.Full limit) lets done typed stood more = absurd (cc)
-cells_next (scalar e) cs (outcome.Table ordered rows) lets done typed stood more = absurd typed
-cells_next (scalar e) cs (outcome.Cell v) lets done typed stood more = HasTypes-append cs lets (v ∷ []) (cells_of done) typed more
-cells_next doing cs (outcome.Table ordered rows) lets done typed stood more = more
-cells_next doing cs (outcome.Cell v) lets done typed stood more = absurd typed
-
--- the cells of the lets have the types of the lets
-pub cells_typed : (before : List Stepping) (done : List Outcome) → Stood before done → HasTypes (lets_of before) (cells_of done)
-cells_typed [] [] stood = tt
-cells_typed [] (o ∷ done) stood = absurd stood
-cells_typed (s ∷ before) [] stood = absurd stood
-cells_typed (s ∷ before) (o ∷ done) stood =
-    cells_next s.doing s.columns o (lets_of before) done stood.0.typed stood.0.no_fault (cells_typed before done stood.1)
-
-columns_typed : (own cs : List Field) (o : Outcome) → Some own ≡ Some cs → IsTypedTable own o → IsTypedTable cs o
-columns_typed own cs o is typed = let same : own ≡ cs = cc in subst (λ (fs : List Field). IsTypedTable fs o) same typed
-
-given_typed : (doing : Doing) (own cs : List Field) (o : Outcome) → columns_in doing own ≡ Some cs → IsTypedBy doing own o → IsTypedTable cs o
-given_typed (scalar e) own cs o is typed = absurd (cc)
-given_typed doing own cs o is typed = columns_typed own cs o is typed
-
--- a step that gives rows of these columns gave a table of their types
-pub outcome_typed : (before : List Stepping) (done : List Outcome) (i : ℕ) (cs : List Field)
-    → Stood before done → GivesColumns before i cs → IsTypedTable cs (outcome_at done i)
-outcome_typed [] [] i cs stood is = absurd (cc)
-outcome_typed [] (o ∷ done) i cs stood is = absurd stood
-outcome_typed (s ∷ before) [] i cs stood is = absurd stood
-outcome_typed (s ∷ before) (o ∷ done) zero cs stood is = given_typed s.doing s.columns cs o is stood.0.typed
-outcome_typed (s ∷ before) (o ∷ done) (suc i) cs stood is = outcome_typed before done i cs stood.1 is
-
-rows_within : (cs : List Field) (o : Outcome) → IsTypedTable cs o → All (HasTypes cs) (rows_in o)
-rows_within cs (outcome.Table ordered rows) typed = typed
-rows_within cs (outcome.Cell v) typed = absurd typed
-rows_within cs (outcome.Overflow stage) typed = All-nil (HasTypes cs)
-rows_within cs (outcome.Full limit) typed = All-nil (HasTypes cs)
-
-pub rows_typed : (before : List Stepping) (done : List Outcome) (i : ℕ) (cs : List Field)
-    → Stood before done → GivesColumns before i cs → All (HasTypes cs) (rows_of done i)
-rows_typed before done i cs stood is = rows_within cs (outcome_at done i) (outcome_typed before done i cs stood is)
-
-pub around_typed : (now : ℤ) (before : List Stepping) (done : List Outcome)
-    → IsMoment now → Stood before done → Surrounds (lets_of before) (around now done)
-around_typed now before done moment stood = record { moment = moment; typed = cells_typed before done stood }
-
--- ---- from what is computed to an outcome
-
-pub table_typed : (cs : List Field) (ordered : Bool) (rows : List Row) (o : Outcome)
-    → o ≡ outcome.Table ordered rows → All (HasTypes cs) rows → IsTypedTable cs o
-table_typed cs ordered rows o is all = subst (IsTypedTable cs) (sym is) all
-
-in_stage_typed : (cs : List Field) (stage : ℕ) (ordered : Bool) (c : Computed (List Row)) → GivesRows cs c → IsTypedTable cs (in_stage stage ordered c)
-in_stage_typed cs stage ordered (Is rows) all = all
-in_stage_typed cs stage ordered Overflow all = tt
-
-pub staged_typed : (cs : List Field) (stage : ℕ) (ordered : Bool) (c : Computed (List Row)) (o : Outcome)
-    → o ≡ in_stage stage ordered c → GivesRows cs c → IsTypedTable cs o
-staged_typed cs stage ordered c o is all = subst (IsTypedTable cs) (sym is) (in_stage_typed cs stage ordered c all)
-
-cell_typed : (cs : List Field) (t : Ty) (stage : ℕ) (c : Computed Value)
-    → map ty_of cs ≡ t ∷ [] → GivesType t c → IsTypedCell cs (cell_in_stage stage c)
-cell_typed cs t stage (Is v) one has = HasTypes-one cs t v one has
-cell_typed cs t stage Overflow one has = tt
-
-unordered_typed : (cs : List Field) (stage : ℕ) (given : Computed (List Row)) (o : Outcome)
-    → Unordered stage given o → GivesRows cs given → IsTypedTable cs o
-unordered_typed cs stage (Is given) o (rows, same, is) all = table_typed cs false rows o is (All-Same (HasTypes cs) given rows (Same-sym rows given same) all)
-unordered_typed cs stage Overflow o is all = subst (IsTypedTable cs) (sym is) tt
 
 -- ---- operators
 
@@ -193,7 +94,7 @@ topped_typed cs n k s rows stage o all to = staged_typed cs stage true to.came o
 -- a line for each operator: the rows of its inputs and what stands around them are typed, and so is what it gives
 pub does_typed : (known : List ℕ → Option Known) (w : World) (now : ℤ) (before : List Stepping) (done : List Outcome) (stage : ℕ) (cs : List Field)
     (doing : Doing) (o : Outcome)
-    → IsMoment now → TypedWorld known w → Stood before done → FitsStep known before doing cs → Does w now done stage cs doing o
+    → IsMoment now → TypedWorld known w → Stood before done → FitsStep known before doing cs → Does w now before done stage cs doing o
     → IsTypedBy doing cs o
 does_typed known w now before done stage cs (leaf kind name) o m typed stood fits does = leaf_typed known w kind name cs stage o typed fits does
 does_typed known w now before done stage cs (one_row es) o m typed stood fits does =
@@ -213,10 +114,14 @@ does_typed known w now before done stage cs (sorted i ks) o m typed stood (gives
     sorted_typed cs ks (around now done) (rows_of done i) stage o (rows_typed before done i cs stood gives) does
 does_typed known w now before done stage cs (topped i n k) o m typed stood (gives, key) does =
     topped_typed cs n k (around now done) (rows_of done i) stage o (rows_typed before done i cs stood gives) does
--- these aren't built yet
-does_typed known w now before done stage cs (numbers from to by) o m typed stood fits does = absurd does
-does_typed known w now before done stage cs (apart i is) o m typed stood fits does = absurd does
+does_typed known w now before done stage cs (numbers from to by) o m typed stood fits does =
+    numbers_typed (lets_of before) cs (around now done) from to by stage o (around_typed now before done m stood) fits does
+does_typed known w now before done stage cs (apart i is) o m typed stood (from, gives, have, flat) does =
+    apart_typed from cs is (rows_of done i) o have (rows_typed before done i from stood gives) does
+does_typed known w now before done stage cs (joined kind i j on) o m typed stood (ls, rs, left, right, match, is) does =
+    joined_typed kind on before ls rs cs i j (rows_of done i) (rows_of done j) o left right (rows_typed before done i ls stood left) (rows_typed before done j rs stood right) is does
+does_typed known w now before done stage cs (united arms) o m typed stood fits does = united_typed before done cs arms o stood fits does
+does_typed known w now before done stage cs (expanded i e c t) o m typed stood (from, gives, has, is) does =
+    expanded_typed (lets_of before) from cs (around now done) e c t (rows_of done i) stage o (around_typed now before done m stood) has is (rows_typed before done i from stood gives) does
+-- this isn't built yet
 does_typed known w now before done stage cs (summarized i es gs) o m typed stood fits does = absurd does
-does_typed known w now before done stage cs (joined kind i j on) o m typed stood fits does = absurd does
-does_typed known w now before done stage cs (united arms) o m typed stood fits does = absurd does
-does_typed known w now before done stage cs (expanded i e c t) o m typed stood fits does = absurd does

@@ -12,12 +12,7 @@ are_wide width (r ∷ rows) = nat_eq (length r) width && are_wide width rows
 -- whether the work is of a kind that is run, and the rows of a datatable are as wide as its columns
 abbrev pub is_built_work : List Field → Doing → Bool
 is_built_work columns (written rows) = are_wide (length columns) rows
-is_built_work columns (numbers from to by) = false
-is_built_work columns (apart i cs) = false
 is_built_work columns (summarized i es gs) = false
-is_built_work columns (joined kind i j on) = false
-is_built_work columns (united arms) = false
-is_built_work columns (expanded i e c t) = false
 is_built_work columns doing = true
 
 abbrev pub is_built_step : Stepping → Bool

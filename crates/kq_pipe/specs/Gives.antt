@@ -10,6 +10,7 @@ use Rattle.kq_pipe.specs.declared.outcome.Outcome.{Outcome}
 use Rattle.kq_pipe.specs.declared.outcome.Outcome.TheVariants as outcome
 use Rattle.kq_pipe.specs.Orders.{Sorted, Topped}
 use Rattle.kq_pipe.specs.Outcomes.{Row, is_fault, outcome_at, rows_of, order_of, cells_of}
+use Rattle.kq_pipe.specs.Reshaped.{come_in_stage, range_at, DiffersTo, JoinsTo, columns_before, arms_together, expanded_by}
 use Rattle.kq_pipe.specs.Operators.{values_at, filtered, single, tally, in_stage, cell_in_stage, Taken}
 
 -- which rows a name may give, of this kind and under these columns, or that it may overflow
@@ -41,33 +42,34 @@ pub record TopsTo (n : ℕ) (k : Sorting) (s : Surroundings) (rows : List Row) (
 abbrev pub around : ℤ → List Outcome → Surroundings
 around now done = surroundings now (cells_of done)
 
--- after these outcomes, the work may give o at its stage
-abbrev pub Does : World → ℤ → List Outcome → ℕ → List Field → Doing → Outcome → Type 0
-Does w now done stage columns (leaf kind name) o = Handed (w name kind columns) stage o
-Does w now done stage columns (one_row es) o = o ≡ in_stage stage false (single es (around now done))
-Does w now done stage columns (written rows) o = o ≡ outcome.Table false rows
-Does w now done stage columns (scalar e) o = o ≡ cell_in_stage stage (meaning e (around now done) [])
-Does w now done stage columns (kept i e) o = o ≡ in_stage stage (order_of done i) (filtered e (around now done) (rows_of done i))
-Does w now done stage columns (mapped i es) o = o ≡ in_stage stage (order_of done i) (each (values_at es (around now done)) (rows_of done i))
-Does w now done stage columns (cut i n) o = Taken (order_of done i) (rows_of done i) n o
-Does w now done stage columns (counted i) o = o ≡ outcome.Table false (tally (rows_of done i))
-Does w now done stage columns (sorted i ks) o = SortsTo ks (around now done) (rows_of done i) stage o
-Does w now done stage columns (topped i n k) o = TopsTo n k (around now done) (rows_of done i) stage o
--- these aren't built yet
-Does w now done stage columns (numbers from to by) o = ⊥
-Does w now done stage columns (apart i cs) o = ⊥
-Does w now done stage columns (summarized i es gs) o = ⊥
-Does w now done stage columns (joined kind i j on) o = ⊥
-Does w now done stage columns (united arms) o = ⊥
-Does w now done stage columns (expanded i e c t) o = ⊥
+-- after these steps and what they gave, the work may give o at its stage
+abbrev pub Does : World → ℤ → List Stepping → List Outcome → ℕ → List Field → Doing → Outcome → Type 0
+Does w now before done stage columns (leaf kind name) o = Handed (w name kind columns) stage o
+Does w now before done stage columns (one_row es) o = o ≡ in_stage stage false (single es (around now done))
+Does w now before done stage columns (written rows) o = o ≡ outcome.Table false rows
+Does w now before done stage columns (scalar e) o = o ≡ cell_in_stage stage (meaning e (around now done) [])
+Does w now before done stage columns (kept i e) o = o ≡ in_stage stage (order_of done i) (filtered e (around now done) (rows_of done i))
+Does w now before done stage columns (mapped i es) o = o ≡ in_stage stage (order_of done i) (each (values_at es (around now done)) (rows_of done i))
+Does w now before done stage columns (cut i n) o = Taken (order_of done i) (rows_of done i) n o
+Does w now before done stage columns (counted i) o = o ≡ outcome.Table false (tally (rows_of done i))
+Does w now before done stage columns (sorted i ks) o = SortsTo ks (around now done) (rows_of done i) stage o
+Does w now before done stage columns (topped i n k) o = TopsTo n k (around now done) (rows_of done i) stage o
+Does w now before done stage columns (numbers from to by) o = o ≡ come_in_stage stage (range_at from to by (around now done))
+Does w now before done stage columns (apart i cs) o = DiffersTo cs (rows_of done i) o
+Does w now before done stage columns (joined kind i j on) o = JoinsTo kind on (columns_before before i) (columns_before before j) (rows_of done i) (rows_of done j) o
+Does w now before done stage columns (united arms) o = o ≡ arms_together done columns arms
+Does w now before done stage columns (expanded i e c t) o = o ≡ in_stage stage false (expanded_by e (around now done) c t (rows_of done i))
+-- this isn't built yet
+Does w now before done stage columns (summarized i es gs) o = ⊥
 
-abbrev pub Case : World → ℤ → List Outcome → Stepping → Outcome → Type 0
-Case w now done s o = Does w now done s.stage s.columns s.doing o
+abbrev pub Case : World → ℤ → List Stepping → List Outcome → Stepping → Outcome → Type 0
+Case w now before done s o = Does w now before done s.stage s.columns s.doing o
 
--- after these outcomes, the steps come to o: the first fault, or else the outcome of the step with the number `output`
-abbrev pub Follows : World → ℤ → List Outcome → List Stepping → ℕ → Outcome → Type 0
-Follows w now done [] output o = o ≡ outcome_at done output
-Follows w now done (s ∷ steps) output o = (x : Outcome) × Case w now done s x × MatchBool (is_fault x) (o ≡ x) (Follows w now (done ++ x ∷ []) steps output o)
+-- after these steps and what they gave, the others come to o: the first fault, or else the outcome of the step with the number `output`
+abbrev pub Follows : World → ℤ → List Stepping → List Outcome → List Stepping → ℕ → Outcome → Type 0
+Follows w now before done [] output o = o ≡ outcome_at done output
+Follows w now before done (s ∷ steps) output o =
+    (x : Outcome) × Case w now before done s x × MatchBool (is_fault x) (o ≡ x) (Follows w now (before ++ s ∷ []) (done ++ x ∷ []) steps output o)
 
 abbrev pub Gives : Planned → World → ℤ → Outcome → Type 0
-Gives p w now o = Follows w now [] p.steps p.output o
+Gives p w now o = Follows w now [] [] p.steps p.output o

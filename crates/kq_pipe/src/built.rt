@@ -30,9 +30,14 @@ fn is_built_step(step: &Step) -> bool
         | Work::Take(..)
         | Work::Count(_)
         | Work::Sort(..)
-        | Work::Top(..) => true,
+        | Work::Top(..)
+        | Work::Range(..)
+        | Work::Distinct(..)
+        | Work::Join(..)
+        | Work::Union(_)
+        | Work::Expand(..) => true,
         Work::Table(rows) => are_wide(rows.as_slice(), step.columns.len()),
-        _ => false,
+        Work::Summarize(..) => false,
     }
 }
 

@@ -3,8 +3,10 @@
 
 mod built;
 mod filter;
+mod joined;
 mod leaves;
 mod outcome;
+mod reshaped;
 mod run;
 mod single;
 mod sort;

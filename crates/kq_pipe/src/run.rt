@@ -1,8 +1,10 @@
 // A plan, step by step.
 ghost use Rattle.std.specs.Prelude.{IfOk, IsTrue};
 ghost use Rattle.kq_plan.specs.Plans.{planned_of};
+ghost use Rattle.kq_value.specs.Typed.{IsMoment};
 ghost use Rattle.kq_pipe.specs.Built.{is_built};
 ghost use Rattle.kq_pipe.specs.Gives.{Gives};
+ghost use Rattle.kq_pipe.specs.Typed.{FitsWorld};
 
 use crate::leaves::Leaves;
 use crate::outcome::{Outcome, take_out};
@@ -19,12 +21,22 @@ pub fn run_plan<L: Leaves>(
     leaves: &L,
     now: i64,
 ) -> Result<Outcome, Memory>
-    requires { IsTrue (is_built (planned_of plan.now)) }
+    requires built { IsTrue (is_built (planned_of plan.now)) }
+    requires moment { IsMoment now }
+    requires fits { FitsWorld (planned_of plan.now) (L.may_give leaves.now) }
     ensures { IfOk result (Gives (planned_of plan.now) (L.may_give leaves.now) now) }
 {
     let mut done = Vec::new(alloc);
-    for step in &plan.steps {
-        let outcome = run_step(alloc, step, done.as_slice(), leaves, now)?;
+    for place in 0..plan.steps.len() {
+        let before = &plan.steps[..place];
+        let outcome = run_step(
+            alloc,
+            before,
+            &plan.steps[place],
+            done.as_slice(),
+            leaves,
+            now,
+        )?;
         if outcome.is_fault() {
             return Ok(outcome);
         }

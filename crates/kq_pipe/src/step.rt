@@ -6,11 +6,14 @@ ghost use Rattle.kq_plan.specs.Plans.{cells_seen, sorting_of, stepping_of};
 ghost use Rattle.kq_scalar.specs.Val.{meaning, surroundings};
 ghost use Rattle.kq_pipe.specs.Built.{are_wide, is_built_step};
 ghost use Rattle.kq_pipe.specs.Gives.{Case, Handed, SortsTo, TopsTo};
+ghost use Rattle.kq_pipe.specs.Typed.{IsNext};
 ghost use Rattle.kq_pipe.specs.Operators.{AnswersOne, Taken, cell_in_stage, filtered, in_stage, single, tally, values_at};
 
 use crate::filter::{filter_rows, first_rows, map_rows};
+use crate::joined::{fields_at, join};
 use crate::leaves::Leaves;
 use crate::outcome::{Outcome, cells, order_at, rows_at};
+use crate::reshaped::{distinct, expand, range, union};
 use crate::single::{single_row, tally_row, written_rows};
 use crate::sort::{sort_rows, top_rows};
 use crate::terms::value_of;
@@ -21,16 +24,18 @@ use kq_rows::Rows;
 use kq_value::{Field, Memory, Text, Value};
 use std::alloc::{AllocError, Global};
 
-// What a step gives after these outcomes.
+// What a step gives behind these steps, which gave these outcomes.
 pub(crate) fn run_step<L: Leaves>(
     alloc: Global,
+    before: &[Step],
     step: &Step,
     done: &[Outcome],
     leaves: &L,
     now: i64,
 ) -> Result<Outcome, Memory>
-    requires { IsTrue (is_built_step (stepping_of step.now)) }
-    ensures { IfOk result (Case (L.may_give leaves.now) now done.now (stepping_of step.now)) }
+    requires built { IsTrue (is_built_step (stepping_of step.now)) }
+    requires next { IsNext (L.may_give leaves.now) (map stepping_of before.now) done.now (stepping_of step.now) }
+    ensures { IfOk result (Case (L.may_give leaves.now) now (map stepping_of before.now) done.now (stepping_of step.now)) }
 {
     let none = Rows::new(alloc);
     let lets = cells(alloc, done)?;
@@ -68,7 +73,23 @@ pub(crate) fn run_step<L: Leaves>(
             let rows = rows_at(done, *i, &none);
             top(alloc, stage, rows, *count, key, lets.as_slice(), now)
         }
-        _ => unreachable!(),
+        Work::Range(from, to, by) => range(alloc, stage, from, to, by, lets.as_slice(), now),
+        Work::Distinct(i, columns) => distinct(alloc, rows_at(done, *i, &none), columns.as_slice()),
+        Work::Join(kind, i, j, on) => join(
+            alloc,
+            *kind,
+            rows_at(done, *i, &none),
+            rows_at(done, *j, &none),
+            fields_at(before, *i),
+            fields_at(before, *j),
+            on.as_slice(),
+        ),
+        Work::Union(arms) => union(alloc, done, arms.as_slice(), step.columns.as_slice()),
+        Work::Expand(i, expr, at, ty) => {
+            let rows = rows_at(done, *i, &none);
+            expand(alloc, stage, rows, expr, *at, *ty, lets.as_slice(), now)
+        }
+        Work::Summarize(..) => unreachable!(),
     }
 }
 

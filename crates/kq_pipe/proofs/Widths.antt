@@ -1,0 +1,46 @@
+-- The widths of the rows that a fitting step takes.
+use Rattle.std.proofs.Common.{◌≡◌, ℕ, List, Option, length, subst, sym}
+use Rattle.std.specs.List.{All}
+use Rattle.kq_expr.specs.Terms.{Term}
+use Rattle.kq_plan.specs.declared.work.JoinKind.{JoinKind}
+use Rattle.kq_plan.specs.Fits.{FitsStep, GivesColumns}
+use Rattle.kq_plan.specs.Plans.{Doing, Stepping, expanded, joined}
+use Rattle.kq_rows.proofs.Typed.{same_width-typed, typed_width}
+use Rattle.kq_rows.specs.Chunks.{HasWidth, same_width}
+use Rattle.kq_value.specs.declared.schema.Field.{Field}
+use Rattle.kq_value.specs.declared.ty.Ty.{Ty}
+use Rattle.kq_value.specs.Typed.{HasTypes}
+use Rattle.kq_pipe.specs.declared.outcome.Outcome.{Outcome}
+use Rattle.kq_pipe.specs.Gives.{World}
+use Rattle.kq_pipe.specs.Outcomes.{rows_of}
+use Rattle.kq_pipe.specs.Reshaped.{columns_before}
+use Rattle.kq_pipe.specs.Typed.{IsNext, Stood}
+use Rattle.kq_pipe.proofs.TypedOutcomes.{columns_before-given, rows_typed}
+
+-- rows of a step are as wide as its columns
+pub rows_wide : (before : List Stepping) (done : List Outcome) (i : ℕ) (cs : List Field) → Stood before done → GivesColumns before i cs → All (HasWidth (length (columns_before before i))) (rows_of done i)
+rows_wide before done i cs stood is =
+    subst (λ (fs : List Field). All (HasWidth (length fs)) (rows_of done i)) (sym (columns_before-given before i cs is)) (typed_width cs (rows_of done i) (rows_typed before done i cs stood is))
+
+joined_fits : (w : World) (before : List Stepping) (done : List Outcome) (s : Stepping) (kind : JoinKind) (i j : ℕ) (on : List (ℕ × ℕ)) (next : IsNext w before done s) → s.doing ≡ joined kind i j on
+    → FitsStep next.known before (joined kind i j on) s.columns
+joined_fits w before done s kind i j on next is = subst (λ (d : Doing). FitsStep next.known before d s.columns) is next.fits
+
+pub left_wide : (w : World) (before : List Stepping) (done : List Outcome) (s : Stepping) (kind : JoinKind) (i j : ℕ) (on : List (ℕ × ℕ)) → IsNext w before done s → s.doing ≡ joined kind i j on
+    → All (HasWidth (length (columns_before before i))) (rows_of done i)
+left_wide w before done s kind i j on next is =
+    let fits = joined_fits w before done s kind i j on next is in
+    rows_wide before done i fits.0 next.stood fits.2
+
+pub right_wide : (w : World) (before : List Stepping) (done : List Outcome) (s : Stepping) (kind : JoinKind) (i j : ℕ) (on : List (ℕ × ℕ)) → IsNext w before done s → s.doing ≡ joined kind i j on
+    → All (HasWidth (length (columns_before before j))) (rows_of done j)
+right_wide w before done s kind i j on next is =
+    let fits = joined_fits w before done s kind i j on next is in
+    rows_wide before done j fits.1 next.stood fits.3
+
+-- rows whose dynamics are expanded are of one width
+pub expanded_even : (w : World) (before : List Stepping) (done : List Outcome) (s : Stepping) (i : ℕ) (e : Term) (at : ℕ) (t : Option Ty) → IsNext w before done s → s.doing ≡ expanded i e at t
+    → same_width (rows_of done i)
+expanded_even w before done s i e at t next is =
+    let fits = subst (λ (d : Doing). FitsStep next.known before d s.columns) is next.fits in
+    same_width-typed fits.0 (rows_of done i) (rows_typed before done i fits.0 next.stood fits.1)

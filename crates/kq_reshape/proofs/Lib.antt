@@ -1,0 +1,6 @@
+pub mod Filed
+pub mod Different
+pub mod Typed
+pub mod Ranging
+pub mod Expanding
+pub mod Parted
