@@ -1,0 +1,7 @@
+pub mod AnyOrder
+pub mod Batches
+pub mod Changes
+pub mod Lasts
+pub mod Sets
+pub mod StepLemmas
+pub mod Typed

@@ -1,0 +1,6 @@
+pub mod Aggregates
+pub mod Holds
+pub mod Ranks
+pub mod SameLaws
+pub mod Steps
+pub mod Tables

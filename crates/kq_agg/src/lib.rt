@@ -1,0 +1,15 @@
+//! The states of aggregates: what is kept of the rows of each group, how rows and other states come to it, and the cells that it ends with. Which rows are a group, and the values of the arguments over a row, are left to the crates above.
+#![tactic(auto)]
+
+mod count;
+mod element;
+mod finish;
+mod kind;
+mod set;
+mod states;
+mod sum;
+mod table;
+mod taken;
+
+pub use kind::Kind;
+pub use states::States;
