@@ -22,7 +22,7 @@ queries = {
         "E | where v % 7 == 3 and k < 500000 | project w = v * 2 | count",
         "select count(*) from (select v * 2 as w from e where v % 7 = 3 and k < 500000);"),
     "count": ("E | count", "select count(*) from e;"),
-    "sort by v": ("E | sort by v asc | take 3", "select * from (select * from e order by v) limit 3;"),
+    "sort by v": ("E | sort by v asc | take 3", "create temp table s as select * from e order by v; drop table s;"),
     "join of two ranges of 100,000": (
         "range a from 1 to 100000 step 1 | join kind=inner (range b from 1 to 100000 step 1) on $left.a == $right.b | count",
         "with recursive r(a) as (select 1 union all select a + 1 from r where a < 100000), s as materialized (select a from r),"
