@@ -1,0 +1,5 @@
+pub mod Kept
+pub mod Laws
+pub mod Mapped
+pub mod Reading
+pub mod Standing

@@ -1,0 +1,94 @@
+-- What an expression gives of a row depends on the columns alone that it reads.
+use Rattle.std.proofs.Common.{◌≡◌, ℕ, List, [], ◌∷◌, ◌++◌, map, refl, sym, ap, ◌∙◌, subst}
+use Rattle.std.specs.List.{All, concat}
+use Rattle.std.proofs.lemmas.List.Elements.{All-nil, All-cons, All-head, All-tail}
+use Rattle.kq_value.specs.declared.value.Value.{Value}
+use Rattle.kq_computed.specs.Computed.{Is, and_then}
+use Rattle.kq_fn.specs.declared.function.Function.{Function}
+use Rattle.kq_fn.specs.declared.function.Function.TheVariants as f
+use Rattle.kq_expr.specs.declared.expr.Expr.{Expr}
+use Rattle.kq_expr.specs.declared.expr.Expr.TheOpen.{Expr-F}
+use Rattle.kq_expr.specs.declared.expr.Expr.TheViews.{roll-Expr}
+use Rattle.kq_expr.specs.declared.expr.Expr.TheFolds.{ind-Expr, fold-roll-Expr, map-Expr}
+use Rattle.kq_arithmetic.specs.Logic.{is_yes}
+use Rattle.kq_conversions.specs.Converted.{empty_test}
+use Rattle.std.specs.Prelude.{if◌then◌else◌}
+use Rattle.kq_scalar.specs.Applied.{applied}
+use Rattle.kq_scalar.specs.Val.{Surroundings, Meaning, val, val_step, values, first_chosen, first_present, called, cell_of}
+use Rattle.kq_piecewise.specs.Pieces.{reads_step, columns_read}
+
+module _ {X : Type 0} (P : X → Type 0) where
+  pub first_all : (xs ys : List X) → All P (xs ++ ys) → All P xs
+  first_all [] ys h = All-nil P
+  first_all (x ∷ xs) ys h = All-cons P x xs (All-head P x (xs ++ ys) h) (first_all xs ys (All-tail P x (xs ++ ys) h))
+
+  pub other_all : (xs ys : List X) → All P (xs ++ ys) → All P ys
+  other_all [] ys h = h
+  other_all (x ∷ xs) ys h = other_all xs ys (All-tail P x (xs ++ ys) h)
+
+-- two rows have the same cells in these columns
+abbrev pub Same : List Value → List Value → List ℕ → Type 0
+Same q r js = All (λ j. cell_of q j ≡ cell_of r j) js
+
+abbrev pub Reads : Expr → Type 0
+Reads e = (s : Surroundings) (q r : List Value) → Same q r (columns_read e) → val e s q ≡ val e s r
+
+abbrev Parts : Type 0
+Parts = List ((e : Expr) × Reads e)
+
+abbrev val_all : Parts → List Meaning
+val_all es = map val (map (λ e. e.0) es)
+
+abbrev read_all : Parts → List ℕ
+read_all es = concat (map columns_read (map (λ e. e.0) es))
+
+module _ (s : Surroundings) (q r : List Value) where
+  abbrev same : ℕ → Type 0
+  same j = cell_of q j ≡ cell_of r j
+
+  one : (e : (e : Expr) × Reads e) (es : Parts) → Same q r (read_all (e ∷ es)) → val e.0 s q ≡ val e.0 s r
+  one e es h = e.1 s q r (first_all same (columns_read e.0) (read_all es) h)
+
+  others : (e : (e : Expr) × Reads e) (es : Parts) → Same q r (read_all (e ∷ es)) → Same q r (read_all es)
+  others e es h = other_all same (columns_read e.0) (read_all es) h
+
+  all_values : (es : Parts) → Same q r (read_all es) → values (val_all es) s q ≡ values (val_all es) s r
+  all_values [] h = refl
+  all_values (e ∷ es) h = λ j. and_then (one e es h j) (λ v. and_then (all_values es (others e es h) j) (λ vs. Is (v ∷ vs)))
+
+  all_chosen : (es : Parts) → Same q r (read_all es) → first_chosen (val_all es) s q ≡ first_chosen (val_all es) s r
+  all_chosen [] h = refl
+  all_chosen (e ∷ []) h = one e [] h
+  all_chosen (p ∷ e ∷ es) h =
+      let h2 = others p (e ∷ es) h in
+      λ j. and_then (one p (e ∷ es) h j) (λ v. if is_yes v then one e es h2 j else all_chosen es (others e es h2) j)
+
+  all_present : (es : Parts) → Same q r (read_all es) → first_present (val_all es) s q ≡ first_present (val_all es) s r
+  all_present [] h = refl
+  all_present (e ∷ []) h = one e [] h
+  all_present (p ∷ e ∷ es) h =
+      λ j. and_then (one p (e ∷ es) h j) (λ v. if is_yes (empty_test v) then all_present (e ∷ es) (others p (e ∷ es) h) j else Is v)
+
+  all_called : (function : Function) (es : Parts) → Same q r (read_all es) → called function (val_all es) s q ≡ called function (val_all es) s r
+  all_called f.Iff es h = all_chosen es h
+  all_called f.Case es h = all_chosen es h
+  all_called f.Coalesce es h = all_present es h
+  all_called function es h = ap (λ c. and_then c (applied function s.now)) (all_values es h)
+
+  level : (y : Expr-F ((e : Expr) × Reads e))
+      → Same q r (reads_step (map-Expr Expr (List ℕ) columns_read (map-Expr ((e : Expr) × Reads e) Expr (λ e. e.0) y)))
+      → val_step (map-Expr Expr Meaning val (map-Expr ((e : Expr) × Reads e) Expr (λ e. e.0) y)) s q
+      ≡ val_step (map-Expr Expr Meaning val (map-Expr ((e : Expr) × Reads e) Expr (λ e. e.0) y)) s r
+  level (Expr-F.Literal v) h = refl
+  level (Expr-F.Column j) h = ap Is (All-head same j [] h)
+  level (Expr-F.Cell i) h = refl
+  level (Expr-F.Call function args) h = all_called function args.items h
+
+here : (y : Expr-F ((e : Expr) × Reads e)) → Reads (roll-Expr (map-Expr ((e : Expr) × Reads e) Expr (λ e. e.0) y))
+here y s q r h =
+    let x = map-Expr ((e : Expr) × Reads e) Expr (λ e. e.0) y in
+    let read = subst (λ (js : List ℕ). Same q r js) (fold-roll-Expr (List ℕ) reads_step x) h in
+    ap (λ (m : Meaning). m s q) (fold-roll-Expr Meaning val_step x) ∙ level s q r y read ∙ ap (λ (m : Meaning). m s r) (sym (fold-roll-Expr Meaning val_step x))
+
+pub reads_alone : (e : Expr) → Reads e
+reads_alone = ind-Expr Reads (λ x y is. subst (λ (z : Expr-F Expr). Reads (roll-Expr z)) is (here y))

@@ -1,0 +1,13 @@
+use Rattle.std.proofs.Common.{◌≡◌, ◌≤◌, ◌-◌, length}
+use Rattle.kq_expr.specs.Terms.{term_of}
+use Rattle.kq_scalar.specs.Val.{meaning, surroundings}
+use Rattle.kq_piecewise.proofs.Kept.{places_of, rest_of}
+use Rattle.kq_piecewise.proofs.filter.places_kept.Given as goal
+
+abbrev pub invariant-loop-from : goal.invariant-loop-from
+invariant-loop-from l =
+    let f = meaning (term_of l.condition) (surroundings l.now l.lets) in
+    (l.from ≤ length l.rows) × (places_of f l.rows ≡ rest_of f l.rows l.from l.places.items)
+
+abbrev pub decreases-loop-from : goal.decreases-loop-from
+decreases-loop-from l = length l.rows - l.from

@@ -1,0 +1,16 @@
+use Rattle.std.proofs.Common.{◌≡◌, ◌≤◌, ◌-◌, ◌++◌, drop, length, map}
+use Rattle.std.specs.List.{All}
+use Rattle.kq_computed.specs.Computed.{Is, and_then, each}
+use Rattle.kq_expr.specs.Terms.{term_of}
+use Rattle.kq_rows.specs.Chunks.{HasWidth}
+use Rattle.kq_scalar.specs.Val.{surroundings}
+use Rattle.kq_piecewise.specs.Operators.{values_at}
+use Rattle.kq_piecewise.proofs.map.map_rows.Given as goal
+
+abbrev pub invariant-loop-from : goal.invariant-loop-from
+invariant-loop-from l =
+    let f = values_at (map term_of l.exprs) (surroundings l.now l.lets) in
+    (l.from ≤ length l.rows) × (each f l.rows ≡ and_then (each f (drop l.from l.rows)) (λ others. Is (l.mapped ++ others))) × All (HasWidth (length l.exprs)) l.mapped
+
+abbrev pub decreases-loop-from : goal.decreases-loop-from
+decreases-loop-from l = length l.rows - l.from

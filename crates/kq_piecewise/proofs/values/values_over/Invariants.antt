@@ -1,0 +1,13 @@
+use Rattle.std.proofs.Common.{◌≡◌, ◌≤◌, ◌-◌, ◌++◌, drop, length}
+use Rattle.kq_computed.specs.Computed.{Is, and_then, each}
+use Rattle.kq_expr.specs.Terms.{term_of}
+use Rattle.kq_scalar.specs.Val.{meaning, surroundings}
+use Rattle.kq_piecewise.proofs.values.values_over.Given as goal
+
+abbrev pub invariant-loop-from : goal.invariant-loop-from
+invariant-loop-from l =
+    let f = meaning (term_of l.expr) (surroundings l.now l.lets) in
+    (l.from ≤ length l.rows) × (length l.values.items ≡ l.from) × (each f l.rows ≡ and_then (each f (drop l.from l.rows)) (λ others. Is (l.values.items ++ others)))
+
+abbrev pub decreases-loop-from : goal.decreases-loop-from
+decreases-loop-from l = length l.rows - l.from

@@ -1,0 +1,37 @@
+-- Pieces of rows, and the columns that expressions read of them.
+use Rattle.std.specs.Prelude.{◌≡◌, ◌+◌, ◌-◌, if◌then◌else◌, ℕ, List, [], ◌∷◌, map, get_or, take, drop}
+use Rattle.std.specs.List.{All, concat}
+use Rattle.kq_value.specs.declared.value.Value.{Value}
+use Rattle.kq_arithmetic.specs.Logic.{is_yes}
+use Rattle.kq_columnar.specs.declared.vector.Vector.{Vector}
+use Rattle.kq_columnar.specs.Vectors.{cells_of}
+use Rattle.kq_expr.specs.declared.expr.Expr.{Expr, fold-Expr}
+use Rattle.kq_expr.specs.declared.expr.Expr.TheOpen.{Expr-F}
+use Rattle.kq_scalar.specs.Val.{cell_of}
+
+abbrev pub reads_step : Expr-F (List ℕ) → List ℕ
+reads_step (Expr-F.Literal v) = []
+reads_step (Expr-F.Column j) = j ∷ []
+reads_step (Expr-F.Cell i) = []
+reads_step (Expr-F.Call function args) = concat args.items
+
+-- the numbers of the columns that an expression reads
+abbrev pub columns_read : Expr → List ℕ
+columns_read = fold-Expr (List ℕ) reads_step
+
+-- the rows from a place on, up to another
+abbrev pub piece_of : List (List Value) → ℕ → ℕ → List (List Value)
+piece_of rows from to = take (to - from) (drop from rows)
+
+-- the cells of a column
+abbrev pub column_of : ℕ → List (List Value) → List Value
+column_of j rows = map (λ r. cell_of r j) rows
+
+-- the columns with these numbers hold the cells of the rows
+abbrev pub Hold : List Vector → List (List Value) → List ℕ → Type 0
+Hold columns rows js = All (λ j. get_or (map cells_of columns) j [] ≡ column_of j rows) js
+
+-- the places of the values that are true, of which the first has this place
+abbrev pub places_true : ℕ → List Value → List ℕ
+places_true from [] = []
+places_true from (v ∷ vs) = if is_yes v then from ∷ places_true (from + 1) vs else places_true (from + 1) vs

@@ -1,0 +1,91 @@
+// The rows for which a condition is true.
+ghost use Rattle.std.specs.Prelude.{◌≡◌, ◌++◌, ◌+◌, [], ◌∷◌, if◌then◌else◌, IfOk, OnOk};
+ghost use Rattle.kq_computed.specs.Computed.{Answers, AnswersAs, Is, and_then, each};
+ghost use Rattle.kq_columnar.specs.Vectors.{cells_of};
+ghost use Rattle.kq_expr.specs.Terms.{term_of};
+ghost use Rattle.kq_scalar.specs.Val.{meaning, surroundings};
+ghost use Rattle.kq_piecewise.specs.Operators.{filtered};
+ghost use Rattle.kq_piecewise.specs.Pieces.{places_true};
+
+use crate::piece::{PIECE, eval_piece};
+use kq_arithmetic::is_yes;
+use kq_columnar::Vector;
+use kq_computed::EvalFault;
+use kq_expr::Expr;
+use kq_rows::Rows;
+use kq_value::{Memory, Value};
+use std::alloc::{AllocError, Global};
+
+/// The rows for which the condition is true, with the cells of the scalar lets and the ticks of the command's moment.
+pub fn filter_rows(
+    alloc: Global,
+    rows: &Rows,
+    condition: &Expr,
+    lets: &[Value],
+    now: i64,
+) -> Result<Rows, EvalFault>
+    ensures { Answers (filtered (term_of condition.now) (surroundings now lets.now) rows.now) result }
+{
+    match places_kept(alloc, rows, condition, lets, now) {
+        Ok(places) => Ok(rows.select(places.as_slice())?),
+        Err(fault) => Err(fault),
+    }
+}
+
+fn places_kept(
+    alloc: Global,
+    rows: &Rows,
+    condition: &Expr,
+    lets: &[Value],
+    now: i64,
+) -> Result<Vec<u32>, EvalFault>
+    ensures { AnswersAs (λ ps. ps.items) (and_then (each (meaning (term_of condition.now) (surroundings now lets.now)) rows.now) (λ vs. Is (places_true 0 vs))) result }
+{
+    let mut places = Vec::new(alloc);
+    let mut from = 0;
+    while from < rows.len() {
+        let to = rows.len().min(from + PIECE);
+        let truths = eval_piece(alloc, rows, from, to, condition, lets, now)?;
+        push_places(&mut places, truths, from)?;
+        from = to;
+    }
+    Ok(places)
+}
+
+// Puts the places of the true values last, of which the first has the place `from`.
+fn push_places(places: &mut Vec<u32>, values: Vector, from: usize) -> Result<(), Memory>
+    ensures { OnOk result (places.new.items ≡ places.old.items ++ places_true from (cells_of values)) }
+{
+    push_true(places, &values, from)
+}
+
+fn push_true(places: &mut Vec<u32>, values: &Vector, from: usize) -> Result<(), Memory>
+    ensures { OnOk result (places.new.items ≡ places.old.items ++ places_true from (cells_of values.now)) }
+{
+    for i in 0..values.len() {
+        push_if(places, is_yes(&values.cell(i)?), from, i)?;
+    }
+    Ok(())
+}
+
+fn push_if(places: &mut Vec<u32>, kept: bool, from: usize, i: usize) -> Result<(), Memory>
+    ensures { OnOk result (places.new.items ≡ places.old.items ++ (if kept then (from + i) ∷ [] else [])) }
+{
+    if kept {
+        places.push(place_of(from, i)?)?;
+    }
+    Ok(())
+}
+
+// A place as rows are selected by it: rows of larger places are more than memory holds.
+fn place_of(from: usize, i: usize) -> Result<u32, Memory>
+    ensures { IfOk result (λ p. p ≡ from + i) }
+{
+    match from.checked_add(i) {
+        Some(place) => match u32::try_from(place) {
+            Ok(place) => Ok(place),
+            Err(_) => Err(AllocError),
+        },
+        None => Err(AllocError),
+    }
+}

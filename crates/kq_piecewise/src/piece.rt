@@ -1,0 +1,50 @@
+// Expressions over one piece.
+ghost use Rattle.std.specs.Prelude.{◌≡◌, ◌≤◌, IfOk, length};
+ghost use Rattle.std.specs.List.{range_with_len};
+ghost use Rattle.kq_computed.specs.Computed.{AnswersAs, each};
+ghost use Rattle.kq_columnar.specs.Vectors.{cells_of};
+ghost use Rattle.kq_expr.specs.Terms.{term_of};
+ghost use Rattle.kq_scalar.specs.Val.{meaning, surroundings};
+ghost use Rattle.kq_piecewise.specs.Pieces.{piece_of};
+
+use crate::columns::columns_in;
+use crate::reads::columns_of;
+use kq_columnar::{Vector, eval_column};
+use kq_computed::EvalFault;
+use kq_expr::Expr;
+use kq_rows::Rows;
+use kq_value::{Memory, Value};
+use std::alloc::Global;
+use std::slice::from_ref;
+
+// The most rows of a piece.
+pub(crate) const PIECE: usize = 4096;
+
+// The values of an expression over the rows from a place on, up to another.
+pub(crate) fn eval_piece(
+    alloc: Global,
+    rows: &Rows,
+    from: usize,
+    to: usize,
+    expr: &Expr,
+    lets: &[Value],
+    now: i64,
+) -> Result<Vector, EvalFault>
+    requires { (from ≤ to) × (to ≤ length rows.now) }
+    ensures { AnswersAs cells_of (each (meaning (term_of expr.now) (surroundings now lets.now)) (piece_of rows.now from to)) result }
+{
+    let reads = columns_of(alloc, from_ref(expr))?;
+    let columns = columns_in(alloc, rows, from, to, &reads)?;
+    let places = places_below(alloc, to - from)?;
+    eval_column(alloc, expr, &columns, &places, lets, now)
+}
+
+pub(crate) fn places_below(alloc: Global, count: usize) -> Result<Vec<usize>, Memory>
+    ensures { IfOk result (λ v. v.items ≡ range_with_len 0 count) }
+{
+    let mut places = Vec::with_capacity(alloc, count)?;
+    for place in 0..count {
+        places.push(place)?;
+    }
+    Ok(places)
+}

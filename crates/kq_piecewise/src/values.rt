@@ -1,0 +1,54 @@
+// The values of an expression over rows.
+ghost use Rattle.std.specs.Prelude.{◌≡◌, ◌++◌, IfOk, OnOk, length};
+ghost use Rattle.kq_computed.specs.Computed.{AnswersAs, each};
+ghost use Rattle.kq_columnar.specs.Vectors.{cells_of};
+ghost use Rattle.kq_expr.specs.Terms.{term_of};
+ghost use Rattle.kq_scalar.specs.Val.{meaning, surroundings};
+
+use crate::piece::{PIECE, eval_piece};
+use kq_columnar::Vector;
+use kq_computed::EvalFault;
+use kq_expr::Expr;
+use kq_rows::Rows;
+use kq_value::{Memory, Value};
+use std::alloc::Global;
+
+/// The value of an expression over each row, with the cells of the scalar lets and the ticks of the command's moment.
+pub fn values_over(
+    alloc: Global,
+    rows: &Rows,
+    expr: &Expr,
+    lets: &[Value],
+    now: i64,
+) -> Result<Vec<Value>, EvalFault>
+    ensures values { AnswersAs (λ vs. vs.items) (each (meaning (term_of expr.now) (surroundings now lets.now)) rows.now) result }
+    ensures beside { IfOk result (λ vs. length vs.items ≡ length rows.now) }
+{
+    let mut values = Vec::new(alloc);
+    let mut from = 0;
+    while from < rows.len() {
+        let to = rows.len().min(from + PIECE);
+        let piece = eval_piece(alloc, rows, from, to, expr, lets, now)?;
+        push_cells(&mut values, piece)?;
+        from = to;
+    }
+    Ok(values)
+}
+
+fn push_cells(values: &mut Vec<Value>, vector: Vector) -> Result<(), Memory>
+    ensures { OnOk result (values.new.items ≡ values.old.items ++ cells_of vector) }
+{
+    match vector {
+        Vector::Cells(mut cells) => values.append(&mut cells),
+        numbers => push_each(values, &numbers),
+    }
+}
+
+fn push_each(values: &mut Vec<Value>, vector: &Vector) -> Result<(), Memory>
+    ensures { OnOk result (values.new.items ≡ values.old.items ++ cells_of vector.now) }
+{
+    for i in 0..vector.len() {
+        values.push(vector.cell(i)?)?;
+    }
+    Ok(())
+}
