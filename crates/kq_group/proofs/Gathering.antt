@@ -1,0 +1,57 @@
+-- The states of an aggregate as rows come.
+use Rattle.std.proofs.Common.{◌≡◌, ◌<◌, ◌≤◌, ◌+◌, inl, inr, ℕ, List, [], ◌∷◌, ◌++◌, length, map, get_or, take, refl, sym, ap, ◌∙◌, subst, arith}
+use Rattle.std.proofs.lemmas.Bool.{cases_eq}
+use Rattle.kq_agg.specs.Holds.{Kept, Holds}
+use Rattle.kq_agg.specs.Steps.{kept_at, of_group, Grows, TakesIn}
+use Rattle.kq_agg.specs.Tables.{Numbered, SameShape}
+use Rattle.kq_agg.specs.declared.kind.Kind.{Kind}
+use Rattle.kq_value.specs.declared.value.Value.{Value}
+use Rattle.std.proofs.lemmas.List.{map-append, take_more}
+use Rattle.kq_group.specs.Grouped.{Aggregating}
+use Rattle.kq_group.specs.Groups.{Gathers, IsFresh, Lengthens, shape_of}
+
+-- a fact on what an aggregate keeps, of another of its kind
+moved : (k l : Kind) (rows : List (List Value)) (a b : Kept) → k ≡ l → a ≡ b → Holds k rows b → Holds l rows a
+moved k l rows a b same is h = subst (λ (m : Kind). Holds m rows a) same (subst (Holds k rows) (sym is) h)
+
+pub Lengthens-none : (s : Numbered) → Lengthens (length s.kept) s s
+Lengthens-none s = record { shape = (refl, refl); count_is = refl; others = λ h l. refl; fresh = λ h l m. absurd (omega (arith, l, m)) }
+
+-- one group more
+pub Lengthens-more : (s m t : Numbered) → Lengthens (length m.kept) s m → length s.kept ≤ length m.kept → SameShape m t → Grows m.kind m.kept t.kept → Lengthens (length t.kept) s t
+Lengthens-more s m t l longer shape g = record {
+  shape = (shape.0 ∙ l.shape.0, shape.1 ∙ l.shape.1);
+  count_is = refl;
+  others = λ h below. g.others h (omega (arith, below, longer)) ∙ l.others h below;
+  fresh = λ h past within. elim (cases_eq h (length m.kept)) [
+    | inl last ↦ subst (λ (i : ℕ). Holds s.kind [] (kept_at t.kept i)) (sym last) (moved m.kind s.kind [] (kept_at t.kept (length m.kept)) _ l.shape.0 refl g.fresh)
+    | inr other ↦
+        let below : h < length m.kept = let n = g.count in omega (arith, n, within, other) in
+        moved s.kind s.kind [] (kept_at t.kept h) (kept_at m.kept h) refl (g.others h below) (l.fresh h past below)
+  ];
+}
+
+-- and then rows
+pub Gathers-rows : (s m t : Numbered) (count : ℕ) (ns : List ℕ) (rows : List (List Value)) → Lengthens count s m → length s.kept ≤ count → SameShape m t → TakesIn m.kind ns rows m.kept t.kept → Gathers ns rows count s t
+Gathers-rows s m t count ns rows l longer shape takes = record {
+  shape = (shape.0 ∙ l.shape.0, shape.1 ∙ l.shape.1);
+  count_is = takes.count ∙ l.count_is;
+  more = λ h before below holds.
+      subst (λ (k : Kind). Holds k (before ++ of_group h ns rows) (kept_at t.kept h)) l.shape.0
+      (takes.more h before (let n = l.count_is in omega (arith, n, below, longer)) (moved s.kind m.kind before (kept_at m.kept h) (kept_at s.kept h) (sym l.shape.0) (l.others h below) holds));
+  fresh = λ h past within.
+      subst (λ (k : Kind). Holds k (of_group h ns rows) (kept_at t.kept h)) l.shape.0
+      (takes.more h [] (let n = l.count_is in omega (arith, n, within)) (moved s.kind m.kind [] (kept_at m.kept h) _ (sym l.shape.0) refl (l.fresh h past within)));
+}
+
+pub IsFresh-new : (s t : Numbered) (count : ℕ) → s.kept ≡ [] → Lengthens count s t → IsFresh count t
+IsFresh-new s t count none l = record {
+  count_is = l.count_is;
+  fresh = λ h within. subst (λ (k : Kind). Holds k [] (kept_at t.kept h)) (sym l.shape.0) (l.fresh h (let n = ap length none in omega (arith, n)) within);
+}
+
+-- the states of one aggregate more
+pub shapes_more : (states : List Numbered) (s : Numbered) (aggregates : List Aggregating) (i : ℕ) (a : Aggregating) → i < length aggregates → a ≡ get_or aggregates i a → shape_of s ≡ a → map shape_of states ≡ take i aggregates
+    → map shape_of (states ++ s ∷ []) ≡ take (i + 1) aggregates
+shapes_more states s aggregates i a h is same before =
+    map-append shape_of states (s ∷ []) ∙ ap (λ (others : List Aggregating). others ++ shape_of s ∷ []) before ∙ ap (λ (b : Aggregating). take i aggregates ++ b ∷ []) (same ∙ is) ∙ sym (take_more aggregates i a h)

@@ -1,0 +1,5 @@
+pub mod Finishing
+pub mod Gathering
+pub mod Groupings
+pub mod Search
+pub mod Tables

@@ -1,0 +1,16 @@
+use Rattle.kq_group.specs.Groups.{rows_from}
+use Rattle.kq_group.proofs.Finishing.{EndsWide-added, Grouped-added, IsGrouped-from, fit-states, length-fit}
+use Rattle.kq_group.proofs.groups.group_rows.Goals as goal
+
+pub add-requires-clause-each : goal.add-requires-clause-each
+add-requires-clause-each c =
+    let groups = c.in_ok-groups.groups in
+    length-fit groups.states c.args.args.now (fit-states c.args.aggregates.now groups.states c.args.args.now c.in_ok-groups.ensures.shapes c.requires.fit)
+
+pub rows-requires-clause-wide : goal.rows-requires-clause-wide
+rows-requires-clause-wide c = EndsWide-added c.args.width c.args.aggregates.now c.args.keys.now c.args.args.now c.in_ok-groups.groups c.add.new.self c.in_ok-groups.ensures c.in_ok-add.ensures c.requires.fit
+
+pub returns : goal.returns
+returns c =
+    IsGrouped-from c.args.width c.args.aggregates.now c.args.keys.now c.args.args.now (rows_from c.add.new.self.states c.add.new.self.keys 0) c.rows.result
+    (Grouped-added c.args.width c.args.aggregates.now c.args.keys.now c.args.args.now c.in_ok-groups.groups c.add.new.self c.in_ok-groups.ensures c.in_ok-add.ensures c.requires.fit) c.rows.ensures

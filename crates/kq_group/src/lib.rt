@@ -1,0 +1,11 @@
+//! Groups of rows by their keys: the different keys with their numbers, and for each the states of the aggregates. What an aggregate keeps and ends with, and the values of keys and arguments over a row, are left to other crates.
+#![tactic(auto)]
+
+mod aggregated;
+mod cells;
+mod gathered;
+mod groups;
+mod key_table;
+
+pub use aggregated::Aggregated;
+pub use groups::{Groups, group_rows};
