@@ -1,9 +1,9 @@
 -- What lets and queries are bound to.
 use Rattle.std.specs.Prelude.{ℕ, Bool, true, false, ◌&&◌, ◌||◌, not, List, [], ◌∷◌, ◌++◌, Option, Some, None, Ok, Err, is_some, if◌then◌else◌}
-use Rattle.kq_bind.specs.Flows.{Progressing, Flowing, following}
+use Rattle.kq_bind_steps.specs.Flows.{Progressing, Flowing, following}
 use Rattle.kq_bind.specs.Pipes.{tabular}
-use Rattle.kq_bind.specs.Scopes.{Scoping, Tabling, names, tabling_named}
-use Rattle.kq_bind.specs.Unsupported.{unsupported_query}
+use Rattle.kq_bind_steps.specs.Scopes.{Scoping, Tabling, names, tabling_named}
+use Rattle.kq_bind_supported.specs.Unsupported.{unsupported_query}
 use Rattle.kq_bind_columns.specs.Items.{field}
 use Rattle.kq_bind_columns.specs.Naming.{is_taken}
 use Rattle.kq_bind_expression.specs.Bound.{bound}

@@ -1,28 +1,8 @@
 -- What the code has made, as the definitions speak of it.
-use Rattle.std.specs.Prelude.{ℕ, List, Option, map}
-use denote.Ref.{Bor}
-use Rattle.kq_bind.specs.declared.flow.Flow.{Flow}
-use Rattle.kq_bind.specs.declared.flow.Progress.{Progress}
+use Rattle.std.specs.Prelude.{map}
 use Rattle.kq_bind.specs.declared.lets.Lets.{Lets}
-use Rattle.kq_bind.specs.declared.scope.Scope.{Scope}
-use Rattle.kq_bind.specs.declared.scope.TabularLet.{TabularLet}
-use Rattle.kq_bind.specs.Flows.{Progressing, Flowing}
 use Rattle.kq_bind.specs.Queries.{Letting}
-use Rattle.kq_bind.specs.Scopes.{Scoping, Tabling}
-use Rattle.kq_plan.specs.Names.{Known}
-use Rattle.kq_plan.specs.Plans.{stepping_of}
-
-abbrev pub progress_of : Progress → Progressing
-progress_of p = record { steps = map stepping_of p.steps.items; stages = p.stages }
-
-abbrev pub flow_of : Flow → Flowing
-flow_of w = record { progress = progress_of w.progress; input = w.input }
-
-abbrev pub tabling_of : TabularLet → Tabling
-tabling_of t = record { name = t.name; input = t.input }
-
-abbrev pub scoping_of : {N : Type 0} → (N → List ℕ → Option Known) → Scope N → Scoping
-scoping_of known s = record { text = s.text.now; lets = s.lets.now; tables = map tabling_of s.tables.now; known = known s.names.now }
+use Rattle.kq_bind_steps.specs.Seen.{progress_of, tabling_of}
 
 abbrev pub letting_of : Lets → Letting
 letting_of l = record { progress = progress_of l.progress; lets = l.scalars.items; tables = map tabling_of l.tables.items }

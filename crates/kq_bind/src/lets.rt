@@ -1,19 +1,19 @@
 // Lets, one after another.
 ghost use Rattle.std.specs.Prelude.{◌≡◌, ◌||◌, Ok, IfOk, is_some, map};
-ghost use Rattle.kq_bind.specs.Scopes.{tabling_named};
+ghost use Rattle.kq_bind_steps.specs.Scopes.{tabling_named};
 ghost use Rattle.kq_bind.specs.Queries as the;
-ghost use Rattle.kq_bind.specs.Seen.{letting_of, flow_of, tabling_of};
+ghost use Rattle.kq_bind.specs.Seen.{letting_of};
+ghost use Rattle.kq_bind_steps.specs.Seen.{flow_of, tabling_of};
 ghost use Rattle.kq_bind_columns.specs.Naming.{is_taken};
 ghost use Rattle.kq_bind_expression.specs.Verdicts.{Answers};
 ghost use Rattle.kq_expr.specs.Terms.{typed_of};
 ghost use Rattle.kq_grammar.specs.TabularViews.{tabular_of, right_of, let_of};
 ghost use Rattle.kq_grammar.specs.Views.{tree_of};
 
-use crate::flow::{Flow, Progress, following};
 use crate::pipe::bind_tabular;
-use crate::scope::{Scope, TabularLet, tabular_let};
 use kq_bind_columns::is_taken as field_is_taken;
 use kq_bind_expression::{BindFault, bind_expression};
+use kq_bind_steps::{Flow, Progress, Scope, TabularLet, following, tabular_let};
 use kq_expr::Typed;
 use kq_grammar::{Expression, Let, LetRight, Name, Tabular};
 use kq_plan::{Names, Work};

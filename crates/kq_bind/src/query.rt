@@ -7,9 +7,9 @@ ghost use Rattle.kq_plan.specs.Plans.{planned_of};
 
 use crate::lets::{Lets, lets_made, no_lets};
 use crate::pipe::bind_tabular;
-use crate::scope::Scope;
-use crate::unsupported::in_query;
 use kq_bind_expression::BindFault;
+use kq_bind_steps::Scope;
+use kq_bind_supported::unsupported_in_query;
 use kq_grammar::Query;
 use kq_plan::{Names, Plan};
 use std::alloc::Global;
@@ -53,7 +53,7 @@ pub fn bind<N: Names>(
 ) -> Result<Plan, BindFault>
     ensures { Answers planned_of (query_bound text.now (N.known names.now) (query_of query.now)) result }
 {
-    match in_query(text, query) {
+    match unsupported_in_query(text, query) {
         Some(at) => Err(BindFault::Unsupported { at }),
         None => bind_supported(alloc, text, query, names),
     }

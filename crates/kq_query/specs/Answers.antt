@@ -1,6 +1,6 @@
 -- The replies to queries.
 use Rattle.std.specs.Prelude.{◌≡◌, ◌⊎◌, ℕ, ℤ, List, Ok, Err, MatchBool}
-use Rattle.kq_bind.specs.Flows.{columns_at}
+use Rattle.kq_bind_steps.specs.Flows.{columns_at}
 use Rattle.kq_bind.specs.Queries.{query_bound}
 use Rattle.kq_bind_expression.specs.declared.fault.BindFault.{BindFault}
 use Rattle.kq_bind_expression.specs.declared.fault.BindFault.TheVariants as faults

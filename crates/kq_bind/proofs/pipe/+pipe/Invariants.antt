@@ -1,6 +1,6 @@
 use Rattle.std.proofs.Common.{◌≡◌, drop, map}
 use Rattle.kq_bind.specs.Pipes.{piped, gathered}
-use Rattle.kq_bind.specs.Seen.{flow_of, progress_of, scoping_of}
+use Rattle.kq_bind_steps.specs.Seen.{flow_of, progress_of, scoping_of}
 use Rattle.kq_bind.proofs.pipe.+pipe.Given as goal
 use Rattle.kq_grammar.specs.TabularViews.{arm_of, arms_of, operator_of, operators_of}
 

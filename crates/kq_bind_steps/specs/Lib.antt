@@ -1,0 +1,5 @@
+pub mod Flows
+pub mod Scopes
+pub mod Operators
+pub mod Clauses
+pub mod Seen

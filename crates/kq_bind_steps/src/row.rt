@@ -1,0 +1,29 @@
+// `print`: one row.
+ghost use Rattle.std.specs.Prelude.{◌≡◌, ◌∷◌, map};
+ghost use Rattle.kq_bind_steps.specs.Operators.{printed_row as the_printed_row};
+ghost use Rattle.kq_bind_steps.specs.Seen.{flow_of, progress_of, scoping_of};
+ghost use Rattle.kq_bind_expression.specs.Verdicts.{Answers};
+ghost use Rattle.kq_grammar.specs.Views.{item_view};
+
+use crate::flow::{Flow, Progress, following};
+use crate::scope::{Scope, expression_scope};
+use kq_bind_columns::printed;
+use kq_bind_expression::BindFault;
+use kq_grammar::Item;
+use kq_plan::{Names, Work};
+use std::alloc::Global;
+
+/// `print`: one row.
+pub fn printed_row<N: Names>(
+    alloc: Global,
+    scope: &Scope<N>,
+    progress: Progress,
+    first: &Item,
+    others: &[Item],
+) -> Result<Flow, BindFault>
+    ensures { Answers flow_of (the_printed_row (scoping_of N.known scope.now) (progress_of progress) (item_view first.now ∷ map item_view others.now)) result }
+{
+    let seen = expression_scope(scope);
+    let made = printed(alloc, &seen, first, others)?;
+    following(progress, Work::Row(made.exprs), made.fields)
+}
