@@ -2,7 +2,7 @@
 ghost use Rattle.std.specs.Prelude.{◌≡◌, ◌↔◌, ◌<◌, ◌++◌, ◌^◌, [], IfOk, IfSome, IsNone, OnOk, OnErr, Some, length, map, slice_get, take};
 ghost use Rattle.std.specs.List.{All, range_with_len};
 ghost use Rattle.kq_value.specs.Typed.{HasTypes};
-ghost use Rattle.kq_rows.specs.Chunks.{same_width};
+ghost use Rattle.kq_rows.specs.Chunks.{row_at, same_width};
 ghost use Rattle.kq_column.specs.Bounds.{AreBounds};
 ghost use Rattle.kq_column.specs.Cells.{column_of, IsAtMost};
 ghost use Rattle.kq_extent.specs.Cells.{cells_of};
@@ -77,6 +77,18 @@ impl Columns {
             self.columns[column].zone()
         } else {
             None
+        }
+    }
+
+    /// The cell of a row in a column, or none where there is no such column.
+    pub fn cell(&self, index: usize, column: usize) -> Result<Option<Value>, Memory>
+        requires { index < length self.now }
+        ensures { IfOk result (λ cell. cell ≡ slice_get (row_at self.now index) column) }
+    {
+        if column < self.columns.len() {
+            Ok(Some(self.columns[column].cell(index)?))
+        } else {
+            Ok(None)
         }
     }
 

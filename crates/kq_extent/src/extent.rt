@@ -1,6 +1,6 @@
 // Extents.
-ghost use Rattle.std.specs.Prelude.{◌≡◌, ◌↔◌, ◌<◌, ◌≤◌, ◌++◌, ◌^◌, [], IfSome, IsNone, IsTrue, OnOk, OnErr, Some, length, map, slice_get};
-ghost use Rattle.kq_rows.specs.Chunks.{same_width};
+ghost use Rattle.std.specs.Prelude.{◌≡◌, ◌↔◌, ◌<◌, ◌≤◌, ◌++◌, ◌^◌, [], IfOk, IfSome, IsNone, IsTrue, OnOk, OnErr, Some, length, map, slice_get};
+ghost use Rattle.kq_rows.specs.Chunks.{row_at, same_width};
 ghost use Rattle.kq_column.specs.Bounds.{AreBounds};
 ghost use Rattle.kq_column.specs.Cells.{IsAtMost};
 ghost use Rattle.kq_extent.specs.Cells.{cells_at, cursors_of};
@@ -91,6 +91,14 @@ impl Extent {
         ensures { result.now ≡ self.now.tags }
     {
         &self.tags
+    }
+
+    /// The cell of a record in a column, or none where there is no such column.
+    pub fn cell(&self, index: usize, column: usize) -> Result<Option<Value>, Memory>
+        requires { index < length self.now.records }
+        ensures { IfOk result (λ cell. cell ≡ slice_get (row_at (map row_of self.now.records) index) column) }
+    {
+        self.columns.cell(index, column)
     }
 
     /// Adds the rows of all records behind others.
