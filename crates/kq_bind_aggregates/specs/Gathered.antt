@@ -27,14 +27,15 @@ abbrev pub put_defaults : List Field → List Field → List Field
 put_defaults fields [] = fields
 put_defaults fields (c ∷ cs) = put_defaults (fields ++ field (free_name fields [] c.name) c.ty ∷ []) cs
 
-abbrev pub put_given : List ℕ → List Field → Name → Field → Verdict (List Field)
-put_given text fields n c = if is_taken fields (name_said text n) then Err (mistyped (name_place n)) else Ok (fields ++ field (name_said text n) c.ty ∷ [])
+-- the first has this name, if there is one
+abbrev pub put_named : List Field → List ℕ → List Field → List Field
+put_named fields said [] = fields
+put_named fields said (c ∷ cs) = put_defaults (fields ++ field said c.ty ∷ []) cs
 
--- a given name is that of the first column
+-- a given name is that of the first column, and no column may have it before
 abbrev pub put_columns : List ℕ → List Field → Option Name → List Field → Verdict (List Field)
 put_columns text fields None cs = Ok (put_defaults fields cs)
-put_columns text fields (Some n) [] = Ok fields
-put_columns text fields (Some n) (c ∷ cs) = and_then (put_given text fields n c) (λ gs. Ok (put_defaults gs cs))
+put_columns text fields (Some n) cs = if is_taken fields (name_said text n) then Err (mistyped (name_place n)) else Ok (put_named fields (name_said text n) cs)
 
 abbrev pub gathered : List ℕ → Gathering → Option Name → Aggregated → Verdict Gathering
 gathered text g n x = and_then (put_columns text g.fields n x.1) (λ fields. Ok (record { aggregates = g.aggregates ++ x.0 ∷ []; fields = fields }))

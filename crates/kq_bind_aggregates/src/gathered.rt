@@ -15,7 +15,7 @@ use kq_bind_expression::{BindFault, Scope};
 use kq_grammar::Name;
 use kq_plan::Aggregate;
 use kq_spelled::{name_place, name_text, piece};
-use kq_value::{Field, Memory};
+use kq_value::{Field, Memory, Text};
 use std::alloc::Global;
 
 /// What the aggregates of a summarize do, and its columns: those of the keys, and behind them those of the aggregates.
@@ -119,37 +119,34 @@ fn put_columns(
 {
     match given {
         None => Ok(put_defaults(alloc, before, columns)?),
-        Some(name) => match columns {
-            [] => Ok(before),
-            [first, others @ ..] => {
-                let fields = put_given(alloc, text, before, name, first)?;
-                Ok(put_defaults(alloc, fields, others)?)
+        Some(name) => {
+            let said = name_text(alloc, text, name)?;
+            if is_taken(&before, said.as_str()) {
+                Err(BindFault::Mistyped {
+                    at: name_place(name),
+                })
+            } else {
+                Ok(put_named(alloc, before, said, columns)?)
             }
-        },
+        }
     }
 }
 
-fn put_given(
+fn put_named(
     alloc: Global,
-    text: &str,
     before: Vec<Field>,
-    name: Name,
-    column: &Field,
-) -> Result<Vec<Field>, BindFault>
-    ensures { Answers fields_of (the.put_given text.now before.items name column.now) result }
+    name: Text,
+    columns: &[Field],
+) -> Result<Vec<Field>, Memory>
+    ensures { IfOk result (λ v. v.items ≡ the.put_named before.items name columns.now) }
 {
-    let given = name_text(alloc, text, name)?;
-    if is_taken(&before, given.as_str()) {
-        Err(BindFault::Mistyped {
-            at: name_place(name),
-        })
-    } else {
-        let mut fields = before;
-        fields.push(Field {
-            name: given,
-            ty: column.ty,
-        })?;
-        Ok(fields)
+    match columns {
+        [] => Ok(before),
+        [first, others @ ..] => {
+            let mut fields = before;
+            fields.push(Field { name, ty: first.ty })?;
+            put_defaults(alloc, fields, others)
+        }
     }
 }
 

@@ -3,7 +3,7 @@ use Rattle.std.specs.Prelude.{if◌then◌else◌, ℕ, true, List, [], ◌∷�
 use Rattle.kq_bind_steps.specs.Flows.{Progressing, Flowing, columns, columns_at, after, following, added}
 use Rattle.kq_bind_steps.specs.Operators.{row_number}
 use Rattle.kq_bind_steps.specs.Scopes.{Scoping, names}
-use Rattle.kq_bind_aggregates.specs.Gathered.{Gathering, aggregates_made}
+use Rattle.kq_bind_aggregates.specs.Gathered.{Gathering, no_aggregate, aggregates_made}
 use Rattle.kq_bind_clauses.specs.Joins.{join_columns, on_keys}
 use Rattle.kq_bind_clauses.specs.Ranges.{Ranging, ranged, range_column}
 use Rattle.kq_bind_clauses.specs.Sorts.{sort_key, sort_keys}
@@ -50,9 +50,6 @@ topped_by s w t k = and_then (row_number s t) (λ n. and_then (sort_key (names s
 
 -- ---- groups
 
-abbrev pub keys_gathered : List Field → Gathering
-keys_gathered fields = record { aggregates = []; fields = fields }
-
 abbrev pub summarized_by : Flowing → List Term → Gathering → Flowing
 summarized_by w keys g = after w (λ i. summarized i keys g.aggregates) g.fields
 
@@ -60,7 +57,7 @@ summarized_by w keys g = after w (λ i. summarized i keys g.aggregates) g.fields
 abbrev pub grouped : Scoping → Flowing → List AggregateTree → List ItemTree → Verdict Flowing
 grouped s w aggs is =
     and_then (items_made (names s) (columns w) [] true nothing_made is) (λ m.
-    and_then (aggregates_made (names s) (columns w) m.fields (keys_gathered m.fields) aggs) (λ g. Ok (summarized_by w m.terms g)))
+    and_then (aggregates_made (names s) (columns w) m.fields (no_aggregate m.fields) aggs) (λ g. Ok (summarized_by w m.terms g)))
 
 abbrev pub grouping_items : Option GroupingTree → List ItemTree
 grouping_items None = []

@@ -14,7 +14,7 @@ ghost use Rattle.kq_grammar.specs.Views.{aggregate_view, grouping_view};
 
 use crate::flow::{Flow, columns, following};
 use crate::scope::{Scope, expression_scope};
-use kq_bind_aggregates::{Gathered, aggregates_made};
+use kq_bind_aggregates::{Gathered, aggregates_made, no_aggregate};
 use kq_bind_columns::{Made, all_made, nothing_made};
 use kq_bind_expression::BindFault;
 use kq_expr::Expr;
@@ -97,9 +97,5 @@ pub fn grouped_by<N: Names>(
         &keys.first,
         &keys.others,
     )?;
-    let gathered = Gathered {
-        aggregates: Vec::new(alloc),
-        fields: made.fields,
-    };
-    summarized_by(flow, made.exprs, gathered)
+    summarized_by(flow, made.exprs, no_aggregate(alloc, made.fields))
 }

@@ -1,11 +1,11 @@
 -- What a summarize adds is a step that fits.
 use Rattle.std.proofs.Common.{◌≡◌, ◌≢◌, ℕ, Bool, true, false, cond, List, [], ◌∷◌, ◌++◌, map, Option, Some, None, Ok, Err, refl, sym, ap, ◌∙◌, subst, append_assoc, append-nil}
-use Rattle.kq_bind_steps.specs.Clauses.{keys_gathered, summarized_by, grouped}
+use Rattle.kq_bind_steps.specs.Clauses.{summarized_by, grouped}
 use Rattle.kq_bind_steps.specs.Flows.{Flowing, columns}
 use Rattle.kq_bind_steps.specs.Scopes.{Scoping, names}
 use Rattle.kq_bind_aggregates.specs.Arguments.{all_argued, unkeyed}
 use Rattle.kq_bind_aggregates.specs.Functions.{aggregate_named}
-use Rattle.kq_bind_aggregates.specs.Gathered.{Gathering, put_defaults, put_given, put_columns, gathered, aggregate_made, each_made, aggregates_made}
+use Rattle.kq_bind_aggregates.specs.Gathered.{Gathering, no_aggregate, put_defaults, put_named, put_columns, gathered, aggregate_made, each_made, aggregates_made}
 use Rattle.kq_bind_aggregates.specs.Made.{Aggregated, made}
 use Rattle.kq_bind_columns.specs.Items.{field, nothing_made, items_made}
 use Rattle.kq_bind_columns.specs.Naming.{is_taken, free_name}
@@ -71,24 +71,19 @@ defaults_put fields (c ∷ cs) =
     let more = defaults_put (fields ++ f ∷ []) cs in
     (f ∷ more.0, more.1 ∙ append_assoc fields (f ∷ []) more.0, ap (λ (ts : List Ty). c.ty ∷ ts) more.2)
 
-given_put : (text : List ℕ) (fields : List Field) (n : Name) (c : Field) (gs : List Field) → put_given text fields n c ≡ Ok gs
-    → fields ++ field (name_said text n) c.ty ∷ [] ≡ gs
-given_put text fields n c gs e = by (is_taken fields (name_said text n)) e where
-  by : (b : Bool) → cond {A = Verdict (List Field)} b (Err (mistyped (name_place n))) (done (fields ++ field (name_said text n) c.ty ∷ [])) ≡ Ok gs
-      → fields ++ field (name_said text n) c.ty ∷ [] ≡ gs
-  by true k = absurd (cc)
-  by false k = done_is (fields ++ field (name_said text n) c.ty ∷ []) gs k
+named_put : (fields : List Field) (said : List ℕ) (cs : List Field) → IsPut fields cs (put_named fields said cs)
+named_put fields said [] = ([], sym (append-nil fields), refl)
+named_put fields said (c ∷ cs) =
+    let f = field said c.ty in
+    let more = defaults_put (fields ++ f ∷ []) cs in
+    (f ∷ more.0, more.1 ∙ append_assoc fields (f ∷ []) more.0, ap (λ (ts : List Ty). c.ty ∷ ts) more.2)
 
 columns_put : (text : List ℕ) (fields : List Field) (o : Option Name) (cs gs : List Field) → put_columns text fields o cs ≡ Ok gs → IsPut fields cs gs
 columns_put text fields None cs gs e = subst (IsPut fields cs) (done_is (put_defaults fields cs) gs e) (defaults_put fields cs)
-columns_put text fields (Some n) [] gs e = subst (IsPut fields []) (done_is fields gs e) ([], sym (append-nil fields), refl)
-columns_put text fields (Some n) (c ∷ cs) gs e =
-    let f = field (name_said text n) c.ty in
-    let hs = then_ok (put_given text fields n c) (λ hs. done (put_defaults hs cs)) gs e in
-    let all : put_defaults (fields ++ f ∷ []) cs ≡ gs =
-    ap (λ (x : List Field). put_defaults x cs) (given_put text fields n c hs.0 hs.1) ∙ done_is (put_defaults hs.0 cs) gs hs.2 in
-    let more = defaults_put (fields ++ f ∷ []) cs in
-    subst (IsPut fields (c ∷ cs)) all (f ∷ more.0, more.1 ∙ append_assoc fields (f ∷ []) more.0, ap (λ (ts : List Ty). c.ty ∷ ts) more.2)
+columns_put text fields (Some n) cs gs e = by (is_taken fields (name_said text n)) e where
+  by : (b : Bool) → cond {A = Verdict (List Field)} b (Err (mistyped (name_place n))) (done (put_named fields (name_said text n) cs)) ≡ Ok gs → IsPut fields cs gs
+  by true k = absurd (cc)
+  by false k = subst (IsPut fields cs) (done_is (put_named fields (name_said text n) cs) gs k) (named_put fields (name_said text n) cs)
 
 -- ---- one aggregate after another
 
@@ -138,10 +133,10 @@ pub grouped_goes : (s : Scoping) (ss : List Stepping) (w v : Flowing) (aggs : Li
 grouped_goes s ss w v aggs is g e =
     let cs = columns w in
     let m = then_ok (items_made (names s) cs [] true nothing_made is)
-    (λ m. and_then (aggregates_made (names s) cs m.fields (keys_gathered m.fields) aggs) (λ h. done (summarized_by w m.terms h))) v e in
-    let h = then_ok (aggregates_made (names s) cs m.0.fields (keys_gathered m.0.fields) aggs) (λ h. done (summarized_by w m.0.terms h)) v m.2 in
+    (λ m. and_then (aggregates_made (names s) cs m.fields (no_aggregate m.fields) aggs) (λ h. done (summarized_by w m.terms h))) v e in
+    let h = then_ok (aggregates_made (names s) cs m.0.fields (no_aggregate m.0.fields) aggs) (λ h. done (summarized_by w m.0.terms h)) v m.2 in
     let keys = items_good (names s) cs [] true nothing_made is m.0 (nothing_is_made s.lets cs true) m.1 in
-    let more = each_fits (names s) cs m.0.fields (unkeyed 0 cs m.0.fields) (keys_gathered m.0.fields) aggs h.0 (unkeyed_there cs m.0.fields)
+    let more = each_fits (names s) cs m.0.fields (unkeyed 0 cs m.0.fields) (no_aggregate m.0.fields) aggs h.0 (unkeyed_there cs m.0.fields)
     ([], sym (append-nil m.0.fields), refl) h.1 in
     let typed = over_lets s w.progress.steps (λ ls. AreTyped ls cs m.0.terms m.0.fields) g.holds keys.typed in
     let fit = over_lets s w.progress.steps (λ ls. FitAggregates ls cs h.0.aggregates more.0) g.holds more.2 in
