@@ -1,9 +1,10 @@
 -- One state of a table changes.
-use Rattle.std.proofs.Common.{◌≡◌, ◌<◌, ℕ, List, Result, length, map, get_or, sym, ap, ◌∙◌}
-use Rattle.std.specs.Prelude.{OnOk}
+use Rattle.std.proofs.Common.{◌≡◌, ◌<◌, ℕ, List, Result, length, map, get_or, sym, ap, ◌∙◌, subst}
+use Rattle.std.specs.Prelude.{OnOk, OnErr}
+use Rattle.std.proofs.Math.Seq.{map-set_same}
 use Rattle.std.proofs.Math.ListN.{set}
 use Rattle.std.proofs.lemmas.List.{get_or-map, get_or-set_same, get_or-set_other, map-set, length-set, length-map}
-use Rattle.std.proofs.lemmas.Result.{on_ok_weaker}
+use Rattle.std.proofs.lemmas.Result.{on_ok_weaker, on_err_weaker}
 use Rattle.kq_agg.specs.Holds.{Kept, counted}
 use Rattle.kq_agg.specs.Steps.{ChangesAt, kept_at}
 
@@ -25,3 +26,10 @@ module _ {X : Type 0} (f : X → Kept) (R : Kept → Kept → Type 0) (xs : List
 -- what is kept of a group is that of its state
 pub kept_at-map : {X : Type 0} (f : X → Kept) (xs : List X) (g : ℕ) (x : X) → g < length (map f xs) → x ≡ get_or xs g x → kept_at (map f xs) g ≡ f x
 kept_at-map f xs g x h at = get_or-map f xs g x (counted 0) (rw (length-map xs f) at h) ∙ ap f (sym at)
+
+-- where the state is as it was if it was refused
+pub Unchanged-err : {X T E P : Type 0} (f : X → Kept) (May : Kept → Type 0) (xs : List X) (g : ℕ) (x y : X) (r : Result T E) → g < length (map f xs) → x ≡ get_or xs g x
+    → OnErr r P → (P → (y ≡ x) × May (f x)) → OnErr r ((map f (set xs g y) ≡ map f xs) × May (kept_at (map f xs) g))
+Unchanged-err f May xs g x y r h at q why = on_err_weaker r
+    (λ p. (map-set_same f xs g y x (ap f ((why p).0 ∙ at)), subst May (sym (kept_at-map f xs g x h at)) (why p).1))
+    q

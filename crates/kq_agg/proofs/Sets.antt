@@ -1,8 +1,8 @@
 -- Sets of different values, with more values.
-use Rattle.std.proofs.Common.{◌≡◌, ◌<◌, ◌≤◌, ℕ, Bool, true, false, cond, List, [], ◌∷◌, ◌++◌, ◌⊎◌, inl, inr, length, refl, arith}
+use Rattle.std.proofs.Common.{◌≡◌, ◌<◌, ◌≤◌, ℕ, Bool, true, false, cond, nat_lt, List, [], ◌∷◌, ◌++◌, ◌⊎◌, inl, inr, length, take, refl, ap, ◌∙◌, arith}
 use Rattle.std.proofs.lemmas.Bool.Decides.{nat_tests}
 use Rattle.std.specs.List.{All, Contains, IsDistinct, list_any}
-use Rattle.std.proofs.lemmas.List.{length_push}
+use Rattle.std.proofs.lemmas.List.{length_push, length-take, take-append-le}
 use Rattle.std.proofs.lemmas.List.Elements.{All-nil, All-append, All-push, All-weaker, All-contains, All-contains_itself, Contains-append_left, Contains-append_right, Contains-append_cases, Contains-push}
 use Rattle.std.proofs.lemmas.Map.Keys.{IsDistinct-push}
 use Rattle.std.proofs.lemmas.Map.Made.{length-le_from_is_member}
@@ -60,6 +60,17 @@ unfolding IsDistinct
 IsSetOf-none n = record { distinct = tt; within = All-nil _; bounded = omega arith; complete = λ less. All-nil _ }
 
 -- ---- one set's values put into another
+
+-- what stands in front stays there
+pub front-with_value : (n : ℕ) (old set : List Value) (v : Value) → take (length old) set ≡ old → take (length old) (with_value n set v) ≡ old
+front-with_value n old set v e = kept (nat_lt (length set) n) (list_any (is_same v) set)
+  where
+    kept : (a b : Bool) → take (length old) (cond a (cond b set (set ++ v ∷ [])) set) ≡ old
+    kept true true = e
+    kept true false =
+        let long : length (take (length old) set) ≡ length old = ap length e in
+        take-append-le (length old) set (v ∷ []) (omega (arith, length-take (length old) set)) ∙ e
+    kept false b = e
 
 -- what stands for values and for a set of others stands for those others
 fewer : (n : ℕ) (ws t u : List Value) → IsSetOf n ws t → All (Contains u) t → length t ≤ length u

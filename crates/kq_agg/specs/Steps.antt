@@ -1,5 +1,5 @@
 -- How one row more, and what is kept of other rows, come to what is kept.
-use Rattle.std.specs.Prelude.{◌≡◌, ◌≢◌, ◌<◌, ℕ, ◌+◌, pos, Bool, true, nat_lt, List, [], ◌∷◌, ◌++◌, length, get_or, nat_eq, if◌then◌else◌, Option, Some, None, Result}
+use Rattle.std.specs.Prelude.{◌≡◌, ◌≢◌, ◌<◌, ◌≤◌, ◌^◌, ℕ, ◌+◌, pos, unsigned_abs, Bool, true, nat_lt, List, [], ◌∷◌, ◌++◌, length, take, get_or, nat_eq, if◌then◌else◌, Option, Some, None, Result}
 use Rattle.std.specs.declared.cmp.Ordering.{Ordering}
 use Rattle.std.specs.Ordering.{is_gt}
 use Rattle.indexmap.specs.IndexSet.{insert_key}
@@ -67,6 +67,20 @@ pub record Steps (k : Kind) (args : List Value) (old new : Kept) : Type 0 where
 pub record Joins (k : Kind) (other old new : Kept) : Type 0 where
   pub more : (rows others : List (List Value)) → Holds k rows old → Holds k others other → Holds k (rows ++ others) new
 
+-- ---- refusals
+
+-- whether one row more may be refused: to a number only where it is as great as this, and to others where memory is short
+abbrev pub MayRefuse : Kept → Type 0
+MayRefuse (counted n) = 2 ^ 63 ≤ n + 1
+MayRefuse (summed z) = 2 ^ 126 ≤ unsigned_abs z
+MayRefuse kept = Unit {0}
+
+-- the same of what is kept of others
+abbrev pub MayRefuseBoth : Kept → Kept → Type 0
+MayRefuseBoth (counted n) (counted m) = 2 ^ 63 ≤ n + m
+MayRefuseBoth (summed z) (summed y) = 2 ^ 127 ≤ unsigned_abs z + unsigned_abs y
+MayRefuseBoth kept other = Unit {0}
+
 -- ---- all groups by their numbers
 
 -- what is kept of a group
@@ -95,6 +109,13 @@ of_group g (h ∷ hs) (r ∷ rows) = if nat_eq g h then r ∷ of_group g hs rows
 pub record TakesIn (k : Kind) (groups : List ℕ) (rows : List (List Value)) (olds news : List Kept) : Type 0 where
   pub more : (g : ℕ) (before : List (List Value)) → g < length olds → Holds k before (kept_at olds g) → Holds k (before ++ of_group g groups rows) (kept_at news g)
   pub count : length news ≡ length olds
+
+-- each group has those of its rows that come before one that was refused
+pub record TakesInUpTo (k : Kind) (groups : List ℕ) (rows : List (List Value)) (olds news : List Kept) : Type 0 where
+  pub row : ℕ
+  pub within : row < length groups
+  pub before : TakesIn k (take row groups) (take row rows) olds news
+  pub refused : MayRefuse (kept_at news (get_or groups row 0))
 
 -- the cells of what is kept come after those that are there, or it ends in an overflow
 abbrev pub Ends : List Ty → Kept → List Value → List Value → Result (Unit {0}) EvalFault → Type 0

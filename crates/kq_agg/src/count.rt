@@ -1,13 +1,13 @@
 // Counts of rows.
-ghost use Rattle.std.specs.Prelude.{◌≡◌, ◌+◌, ◌<◌, ◌^◌, OnOk, OnErr, pos};
+ghost use Rattle.std.specs.Prelude.{◌≡◌, ◌+◌, ◌<◌, ◌≤◌, ◌^◌, OnOk, OnErr, pos};
 ghost use Rattle.kq_value.specs.declared.value.Value.TheVariants.{Long};
 
 use kq_value::{Memory, Value};
 use std::alloc::AllocError;
 use std::marker::Model;
 
-// The most rows that a state stands for.
-pub(crate) const MOST: u64 = 0x7fff_ffff_ffff_ffff;
+// The most rows that a count stands for.
+const MOST: u64 = 0x7fff_ffff_ffff_ffff;
 
 // The number of rows. Contracts see the number.
 #[derive(Drop)]
@@ -34,7 +34,7 @@ impl Count {
 
     pub(crate) fn step(&mut self) -> Result<(), Memory>
         ensures ok { OnOk result (self.new ≡ self.old + 1) }
-        ensures err { OnErr result (self.new ≡ self.old) }
+        ensures err { OnErr result ((self.new ≡ self.old) × (2 ^ 63 ≤ self.old + 1)) }
     {
         if self.rows >= MOST {
             return Err(AllocError);
@@ -45,7 +45,7 @@ impl Count {
 
     pub(crate) fn merge(&mut self, other: &Count) -> Result<(), Memory>
         ensures ok { OnOk result (self.new ≡ self.old + other.now) }
-        ensures err { OnErr result (self.new ≡ self.old) }
+        ensures err { OnErr result ((self.new ≡ self.old) × (2 ^ 63 ≤ self.old + other.now)) }
     {
         if self.rows > MOST - other.rows {
             return Err(AllocError);

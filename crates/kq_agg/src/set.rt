@@ -1,5 +1,5 @@
 // Sets of values.
-ghost use Rattle.std.specs.Prelude.{◌≡◌, ◌<◌, ◌^◌, List, [], ◌∷◌, ◌++◌, length, OnOk, OnErr, IfOk};
+ghost use Rattle.std.specs.Prelude.{◌≡◌, ◌<◌, ◌^◌, List, [], ◌∷◌, ◌++◌, length, take, OnOk, OnErr, IfOk};
 ghost use Rattle.indexmap.specs.IndexSet.{insert_key};
 ghost use Rattle.kq_conversions.specs.Converted.{in_range};
 ghost use Rattle.kq_value.specs.Seen.{tree_of};
@@ -79,7 +79,21 @@ impl Set {
 
     // Puts the other's values last, as far as there is room.
     pub(crate) fn merge(&mut self, most: u64, other: &Set) -> Result<(), Memory>
-        ensures { OnOk result (Unites most self.old other.now self.new) }
+        ensures ok { OnOk result (Unites most self.old other.now self.new) }
+        ensures err { OnErr result (self.new ≡ self.old) }
+    {
+        let before = self.len();
+        let done = self.add_all(most, other);
+        if done.is_err() {
+            self.values.truncate(before);
+        }
+        done
+    }
+
+    // The same, but that some may be there after a refusal.
+    fn add_all(&mut self, most: u64, other: &Set) -> Result<(), Memory>
+        ensures front { take (length self.old) self.new ≡ self.old }
+        ensures ok { OnOk result (Unites most self.old other.now self.new) }
     {
         for element in other.as_slice() {
             self.add(most, &element.value)?;

@@ -1,7 +1,7 @@
 // The states of an aggregate.
 ghost use Rattle.std.specs.Prelude.{◌≡◌, ◌↔◌, ◌<◌, List, [], IsTrue, OnOk, OnErr, length};
 ghost use Rattle.std.specs.List.{All};
-ghost use Rattle.kq_agg.specs.Steps.{ChangesAt, Ends, Grows, Joins, Steps, TakesIn, kept_at};
+ghost use Rattle.kq_agg.specs.Steps.{ChangesAt, Ends, Grows, Joins, MayRefuse, MayRefuseBoth, Steps, TakesIn, TakesInUpTo, kept_at};
 ghost use Rattle.kq_agg.specs.Tables.{SameShape};
 
 use crate::kind::Kind;
@@ -71,17 +71,18 @@ impl States {
         requires { group < length self.old.kept }
         ensures shape { SameShape self.old self.new }
         ensures ok { OnOk result (ChangesAt group (Steps self.old.kind args.now) self.old.kept self.new.kept) }
-        ensures err { OnErr result (self.new ≡ self.old) }
+        ensures err { OnErr result ((self.new ≡ self.old) × MayRefuse (kept_at self.old.kept group)) }
     {
         self.table.step(alloc, group, args)
     }
 
-    /// Rows more, each of the group whose number stands beside it. After a refusal some may be taken in.
+    /// Rows more, each of the group whose number stands beside it. After a refusal those before the row that was refused are taken in.
     pub fn step_batch(&mut self, alloc: Global, groups: &[u32], rows: &Rows) -> Result<(), Memory>
         requires along { length groups.now ≡ length rows.now }
         requires known { All (λ g. g < length self.old.kept) groups.now }
         ensures shape { SameShape self.old self.new }
         ensures ok { OnOk result (TakesIn self.old.kind groups.now rows.now self.old.kept self.new.kept) }
+        ensures err { OnErr result (TakesInUpTo self.old.kind groups.now rows.now self.old.kept self.new.kept) }
     {
         for (i, group) in groups.iter().enumerate() {
             self.step(alloc, *group as usize, rows.row(i))?;
@@ -89,7 +90,7 @@ impl States {
         Ok(())
     }
 
-    /// The rows of another's group too, after those of a group. After a refusal some may be taken in.
+    /// The rows of another's group too, after those of a group.
     pub fn merge(
         &mut self,
         alloc: Global,
@@ -102,6 +103,7 @@ impl States {
         requires from { from < length other.now.kept }
         ensures shape { SameShape self.old self.new }
         ensures ok { OnOk result (ChangesAt group (Joins self.old.kind (kept_at other.now.kept from)) self.old.kept self.new.kept) }
+        ensures err { OnErr result ((self.new ≡ self.old) × MayRefuseBoth (kept_at self.old.kept group) (kept_at other.now.kept from)) }
     {
         self.table.merge(alloc, group, &other.table, from)
     }

@@ -1,59 +1,56 @@
 // Exact sums.
-ghost use Rattle.std.specs.Prelude.{◌≡◌, ◌+ℤ◌, List, pos, OnOk, OnErr};
+ghost use Rattle.std.specs.Prelude.{◌≡◌, ◌+◌, ◌+ℤ◌, ◌≤◌, ◌^◌, List, pos, unsigned_abs, OnOk, OnErr};
 ghost use Rattle.kq_computed.specs.Computed.{Answers};
 ghost use Rattle.kq_agg.specs.Holds.{amount, sum_in};
 
-use crate::count::MOST;
 use kq_computed::EvalFault;
 use kq_value::{Memory, Ty, Value};
 use std::alloc::AllocError;
 use std::marker::Model;
 
-// The sum of the numbers of some values, and a bound on how many they are. Contracts see the sum.
+// The sum of the numbers of some values. Contracts see it.
 #[derive(Drop)]
 pub(crate) struct Sum {
     total: i128,
-    rows: u64,
 }
 
 impl Model for Sum {
-    ghost use Rattle.std.specs.Prelude.{ℤ, ◌*◌, ◌<◌, ◌≤◌, ◌^◌, unsigned_abs};
+    ghost use Rattle.std.specs.Prelude.{ℤ};
 
     ghost Value = { ℤ };
 
     ghost view = { λ s. s.total };
-
-    ghost invariant = { λ s. (s.rows < 2 ^ 63) × (unsigned_abs s.total ≤ s.rows * 2 ^ 63) };
 }
 
 impl Sum {
     pub(crate) fn new() -> Sum
         ensures { result ≡ pos 0 }
     {
-        Sum { total: 0, rows: 0 }
+        Sum { total: 0 }
     }
 
     pub(crate) fn step(&mut self, value: &Value) -> Result<(), Memory>
         ensures ok { OnOk result (self.new ≡ self.old +ℤ amount value.now) }
-        ensures err { OnErr result (self.new ≡ self.old) }
+        ensures err { OnErr result ((self.new ≡ self.old) × (2 ^ 126 ≤ unsigned_abs self.old)) }
     {
-        if self.rows >= MOST {
-            return Err(AllocError);
-        }
-        self.total += amount(value) as i128;
-        self.rows += 1;
-        Ok(())
+        self.add(amount(value) as i128)
     }
 
     pub(crate) fn merge(&mut self, other: &Sum) -> Result<(), Memory>
         ensures ok { OnOk result (self.new ≡ self.old +ℤ other.now) }
-        ensures err { OnErr result (self.new ≡ self.old) }
+        ensures err { OnErr result ((self.new ≡ self.old) × (2 ^ 127 ≤ unsigned_abs self.old + unsigned_abs other.now)) }
     {
-        if self.rows > MOST - other.rows {
+        self.add(other.total)
+    }
+
+    fn add(&mut self, number: i128) -> Result<(), Memory>
+        ensures ok { OnOk result (self.new ≡ self.old +ℤ number) }
+        ensures err { OnErr result ((self.new ≡ self.old) × (2 ^ 127 ≤ unsigned_abs self.old + unsigned_abs number)) }
+    {
+        let Some(total) = self.total.checked_add(number) else {
             return Err(AllocError);
-        }
-        self.total += other.total;
-        self.rows += other.rows;
+        };
+        self.total = total;
         Ok(())
     }
 

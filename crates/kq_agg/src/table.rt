@@ -1,7 +1,7 @@
 // The states of all groups of one aggregate.
 ghost use Rattle.std.specs.Prelude.{◌≡◌, ◌<◌, [], ◌∷◌, ◌++◌, OnOk, OnErr, length};
 ghost use Rattle.kq_agg.specs.Ranks.{first_of};
-ghost use Rattle.kq_agg.specs.Steps.{ChangesAt, Ends, Joins, Steps, kept_at, none_kept};
+ghost use Rattle.kq_agg.specs.Steps.{ChangesAt, Ends, Joins, MayRefuse, MayRefuseBoth, Steps, kept_at, none_kept};
 ghost use Rattle.kq_agg.specs.Tables.{kind_of, kept_of};
 
 use crate::count::Count;
@@ -83,7 +83,7 @@ impl Table {
         requires { group < length (kept_of self.old) }
         ensures kind { kind_of self.new ≡ kind_of self.old }
         ensures ok { OnOk result (ChangesAt group (Steps (kind_of self.old) args.now) (kept_of self.old) (kept_of self.new)) }
-        ensures err { OnErr result (kept_of self.new ≡ kept_of self.old) }
+        ensures err { OnErr result ((kept_of self.new ≡ kept_of self.old) × MayRefuse (kept_at (kept_of self.old) group)) }
     {
         let null = Value::Null(Ty::Long);
         self.step_from(alloc, group, args, first_or(args, &null))
@@ -100,7 +100,7 @@ impl Table {
         requires first { first.now ≡ first_of args.now }
         ensures kind { kind_of self.new ≡ kind_of self.old }
         ensures ok { OnOk result (ChangesAt group (Steps (kind_of self.old) args.now) (kept_of self.old) (kept_of self.new)) }
-        ensures err { OnErr result (kept_of self.new ≡ kept_of self.old) }
+        ensures err { OnErr result ((kept_of self.new ≡ kept_of self.old) × MayRefuse (kept_at (kept_of self.old) group)) }
     {
         match self {
             Table::Counts(counts) => counts[group].step(),
@@ -110,6 +110,7 @@ impl Table {
             Table::Sets(most, sets) => sets[group].step(*most, first),
         }
     }
+
     // The rows of another's group too, after those of a group.
     pub(crate) fn merge(
         &mut self,
@@ -123,6 +124,7 @@ impl Table {
         requires from { from < length (kept_of other.now) }
         ensures kind { kind_of self.new ≡ kind_of self.old }
         ensures ok { OnOk result (ChangesAt group (Joins (kind_of self.old) (kept_at (kept_of other.now) from)) (kept_of self.old) (kept_of self.new)) }
+        ensures err { OnErr result ((kept_of self.new ≡ kept_of self.old) × MayRefuseBoth (kept_at (kept_of self.old) group) (kept_at (kept_of other.now) from)) }
     {
         match (self, other) {
             (Table::Counts(counts), Table::Counts(others)) => counts[group].merge(&others[from]),
