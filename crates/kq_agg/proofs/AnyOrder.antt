@@ -10,12 +10,14 @@ use Rattle.std.proofs.lemmas.List.Sorted.{All-permutation, Contains-permutation,
 use Rattle.kq_value.specs.Same.{Same}
 use Rattle.kq_value.specs.declared.value.Value.{Value}
 use Rattle.kq_value.proofs.SameLemmas.{Shuffled, none, front, turn, next, Shuffled-from_Same, IsPermutation-from_Same, length-Same}
-use Rattle.kq_agg.specs.Holds.{Kept, counted, summed, extreme, chosen, collected, Holds, IsSetOf, amount, total, firsts, is_present, is_element}
+use Rattle.kq_agg.specs.Holds.{Kept, counted, summed, extreme, chosen, collected, Holds, IsTakenBy, IsAnyOf, IsSetOf, amount, total, firsts, is_present, is_element}
 use Rattle.kq_agg.specs.Ranks.{first_of, side_cmp, choice_cmp, IsLast}
+use Rattle.kq_agg.specs.declared.kind.Side.{Side}
 use Rattle.kq_agg.specs.declared.kind.Side.TheVariants as side
 use Rattle.kq_agg.specs.declared.kind.Choice.TheVariants as choice
 use Rattle.kq_agg.specs.declared.kind.Kind.{Kind}
 use Rattle.kq_agg.specs.declared.kind.Kind.TheVariants as kind
+use Rattle.kq_agg.proofs.Chosen.{IsTakenBy-from_last, last_from_IsTakenBy, IsAnyOf-from_last, last_from_IsAnyOf}
 
 abbrev pub Rows : Type 0
 Rows = List (List Value)
@@ -49,6 +51,12 @@ no_items (y ∷ ys) h = absurd (All-head (λ z. ⊥) y ys h)
 IsLast-permuted : {X : Type 0} (cmp : X → X → Ordering) (xs ys : List X) (o : Option X) → IsPermutation xs ys → IsLast cmp xs o → IsLast cmp ys o
 IsLast-permuted cmp xs ys None p h = no_items ys (All-permutation (λ z. ⊥) xs ys p (rw h (All-nil (λ z. ⊥))))
 IsLast-permuted cmp xs ys (Some x) p h = (Contains-permutation xs ys x p h.0, All-permutation (λ z. is_gt (cmp z x) ≡ false) xs ys p h.1)
+
+IsTakenBy-permuted : (s : Side) (rows others : Rows) (o : Option (List Value)) → IsPermutation rows others → IsTakenBy (side_cmp s) rows o → IsTakenBy (side_cmp s) others o
+IsTakenBy-permuted s rows others o p h = IsTakenBy-from_last s others o (IsLast-permuted (choice_cmp (choice.By s)) rows others o p (last_from_IsTakenBy s rows o h))
+
+IsAnyOf-permuted : (rows others : Rows) (o : Option (List Value)) → IsPermutation rows others → IsAnyOf rows o → IsAnyOf others o
+IsAnyOf-permuted rows others o p h = IsAnyOf-from_last others o (IsLast-permuted (choice_cmp choice.Any) rows others o p (last_from_IsAnyOf rows o h))
 
 IsSetOf-permuted : (n : _) (xs ys set : List Value) → IsPermutation xs ys → IsSetOf n xs set → IsSetOf n ys set
 IsSetOf-permuted n xs ys set p s = record {
@@ -100,7 +108,7 @@ Holds-any_order kind.ArgMax rows others kept same =
       | counted n ↦ λ h. absurd h
       | summed z ↦ λ h. absurd h
       | extreme o ↦ λ h. absurd h
-      | chosen o ↦ λ h. IsLast-permuted (choice_cmp (choice.By side.Greatest)) rows others o (IsPermutation-from_Same rows others same) h
+      | chosen o ↦ λ h. IsTakenBy-permuted side.Greatest rows others o (IsPermutation-from_Same rows others same) h
       | collected vs ↦ λ h. absurd h
     ]
 Holds-any_order kind.ArgMin rows others kept same =
@@ -108,7 +116,7 @@ Holds-any_order kind.ArgMin rows others kept same =
       | counted n ↦ λ h. absurd h
       | summed z ↦ λ h. absurd h
       | extreme o ↦ λ h. absurd h
-      | chosen o ↦ λ h. IsLast-permuted (choice_cmp (choice.By side.Least)) rows others o (IsPermutation-from_Same rows others same) h
+      | chosen o ↦ λ h. IsTakenBy-permuted side.Least rows others o (IsPermutation-from_Same rows others same) h
       | collected vs ↦ λ h. absurd h
     ]
 Holds-any_order kind.TakeAny rows others kept same =
@@ -116,7 +124,7 @@ Holds-any_order kind.TakeAny rows others kept same =
       | counted n ↦ λ h. absurd h
       | summed z ↦ λ h. absurd h
       | extreme o ↦ λ h. absurd h
-      | chosen o ↦ λ h. IsLast-permuted (choice_cmp choice.Any) rows others o (IsPermutation-from_Same rows others same) h
+      | chosen o ↦ λ h. IsAnyOf-permuted rows others o (IsPermutation-from_Same rows others same) h
       | collected vs ↦ λ h. absurd h
     ]
 Holds-any_order (kind.MakeSet n) rows others kept same =

@@ -3,11 +3,12 @@ use Rattle.std.proofs.Common.{◌≡◌, Bool, true, false, cond, List, [], ◌�
 use Rattle.std.specs.declared.cmp.Ordering.{Ordering}
 use Rattle.std.specs.declared.cmp.Ordering.TheVariants.{Less, Equal, Greater}
 use Rattle.std.specs.Ordering.{is_gt, ordering_reverse}
-use Rattle.std.specs.Cmp.{IsTotalOrder}
-use Rattle.std.proofs.lemmas.Cmp.{upto, tied_itself, then_total, on_total, back_total, nat_cmp_total}
+use Rattle.std.specs.Cmp.{IsTotalOrder, bool_cmp_total}
+use Rattle.std.proofs.lemmas.Cmp.{upto, tied_itself, on_total, back_total}
+use Rattle.std.specs.Cmp.Lexicographic.{options_total}
 use Rattle.std.proofs.lemmas.List.Elements.{All-nil, All-cons, All-append, All-weaker, Contains-append_left, Contains-append_right, Contains-push}
 use Rattle.kq_value.proofs.Totals.{value_cmp_total}
-use Rattle.kq_agg.specs.Ranks.{side_cmp, presence, first_of, fullness, choice_cmp, IsLast}
+use Rattle.kq_agg.specs.Ranks.{side_cmp, key_of, is_hollow, choice_cmp, IsLast}
 use Rattle.kq_agg.specs.Steps.{with_one, with_any}
 use Rattle.kq_agg.specs.declared.kind.Side.{Side}
 use Rattle.kq_agg.specs.declared.kind.Side.TheVariants as side
@@ -19,8 +20,8 @@ side_total side.Greatest = value_cmp_total
 side_total side.Least = back_total value_cmp_total
 
 pub choice_total : (c : Choice) → IsTotalOrder (choice_cmp c)
-choice_total (choice.By s) = on_total first_of (then_total (on_total presence nat_cmp_total) (side_total s))
-choice_total choice.Any = on_total fullness nat_cmp_total
+choice_total (choice.By s) = on_total key_of (options_total (side_total s))
+choice_total choice.Any = back_total (on_total is_hollow bool_cmp_total)
 
 reversed : (o : Ordering) → is_gt o ≡ true → is_gt (ordering_reverse o) ≡ false
 reversed Less h = absurd cc

@@ -14,6 +14,7 @@ use Rattle.kq_agg.specs.declared.kind.Side.{Side}
 use Rattle.kq_agg.specs.declared.kind.Side.TheVariants as side
 use Rattle.kq_agg.specs.declared.kind.Choice.{Choice}
 use Rattle.kq_agg.specs.declared.kind.Choice.TheVariants as choice
+use Rattle.kq_agg.proofs.Chosen.{IsTakenBy-from_last, last_from_IsTakenBy, IsAnyOf-from_last, last_from_IsAnyOf}
 use Rattle.kq_agg.proofs.Lasts.{side_total, choice_total, IsLast-with_any, IsLast-with_one}
 use Rattle.kq_agg.proofs.Sets.{IsSetOf-with_value}
 
@@ -74,14 +75,14 @@ Joins-extreme s o p = record {
 -- ---- rows
 
 chosen_last : (c : Choice) (rows : Rows) (o : Option (List Value)) → Holds (choice_kind c) rows (chosen o) → IsLast (choice_cmp c) rows o
-chosen_last (choice.By side.Least) rows o h = h
-chosen_last (choice.By side.Greatest) rows o h = h
-chosen_last choice.Any rows o h = h
+chosen_last (choice.By side.Least) rows o h = last_from_IsTakenBy side.Least rows o h
+chosen_last (choice.By side.Greatest) rows o h = last_from_IsTakenBy side.Greatest rows o h
+chosen_last choice.Any rows o h = last_from_IsAnyOf rows o h
 
 last_chosen : (c : Choice) (rows : Rows) (o : Option (List Value)) → IsLast (choice_cmp c) rows o → Holds (choice_kind c) rows (chosen o)
-last_chosen (choice.By side.Least) rows o h = h
-last_chosen (choice.By side.Greatest) rows o h = h
-last_chosen choice.Any rows o h = h
+last_chosen (choice.By side.Least) rows o h = IsTakenBy-from_last side.Least rows o h
+last_chosen (choice.By side.Greatest) rows o h = IsTakenBy-from_last side.Greatest rows o h
+last_chosen choice.Any rows o h = IsAnyOf-from_last rows o h
 
 pub Steps-chosen : (c : Choice) (o : Option (List Value)) (args : List Value) → Steps (choice_kind c) args (chosen o) (chosen (with_one (choice_cmp c) o args))
 Steps-chosen c o args = record { more = λ rows h. last_chosen c (rows ++ args ∷ []) _ (IsLast-with_one (choice_total c) rows o args (chosen_last c rows o h)) }

@@ -18,6 +18,7 @@ use Rattle.kq_agg.specs.Aggregates.{aggregate_kind, HaveTheTypes, GivesTypes}
 use Rattle.kq_agg.specs.Holds.{Kept, counted, summed, extreme, chosen, collected, Holds, Cell, finished, firsts, present, is_present}
 use Rattle.kq_agg.specs.Ranks.{first_of, side_cmp, choice_cmp, IsLast}
 use Rattle.kq_agg.specs.declared.kind.Kind.{Kind}
+use Rattle.kq_agg.proofs.Chosen.{last_from_IsTakenBy, last_from_IsAnyOf}
 use Rattle.kq_agg.specs.declared.kind.Side.TheVariants as side
 use Rattle.kq_agg.specs.declared.kind.Choice.TheVariants as choice
 
@@ -122,7 +123,7 @@ finished-typed lets from (at_greatest e is) cs rows kept fits typed =
       | counted n ↦ λ h. absurd h
       | summed z ↦ λ h. absurd h
       | extreme o ↦ λ h. absurd h
-      | chosen o ↦ λ h. chosen_typed cs rows (choice_cmp (choice.By side.Greatest)) o typed h
+      | chosen o ↦ λ h. chosen_typed cs rows (choice_cmp (choice.By side.Greatest)) o typed (last_from_IsTakenBy side.Greatest rows o h)
       | collected vs ↦ λ h. absurd h
     ]
 finished-typed lets from (at_least e is) cs rows kept fits typed =
@@ -130,7 +131,7 @@ finished-typed lets from (at_least e is) cs rows kept fits typed =
       | counted n ↦ λ h. absurd h
       | summed z ↦ λ h. absurd h
       | extreme o ↦ λ h. absurd h
-      | chosen o ↦ λ h. chosen_typed cs rows (choice_cmp (choice.By side.Least)) o typed h
+      | chosen o ↦ λ h. chosen_typed cs rows (choice_cmp (choice.By side.Least)) o typed (last_from_IsTakenBy side.Least rows o h)
       | collected vs ↦ λ h. absurd h
     ]
 finished-typed lets from (any_of is) cs rows kept fits typed =
@@ -138,7 +139,7 @@ finished-typed lets from (any_of is) cs rows kept fits typed =
       | counted n ↦ λ h. absurd h
       | summed z ↦ λ h. absurd h
       | extreme o ↦ λ h. absurd h
-      | chosen o ↦ λ h. chosen_typed cs rows (choice_cmp choice.Any) o typed h
+      | chosen o ↦ λ h. chosen_typed cs rows (choice_cmp choice.Any) o typed (last_from_IsAnyOf rows o h)
       | collected vs ↦ λ h. absurd h
     ]
 finished-typed lets from (set_of e n) cs rows kept fits typed =

@@ -1,6 +1,7 @@
 -- What aggregates keep of rows of arguments, and the cells that come of it.
-use Rattle.std.specs.Prelude.{◌≡◌, ◌≤◌, ◌<◌, ℕ, ℤ, pos, ◌+ℤ◌, Bool, not, ◌&&◌, nat_lt, List, [], ◌∷◌, length, map, filter, if◌then◌else◌, Option, Some, None, unwrap_or}
+use Rattle.std.specs.Prelude.{◌≡◌, ◌≤◌, ◌<◌, ℕ, ℤ, pos, ◌+ℤ◌, Bool, true, not, ◌&&◌, nat_lt, List, [], ◌∷◌, length, map, filter, if◌then◌else◌, Option, Some, None, unwrap_or}
 use Rattle.std.specs.List.{All, Contains, IsDistinct}
+use Rattle.std.specs.declared.cmp.Ordering.{Ordering}
 use Rattle.kq_arithmetic.specs.Numbers.{number_of, number_in}
 use Rattle.kq_computed.specs.Computed.{Computed, Is, and_then}
 use Rattle.kq_conversions.specs.Converted.{in_range}
@@ -14,11 +15,10 @@ use Rattle.kq_value.specs.declared.value.Value.{Value}
 use Rattle.kq_value.specs.declared.value.Value.TheVariants.{Long, Dynamic}
 use Rattle.kq_written.specs.Conversions.{item_of}
 use Rattle.kq_written.specs.Members.{trees_from_list}
-use Rattle.kq_agg.specs.Ranks.{first_of, side_cmp, choice_cmp, IsLast}
+use Rattle.kq_agg.specs.Ranks.{first_of, side_cmp, key_of, is_hollow, IsLast}
 use Rattle.kq_agg.specs.declared.kind.Kind.{Kind}
 use Rattle.kq_agg.specs.declared.kind.Kind.TheVariants as kind
 use Rattle.kq_agg.specs.declared.kind.Side.TheVariants as side
-use Rattle.kq_agg.specs.declared.kind.Choice.TheVariants as choice
 
 -- what is kept of the rows of a group
 pub data Kept : Type 0 where
@@ -49,6 +49,18 @@ is_present v = not (is_null v)
 
 abbrev pub present : List Value → List Value
 present vs = filter is_present vs
+
+-- ---- rows
+
+-- one of the rows, by the last of the keys; by none only where no row has a key
+abbrev pub IsTakenBy : (Value → Value → Ordering) → List (List Value) → Option (List Value) → Type 0
+IsTakenBy cmp rows None = rows ≡ []
+IsTakenBy cmp rows (Some row) = Contains rows row × IsLast cmp (present (firsts rows)) (key_of row)
+
+-- any of the rows; a hollow one only where all are
+abbrev pub IsAnyOf : List (List Value) → Option (List Value) → Type 0
+IsAnyOf rows None = rows ≡ []
+IsAnyOf rows (Some row) = Contains rows row × (is_hollow row ≡ true → All (λ r. is_hollow r ≡ true) rows)
 
 -- ---- sets
 
@@ -82,9 +94,9 @@ Holds kind.Count rows (counted n) = n ≡ length rows
 Holds kind.Sum rows (summed z) = z ≡ total (firsts rows)
 Holds kind.Min rows (extreme o) = IsLast (side_cmp side.Least) (present (firsts rows)) o
 Holds kind.Max rows (extreme o) = IsLast (side_cmp side.Greatest) (present (firsts rows)) o
-Holds kind.ArgMax rows (chosen o) = IsLast (choice_cmp (choice.By side.Greatest)) rows o
-Holds kind.ArgMin rows (chosen o) = IsLast (choice_cmp (choice.By side.Least)) rows o
-Holds kind.TakeAny rows (chosen o) = IsLast (choice_cmp choice.Any) rows o
+Holds kind.ArgMax rows (chosen o) = IsTakenBy (side_cmp side.Greatest) rows o
+Holds kind.ArgMin rows (chosen o) = IsTakenBy (side_cmp side.Least) rows o
+Holds kind.TakeAny rows (chosen o) = IsAnyOf rows o
 Holds (kind.MakeSet n) rows (collected vs) = IsSetOf n (elements (firsts rows)) vs
 Holds k rows kept = ⊥
 

@@ -4,7 +4,8 @@ ghost use Rattle.kq_plan.specs.Plans.{aggregating_of};
 ghost use Rattle.kq_value.specs.declared.ty.Ty.TheVariants as types;
 ghost use Rattle.kq_value.specs.declared.value.Value.TheVariants.{Null};
 ghost use Rattle.kq_agg.specs.Aggregates.{aggregate_kind};
-ghost use Rattle.kq_agg.specs.Ranks.{choice_cmp, first_of, fullness, is_empty, presence, present_cmp, side_cmp};
+ghost use Rattle.std.specs.Option.{option_cmp};
+ghost use Rattle.kq_agg.specs.Ranks.{choice_cmp, first_of, is_empty, is_hollow, side_cmp, unless_null};
 
 use kq_plan::Aggregate;
 use kq_value::{Ty, Value};
@@ -67,11 +68,16 @@ impl Side {
         }
     }
 
-    // The same of values that may be null.
-    fn cmp_present(self, a: &Value, b: &Value) -> Ordering
-        ensures { result ≡ present_cmp self a.now b.now }
+    // The same of values that may be null, which come before all others.
+    fn cmp_nulls_first(self, a: &Value, b: &Value) -> Ordering
+        ensures { result ≡ option_cmp (side_cmp self) (unless_null a.now) (unless_null b.now) }
     {
-        presence(a).cmp(&presence(b)).then(self.cmp(a, b))
+        match (a.is_null(), b.is_null()) {
+            (true, true) => Ordering::Equal,
+            (true, false) => Ordering::Less,
+            (false, true) => Ordering::Greater,
+            (false, false) => self.cmp(a, b),
+        }
     }
 }
 
@@ -83,9 +89,9 @@ impl Choice {
         match self {
             Choice::By(side) => {
                 let null = Value::Null(Ty::Long);
-                side.cmp_present(first_or(a, &null), first_or(b, &null))
+                side.cmp_nulls_first(first_or(a, &null), first_or(b, &null))
             }
-            Choice::Any => fullness(a).cmp(&fullness(b)),
+            Choice::Any => is_hollow(b).cmp(&is_hollow(a)),
         }
     }
 }
@@ -101,12 +107,6 @@ pub(crate) fn first_or<'a>(row: &'a [Value], null: &'a Value) -> &'a Value
     }
 }
 
-fn presence(value: &Value) -> u8
-    ensures { result ≡ presence value.now }
-{
-    if value.is_null() { 0 } else { 1 }
-}
-
 fn is_empty(value: &Value) -> bool
     ensures { result ≡ is_empty value.now }
 {
@@ -116,11 +116,12 @@ fn is_empty(value: &Value) -> bool
     }
 }
 
-fn fullness(row: &[Value]) -> u8
-    ensures { result ≡ fullness row.now }
+// Whether it has one cell, which is null or empty.
+fn is_hollow(row: &[Value]) -> bool
+    ensures { result ≡ is_hollow row.now }
 {
     match row {
-        [cell] => if is_empty(cell) { 0 } else { 1 },
-        _ => 1,
+        [cell] => is_empty(cell),
+        _ => false,
     }
 }

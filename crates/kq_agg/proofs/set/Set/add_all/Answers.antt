@@ -14,7 +14,7 @@ one_more n vs xs i x old new h at e s =
 pub loop-element-preserved : goal.loop-element-preserved
 loop-element-preserved c = (
   λ vs s. one_more _ vs _ _ _ _ _ c.loop-element-test.true (cc) c.in_ok-add.ensures.ok (c.loop-element.invariant.0 vs s),
-  rw c.in_ok-add.ensures.ok (front-with_value c.args.most _ _ _ c.loop-element.invariant.1),
+  rw c.in_ok-add.ensures.ok (front-with_value _ _ _ _ c.loop-element.invariant.1),
 )
 
 pub returns-clause-ok : goal.returns-clause-ok
