@@ -52,12 +52,12 @@ present vs = filter is_present vs
 
 -- ---- rows
 
--- one of the rows, by the last of the keys; by none only where no row has a key
+-- one of the rows, whose key is what is kept of all keys; one of no key only where no row has any
 abbrev pub IsTakenBy : (Value → Value → Ordering) → List (List Value) → Option (List Value) → Type 0
 IsTakenBy cmp rows None = rows ≡ []
 IsTakenBy cmp rows (Some row) = Contains rows row × IsLast cmp (present (firsts rows)) (key_of row)
 
--- any of the rows; a hollow one only where all are
+-- any one of the rows; a hollow one only where all are
 abbrev pub IsAnyOf : List (List Value) → Option (List Value) → Type 0
 IsAnyOf rows None = rows ≡ []
 IsAnyOf rows (Some row) = Contains rows row × (is_hollow row ≡ true → All (λ r. is_hollow r ≡ true) rows)
