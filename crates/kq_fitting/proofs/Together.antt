@@ -139,7 +139,7 @@ both_true : (a b : Bool) → a ≡ true → b ≡ true → (a && b) ≡ true
 both_true a b e f = rw (e, f) refl
 
 -- a column of the same name and another type
-mixed_there : (cs : List Field) (f g : Field) → Among cs g → g.name ≡ f.name → g.ty ≢ f.ty → is_mixed cs f ≡ true
+pub mixed_there : (cs : List Field) (f g : Field) → Among cs g → g.name ≡ f.name → g.ty ≢ f.ty → is_mixed cs f ≡ true
 mixed_there [] f g h name ty = absurd h
 mixed_there (c ∷ cs) f g (inl h) name ty =
     let named : pointwise nat_eq c.name f.name ≡ true = are_same c.name f.name (ap (λ (z : Field). z.name) h ∙ name) in
@@ -214,7 +214,7 @@ none_named every taken (f ∷ fs) name room t h = by (is_mixed every f) refl
     by false is one two =
         none_of (same f.name name) (is_taken (names_made every taken fs) name) (are_apart f.name name (h f (inl refl) is)) two
 
-field_parts : (f g : Field) → f.name ≡ g.name → f.ty ≡ g.ty → f ≡ g
+pub field_parts : (f g : Field) → f.name ≡ g.name → f.ty ≡ g.ty → f ≡ g
 field_parts f g n t = ap (λ (m : List ℕ). field m f.ty) n ∙ ap (λ (u : Ty). field g.name u) t
 
 -- columns that keep their names have different ones

@@ -1,0 +1,40 @@
+-- The columns of a union, and what fills them.
+use Rattle.std.specs.Prelude.{◌≡◌, ℕ, List, [], ◌++◌, Option, Some, codes, slice_get}
+use Rattle.kq_bind_clauses.specs.Unions.{type_word, filling, union_columns}
+use Rattle.kq_bind_columns.specs.Naming.{free_name}
+use Rattle.kq_value.specs.declared.schema.Field.{Field}
+
+-- it stands in the list
+pub record Has {X : Type 0} (xs : List X) (x : X) : Type 0 where
+  pub number : ℕ
+  pub there : slice_get xs number ≡ Some x
+
+-- every arm has this column, by name and type
+abbrev pub IsOfAll : List (List Field) → Field → Type 0
+IsOfAll arms f = (arm : List Field) → Has arms arm → Has arm f
+
+-- some arm has it
+pub record IsOfSome (arms : List (List Field)) (f : Field) : Type 0 where
+  pub arm : List Field
+  pub among : Has arms arm
+  pub has : Has arm f
+
+-- a column of an arm, which is that of this number, fills exactly one of these
+pub record FillsOne (arm sources : List Field) (number : ℕ) (c : Field) : Type 0 where
+  pub place : ℕ
+  pub source : slice_get sources place ≡ Some c
+  pub fills : slice_get (filling arm sources) place ≡ Some (Some number)
+  pub only : (k : ℕ) → slice_get (filling arm sources) k ≡ Some (Some number) → k ≡ place
+
+-- no column of this name has another type
+abbrev pub IsOfOneType : List Field → Field → Type 0
+IsOfOneType sources f = (g : Field) → Has sources g → g.name ≡ f.name → g.ty ≡ f.ty
+
+-- the column of a union in the place of one of its sources: of its type, and of its name, where this has one type, or else of a free name that is made of the name and the type
+pub record StandsFor (sources : List Field) (place : ℕ) (f : Field) : Type 0 where
+  pub column : Field
+  pub there : slice_get (union_columns sources) place ≡ Some column
+  pub of_type : column.ty ≡ f.ty
+  pub kept : IsOfOneType sources f → column.name ≡ f.name
+  pub taken : List Field
+  pub made : (IsOfOneType sources f → ⊥) → column.name ≡ free_name taken [] (f.name ++ codes "_" ++ type_word f.ty)
