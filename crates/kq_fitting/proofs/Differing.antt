@@ -1,26 +1,27 @@
 -- The columns of each step of a bound plan have different names.
-use Rattle.std.proofs.Common.{◌≡◌, ℕ, zero, suc, ◌+◌, Bool, true, false, cond, List, [], ◌∷◌, ◌++◌, length, map, All, Option, Some, None, Ok, Err, refl, ap, subst, arith}
-use Rattle.std.specs.Prelude.{slice_get, slice_set}
+use Rattle.std.proofs.Common.{◌≡◌, ℕ, zero, suc, ◌+◌, Bool, true, false, cond, List, [], ◌∷◌, ◌++◌, length, map, All, Option, Some, None, Result, Ok, Err, IfOk, refl, ap, subst, arith}
+use Rattle.std.specs.Prelude.{slice_set}
 use Rattle.std.proofs.lemmas.List.Elements.{All-nil, All-head, All-tail, All-pop, All-push, All-weaker}
 use Rattle.kq_bind.specs.Pipes.{tabular, sourced, from_word, united_with, gathered, armed, piped, operated}
 use Rattle.kq_bind.specs.Queries.{Letting, nothing_let, scope_of, is_let, scalar_put, tabular_put, if_new, scalar_let, tabular_let, bare_name, is_tabular, let_made, lets_made, planned, query_walked, query_bound}
 use Rattle.kq_bind_clauses.specs.Joins.{join_kind, on_keys, join_columns}
-use Rattle.kq_bind_clauses.specs.Ranges.{Ranging, ranged}
+use Rattle.kq_bind_clauses.specs.Ranges.{ranged}
 use Rattle.kq_bind_clauses.specs.Sorts.{sort_key, sort_keys}
 use Rattle.kq_bind_clauses.specs.Tables.{table_columns, rows_made, tabled}
 use Rattle.kq_bind_clauses.specs.Unions.{is_inner, columns_in, union_sources}
 use Rattle.kq_bind_columns.specs.Chosen.{chosen, all_chosen, columns_at as columns_chosen, without, names_given, renamed as fields_renamed}
 use Rattle.kq_bind_columns.specs.Defaults.{first_token}
-use Rattle.kq_bind_columns.specs.Items.{field, Making, nothing_made, items_made}
+use Rattle.kq_bind_columns.specs.Items.{field, nothing_made, items_made}
 use Rattle.kq_bind_columns.specs.Laying.{as_they_are, over}
 use Rattle.kq_bind_columns.specs.Naming.{is_taken}
 use Rattle.kq_bind_columns.specs.Printed.{printed}
-use Rattle.kq_bind_aggregates.specs.Gathered.{aggregates_made}
+use Rattle.kq_bind_aggregates.specs.Gathered.{no_aggregate, aggregates_made}
 use Rattle.kq_bind_expression.specs.Bound.{bound}
 use Rattle.kq_bind_expression.specs.Lookup.{first_named}
-use Rattle.kq_bind_expression.specs.Verdicts.{Verdict, and_then, mistyped, unknown, supported_or}
-use Rattle.kq_bind_steps.specs.Clauses.{range_made, range_rows, table_rows, sorted_by, topped_by, keys_gathered, summarized_by, grouped, grouping_items, part_type, or_dynamic, item_name, item_value, if_dynamic, expanded_at, expanded_as, parts_of, joined_on, arms_with, all_together}
-use Rattle.kq_bind_steps.specs.Flows.{Progressing, Flowing, columns, columns_of, columns_at, after, added, following, again, next_stage}
+use Rattle.kq_bind_expression.specs.declared.fault.BindFault.{BindFault}
+use Rattle.kq_bind_expression.specs.Verdicts.{Answers, Verdict, and_then, mistyped, unknown, supported_or}
+use Rattle.kq_bind_steps.specs.Clauses.{range_made, range_rows, table_rows, sorted_by, topped_by, summarized_by, grouped, grouping_items, part_type, or_dynamic, item_name, item_value, if_dynamic, expanded_at, expanded_as, parts_of, joined_on, arms_with, all_together}
+use Rattle.kq_bind_steps.specs.Flows.{Progressing, Flowing, columns, columns_at, after, added, following, again, next_stage}
 use Rattle.kq_bind_steps.specs.Operators.{row_made, printed_row, where_true, filtered, row_number, taken, count_column, laid_after, projected, extended, dropped, new_name, old_name, renamed, distinct_rows, all_distinct}
 use Rattle.kq_bind_steps.specs.Scopes.{Scoping, names, leaf_kind, leaf_of, tabling_named, named_rows, source_named, part_of, part_named}
 use Rattle.kq_bind_supported.specs.Unsupported.{unsupported_query}
@@ -33,8 +34,9 @@ use Rattle.kq_grammar.specs.Trees.{Tree, ItemTree, KeyTree, AggregateTree, Tabul
 use Rattle.kq_plan.specs.declared.names.NameKind.TheVariants as name
 use Rattle.kq_plan.specs.declared.work.JoinKind.{JoinKind}
 use Rattle.kq_plan.specs.declared.work.LeafKind.TheVariants as kind
+use Rattle.kq_plan.specs.declared.plan.Plan.{Plan}
 use Rattle.kq_plan.specs.Names.{Known}
-use Rattle.kq_plan.specs.Plans.{Doing, leaf, numbers, written, kept, mapped, cut, counted, sorted, topped, apart, summarized, joined, united, expanded, Stepping, Planned, scalar as scalar_step}
+use Rattle.kq_plan.specs.Plans.{Doing, leaf, written, kept, mapped, cut, counted, sorted, topped, apart, summarized, joined, expanded, Stepping, Planned, planned_of, scalar as scalar_step}
 use Rattle.kq_spelled.specs.Names.{name_said, name_place, string_said}
 use Rattle.kq_spelled.specs.Pieces.{piece}
 use Rattle.kq_syntax.specs.Choices.{Right, scalar, table as tabular_alone, either}
@@ -209,7 +211,7 @@ renamed_goes_apart s w v ps h e =
     let long : length (map new_name ps) ≡ length is.0 = omega (arith, map_length ps, chosen_length s.text cs false [] (map old_name ps) is.0 is.1) in
     subst GoesApart (done_is (put is.0 ns.0) v ns.2)
     (after_apart w (λ i. mapped i (as_they_are 0 cs)) (fields_renamed 0 cs is.0 ns.0) h
-      (λ all few. renamed_apart s.text cs is.0 (map new_name ps) ns.0 long ns.1 all))
+    (λ all few. renamed_apart s.text cs is.0 (map new_name ps) ns.0 long ns.1 all))
 
 distinct_apart : (s : Scoping) (w v : Flowing) (ns : List Name) → GoesApart w → distinct_rows s w ns ≡ Ok v → GoesApart v
 distinct_apart s w v ns h e =
@@ -223,12 +225,12 @@ grouped_apart : (s : Scoping) (w v : Flowing) (aggs : List AggregateTree) (is : 
 grouped_apart s w v aggs is h e =
     let cs = columns w in
     let m = then_ok (items_made (names s) cs [] true nothing_made is)
-    (λ m. and_then (aggregates_made (names s) cs m.fields (keys_gathered m.fields) aggs) (λ g. done (summarized_by w m.terms g))) v e in
-    let g = then_ok (aggregates_made (names s) cs m.0.fields (keys_gathered m.0.fields) aggs) (λ g. done (summarized_by w m.0.terms g)) v m.2 in
+    (λ m. and_then (aggregates_made (names s) cs m.fields (no_aggregate m.fields) aggs) (λ g. done (summarized_by w m.terms g))) v e in
+    let g = then_ok (aggregates_made (names s) cs m.0.fields (no_aggregate m.0.fields) aggs) (λ g. done (summarized_by w m.0.terms g)) v m.2 in
     let keys = items_apart (names s) cs true is m.0 m.1 in
     subst GoesApart (done_is (summarized_by w m.0.terms g.0) v g.2)
     (after_apart w (λ i. summarized i m.0.terms g.0.aggregates) g.0.fields h
-      (λ all. aggregates_apart (names s) cs m.0.fields (keys_gathered m.0.fields) aggs g.0 keys g.1))
+    (λ all. aggregates_apart (names s) cs m.0.fields (no_aggregate m.0.fields) aggs g.0 keys g.1))
 
 expanded_apart : (w : Flowing) (x : Bound) (name : List ℕ) (t : Option Ty) → GoesApart w → GoesApart (expanded_as w x name t)
 expanded_apart w x name t h = by (first_named 0 (columns w) name) refl where
@@ -267,7 +269,7 @@ first_arm ss (i ∷ is) h = columns_there ss i h
 together_apart : (stage : ℕ) (kind : Option Symbol) (p : Progressing) (is : List ℕ) → AreApart p.steps → GoesApart (all_together stage kind p is)
 together_apart stage kind p is h =
     step_apart p.steps _ h (λ all. union_apart (union_sources (is_inner kind) (map columns_in (arms_with p.steps is)))
-      (sources_single (is_inner kind) (map columns_in (arms_with p.steps is)) (first_arm p.steps is all)))
+    (sources_single (is_inner kind) (map columns_in (arms_with p.steps is)) (first_arm p.steps is all)))
 
 -- ---- pipes
 
@@ -398,3 +400,9 @@ pub bound_different : (text : List ℕ) (known : List ℕ → Option Known) (q :
 bound_different text known q p e tells narrow =
     let all = walked_apart text known q p tells (supported (unsupported_query text q) (query_walked text known q) p e) narrow in
     All-weaker IsApart HasDifferent (λ s h. apart_different s.columns h) p.steps all
+
+-- what the code answers
+pub answer_different : (text : List ℕ) (known : List ℕ → Option Known) (q : QueryTree) (r : Result Plan BindFault) → KnowsDifferent known
+    → Answers planned_of (query_bound text known q) r → IfOk r (λ (p : Plan). All IsNarrow (planned_of p).steps → All HasDifferent (planned_of p).steps)
+answer_different text known q (Ok p) tells e = bound_different text known q (planned_of p) e tells
+answer_different text known q (Err f) tells e = tt

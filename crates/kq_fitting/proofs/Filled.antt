@@ -1,11 +1,10 @@
 -- Which columns a union has, and that each column of its arms fills one.
 use Rattle.std.proofs.Common.{◌≡◌, ◌⊎◌, inl, inr, ℕ, zero, suc, ◌+◌, Bool, true, false, ◌||◌, ◌&&◌, not, cond, List, [], ◌∷◌, ◌++◌, Option, Some, None, refl, sym, ap, ◌∙◌, subst, arith}
-use Rattle.std.specs.Prelude.{codes, slice_get, nat_eq}
-use Rattle.std.specs.Cmp.Lexicographic.{pointwise}
+use Rattle.std.specs.Prelude.{slice_get}
 use Rattle.std.specs.List.{filter}
-use Rattle.kq_bind_clauses.specs.Unions.{has_column, place_behind, put_behind_name, with_column, with_columns, all_columns, in_all, common_columns, union_sources, type_word, is_mixed, keep_names, typed_name, names_made, union_columns, of_type, filling}
+use Rattle.kq_bind_clauses.specs.Unions.{has_column, place_behind, put_behind_name, with_column, with_columns, all_columns, in_all, union_sources, is_mixed, keep_names, typed_name, names_made, of_type, filling}
 use Rattle.kq_bind_columns.specs.Items.{field}
-use Rattle.kq_bind_columns.specs.Naming.{is_taken, free_name}
+use Rattle.kq_bind_columns.specs.Naming.{is_taken}
 use Rattle.kq_bind_expression.specs.Lookup.{first_named}
 use Rattle.kq_value.specs.declared.schema.Field.{Field}
 use Rattle.kq_value.specs.declared.ty.Ty.{Ty}
@@ -296,7 +295,7 @@ named_at every taken (g ∷ fs) (suc k) f e =
         → (now : List Field) × (slice_get (names_made every (taken ++ field (typed_name taken g) g.ty ∷ []) fs) k ≡ Some (made_for every now f))
         → (now : List Field) × (slice_get (names_made every taken fs) k ≡ Some (made_for every now f))
         → (now : List Field) × (slice_get (cond b (field (typed_name taken g) g.ty ∷ names_made every (taken ++ field (typed_name taken g) g.ty ∷ []) fs)
-          (g ∷ names_made every taken fs)) (suc k) ≡ Some (made_for every now f))
+        (g ∷ names_made every taken fs)) (suc k) ≡ Some (made_for every now f))
     by true one two = one
     by false one two = two
 
@@ -315,3 +314,14 @@ stands_for sources k f e =
     by : (b : Bool) (taken : List Field) → (cond b (field (typed_name taken f) f.ty) f).ty ≡ f.ty
     by true taken = refl
     by false taken = refl
+
+-- ---- unions
+
+first_apart : (arms : List (List Field)) → ((a : List Field) → Has arms a → AreDifferent a) → FirstApart arms
+first_apart [] h = tt
+first_apart (a ∷ arms) h = different_apart a (h a (arm_first a arms))
+
+pub union_fills : (inner : Bool) (arms : List (List Field)) (arm : List Field) (i : ℕ) (c : Field) → ((a : List Field) → Has arms a → AreDifferent a)
+    → Has arms arm → slice_get arm i ≡ Some c → Has (union_sources inner arms) c → FillsOne arm (union_sources inner arms) i c
+union_fills inner arms arm i c different among at has =
+    fills_one arm (union_sources inner arms) i c (different arm among) (sources_single inner arms (first_apart arms different)) at has

@@ -11,3 +11,12 @@ pub mod Groups
 pub mod Sources
 pub mod Pipes
 pub mod Fitting
+pub mod Apart
+pub mod Named
+pub mod Placed
+pub mod Together
+pub mod Differing
+pub mod Suffixed
+pub mod Staging
+pub mod Placing
+pub mod Filled

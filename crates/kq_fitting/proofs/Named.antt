@@ -1,9 +1,9 @@
 -- What makes columns one after another gives them different names: a given name is a new one, and a default name is made free.
-use Rattle.std.proofs.Common.{◌≡◌, ℕ, ◌+◌, ◌^◌, ◌<◌, Bool, true, false, cond, List, [], ◌∷◌, ◌++◌, length, Option, Some, None, Ok, Err, refl, subst}
+use Rattle.std.proofs.Common.{◌≡◌, ℕ, ◌+◌, Bool, true, false, cond, List, [], ◌∷◌, ◌++◌, Option, Some, None, Ok, Err, refl, subst}
 use Rattle.std.specs.Prelude.{codes}
-use Rattle.kq_bind_aggregates.specs.Arguments.{Argued, all_argued, unkeyed}
+use Rattle.kq_bind_aggregates.specs.Arguments.{all_argued, unkeyed}
 use Rattle.kq_bind_aggregates.specs.Functions.{aggregate_named}
-use Rattle.kq_bind_aggregates.specs.Gathered.{Gathering, put_defaults, put_given as put_first, put_columns, gathered, aggregate_made, each_made, aggregates_made}
+use Rattle.kq_bind_aggregates.specs.Gathered.{Gathering, put_defaults, put_named, put_columns, gathered, aggregate_made, each_made, aggregates_made}
 use Rattle.kq_bind_aggregates.specs.Made.{Aggregated, made}
 use Rattle.kq_bind_clauses.specs.Tables.{word_type, put_column, table_columns}
 use Rattle.kq_bind_columns.specs.Defaults.{default_name}
@@ -16,11 +16,10 @@ use Rattle.kq_bind_expression.specs.Verdicts.{Verdict, and_then, or_fault, unkno
 use Rattle.kq_expr.specs.Terms.{Bound}
 use Rattle.kq_grammar.specs.declared.clause.Column.{Column}
 use Rattle.kq_grammar.specs.declared.expression.Name.{Name}
-use Rattle.kq_grammar.specs.Trees.{Tree, ItemTree, plain, named, AggregateTree}
+use Rattle.kq_grammar.specs.Trees.{ItemTree, plain, named, AggregateTree}
 use Rattle.kq_spelled.specs.Names.{name_said, name_place}
 use Rattle.kq_spelled.specs.Pieces.{piece}
 use Rattle.kq_value.specs.declared.schema.Field.{Field}
-use Rattle.kq_value.specs.declared.ty.Ty.{Ty}
 use Rattle.kq_fitting.proofs.Progress.{then_ok, done, done_is}
 use Rattle.kq_fitting.proofs.Apart.{Apart, apart_behind, IfFew, few_behind, free_behind}
 
@@ -107,19 +106,17 @@ defaults_apart : (fs cs : List Field) → IfFew fs → IfFew (put_defaults fs cs
 defaults_apart fs [] h = h
 defaults_apart fs (c ∷ cs) h = defaults_apart (fs ++ field (free_name fs [] c.name) c.ty ∷ []) cs (free_behind fs c.name c.ty h)
 
-first_apart : (text : List ℕ) (fs : List Field) (n : Name) (c : Field) (gs : List Field) → IfFew fs → put_first text fs n c ≡ Ok gs → IfFew gs
-first_apart text fs n c gs h e = by (is_taken fs (name_said text n)) refl e where
-  by : (b : Bool) → is_taken fs (name_said text n) ≡ b → cond b (Err (mistyped (name_place n))) (done (fs ++ field (name_said text n) c.ty ∷ [])) ≡ Ok gs → IfFew gs
-  by true is g = absurd (cc)
-  by false is g =
-      subst IfFew (done_is (fs ++ field (name_said text n) c.ty ∷ []) gs g) (few_behind fs (field (name_said text n) c.ty) h (λ few. is))
+named_apart : (fs : List Field) (said : List ℕ) (cs : List Field) → IfFew fs → is_taken fs said ≡ false → IfFew (put_named fs said cs)
+named_apart fs said [] h free = h
+named_apart fs said (c ∷ cs) h free =
+    defaults_apart (fs ++ field said c.ty ∷ []) cs (few_behind fs (field said c.ty) h (λ few. free))
 
 put_apart : (text : List ℕ) (fs : List Field) (o : Option Name) (cs gs : List Field) → IfFew fs → put_columns text fs o cs ≡ Ok gs → IfFew gs
 put_apart text fs None cs gs h e = subst IfFew (done_is (put_defaults fs cs) gs e) (defaults_apart fs cs h)
-put_apart text fs (Some n) [] gs h e = subst IfFew (done_is fs gs e) h
-put_apart text fs (Some n) (c ∷ cs) gs h e =
-    let k = then_ok (put_first text fs n c) (λ k. done (put_defaults k cs)) gs e in
-    subst IfFew (done_is (put_defaults k.0 cs) gs k.2) (defaults_apart k.0 cs (first_apart text fs n c k.0 h k.1))
+put_apart text fs (Some n) cs gs h e = by (is_taken fs (name_said text n)) refl e where
+  by : (b : Bool) → is_taken fs (name_said text n) ≡ b → cond b (Err (mistyped (name_place n))) (done (put_named fs (name_said text n) cs)) ≡ Ok gs → IfFew gs
+  by true is g = absurd (cc)
+  by false is g = subst IfFew (done_is (put_named fs (name_said text n) cs) gs g) (named_apart fs (name_said text n) cs h is)
 
 abbrev IsGathered : Gathering → Type 0
 IsGathered g = IfFew g.fields

@@ -1,8 +1,8 @@
 -- Columns that are laid over others, left out, renamed or chosen have different names where those that come have.
-use Rattle.std.proofs.Common.{◌≡◌, ◌≢◌, ◌⊎◌, inl, inr, ℕ, zero, suc, ◌+◌, ◌≤◌, Bool, true, false, ◌||◌, ◌&&◌, cond, List, [], ◌∷◌, ◌++◌, length, length-append, map, Option, Some, None, Ok, Err, refl, sym, ap, ◌∙◌, subst, arith}
-use Rattle.std.specs.Prelude.{nat_eq, slice_get, slice_set}
-use Rattle.std.specs.List.{zip, list_any}
-use Rattle.std.proofs.lemmas.Bool.{eqb-true, eqb-false, eq-eqb, ne_eqb}
+use Rattle.std.proofs.Common.{◌≡◌, ◌≢◌, ◌⊎◌, inl, inr, ℕ, suc, ◌+◌, ◌≤◌, Bool, true, false, ◌||◌, ◌&&◌, cond, List, [], ◌∷◌, ◌++◌, length, length-append, Option, Some, None, Ok, Err, refl, sym, ap, ◌∙◌, subst, arith}
+use Rattle.std.specs.Prelude.{nat_eq, slice_get}
+use Rattle.std.specs.List.{zip}
+use Rattle.std.proofs.lemmas.Bool.{eqb-true, eqb-false, ne_eqb}
 use Rattle.kq_bind_columns.specs.Chosen.{has_number, place_in, choose, chosen, if_there, columns_at, without, names_given, new_name, renamed}
 use Rattle.kq_bind_columns.specs.Items.{field, Making}
 use Rattle.kq_bind_columns.specs.Laying.{Columns, as_they_are, laid_at, laid, all_laid, over}
@@ -17,7 +17,7 @@ use Rattle.kq_value.specs.declared.ty.Ty.{Ty}
 use Rattle.kq_value.specs.declared.ty.Ty.TheVariants as ty
 use Rattle.kq_value.specs.Ty.{same_ty}
 use Rattle.kq_fitting.proofs.Progress.{then_ok, done, done_is}
-use Rattle.kq_fitting.proofs.Apart.{same, same_text_is, other_text_is, not_both, is_false, is_true, are_same, are_apart, neither, none_of, or_else, or_first, taken_append, Apart, apart_behind, there_taken, apart_different, taken_there, set_apart, found_named, unfound}
+use Rattle.kq_fitting.proofs.Apart.{same, not_both, are_same, are_apart, neither, none_of, or_else, or_first, taken_append, Apart, apart_behind, apart_different, set_apart, found_named, unfound}
 
 -- ---- columns that are laid over others
 
@@ -174,7 +174,7 @@ given_fresh text taken [] names e = let is : [] ≡ names = done_is [] names e i
 given_fresh text taken (n ∷ ns) names e = by (is_taken taken (name_said text n)) refl (given_fresh text (taken ++ field (name_said text n) ty.Long ∷ []) ns) e where
   by : (b : Bool) → is_taken taken (name_said text n) ≡ b
       → ((more : List (List ℕ)) → names_given text (taken ++ field (name_said text n) ty.Long ∷ []) ns ≡ Ok more
-        → Fresh (taken ++ field (name_said text n) ty.Long ∷ []) more × (length more ≡ length ns))
+      → Fresh (taken ++ field (name_said text n) ty.Long ∷ []) more × (length more ≡ length ns))
       → cond {A = Verdict (List (List ℕ))} b (Err (mistyped (name_place n)))
       (and_then (names_given text (taken ++ field (name_said text n) ty.Long ∷ []) ns) (λ more. done (name_said text n ∷ more))) ≡ Ok names
       → Fresh taken names × (length names ≡ suc (length ns))
@@ -203,7 +203,7 @@ not_that [] ns taken j old name fresh long t own = own refl
 not_that (k ∷ is) [] taken j old name fresh long t own = absurd (omega (arith, long))
 not_that (k ∷ is) (n ∷ ns) taken j old name fresh long t own =
     by (nat_eq k j) (λ (f : has_number is j ≡ false → old ≢ name).
-      not_that is ns (taken ++ field n ty.Long ∷ []) j old name fresh.1 (omega (arith, long)) (still_taken taken n name t) f) own
+    not_that is ns (taken ++ field n ty.Long ∷ []) j old name fresh.1 (omega (arith, long)) (still_taken taken n name t) f) own
   where
     by : (b : Bool) → ((has_number is j ≡ false → old ≢ name) → new_name is ns j old ≢ name) → ((b || has_number is j) ≡ false → old ≢ name)
         → cond b n (new_name is ns j old) ≢ name
@@ -218,7 +218,7 @@ stay_apart (k ∷ is) [] taken i j a b fresh long apart other hi hj = absurd (om
 stay_apart (k ∷ is) (n ∷ ns) taken i j a b fresh long apart other hi hj =
     by (nat_eq k i) (nat_eq k j) refl refl hi hj
     (λ (f : has_number is i ≡ false → is_taken taken a ≡ true) (g : has_number is j ≡ false → is_taken taken b ≡ true).
-      stay_apart is ns more i j a b fresh.1 shorter apart other (λ e. still_taken taken n a (f e)) (λ e. still_taken taken n b (g e)))
+    stay_apart is ns more i j a b fresh.1 shorter apart other (λ e. still_taken taken n a (f e)) (λ e. still_taken taken n b (g e)))
   where
     more : List Field
     more = taken ++ field n ty.Long ∷ []

@@ -1,27 +1,28 @@
 -- The steps of a bound plan have stages of their own, each behind the steps whose rows it takes.
-use Rattle.std.proofs.Common.{◌≡◌, ℕ, zero, suc, ◌+◌, ◌<◌, ◌≤◌, Bool, true, false, cond, List, [], ◌∷◌, ◌++◌, length, map, All, Option, Some, None, Ok, Err, refl, sym, ap, subst, arith}
-use Rattle.std.specs.Prelude.{slice_get, slice_set, nat_eq}
+use Rattle.std.proofs.Common.{◌≡◌, ℕ, ◌+◌, ◌<◌, Bool, true, false, cond, List, [], ◌∷◌, ◌++◌, length, map, All, Option, Some, None, Result, Ok, Err, IfOk, refl, sym, subst, arith}
+use Rattle.std.specs.Prelude.{slice_set, nat_eq}
 use Rattle.std.specs.Cmp.Lexicographic.{pointwise}
 use Rattle.std.proofs.lemmas.List.Elements.{All-nil, All-cons, All-head, All-tail, All-append, All-push, All-weaker}
 use Rattle.kq_bind.specs.Pipes.{tabular, sourced, from_word, united_with, gathered, armed, piped, operated}
-use Rattle.kq_bind.specs.Queries.{Letting, nothing_let, scope_of, is_let, scalar_put, tabular_put, if_new, tabular_laid, scalar_let, tabular_let, bare_name, is_tabular, let_made, lets_made, planned, query_walked, query_bound}
+use Rattle.kq_bind.specs.Queries.{Letting, nothing_let, scope_of, is_let, scalar_put, tabular_put, if_new, scalar_let, tabular_let, bare_name, is_tabular, let_made, lets_made, planned, query_walked, query_bound}
 use Rattle.kq_bind_clauses.specs.Joins.{join_kind, on_keys, join_columns}
-use Rattle.kq_bind_clauses.specs.Ranges.{Ranging, ranged, range_column}
+use Rattle.kq_bind_clauses.specs.Ranges.{ranged, range_column}
 use Rattle.kq_bind_clauses.specs.Sorts.{sort_key, sort_keys}
-use Rattle.kq_bind_clauses.specs.Tables.{table_columns, rows_made, tabled}
+use Rattle.kq_bind_clauses.specs.Tables.{tabled}
 use Rattle.kq_bind_clauses.specs.Unions.{is_inner, columns_in, union_sources, union_columns, filling, arms_filled}
 use Rattle.kq_bind_columns.specs.Chosen.{chosen, all_chosen, columns_at as columns_chosen, without, names_given, renamed as fields_renamed}
 use Rattle.kq_bind_columns.specs.Defaults.{first_token}
-use Rattle.kq_bind_columns.specs.Items.{field, Making, nothing_made, items_made}
+use Rattle.kq_bind_columns.specs.Items.{field, nothing_made, items_made}
 use Rattle.kq_bind_columns.specs.Laying.{as_they_are, over}
 use Rattle.kq_bind_columns.specs.Naming.{is_taken}
 use Rattle.kq_bind_columns.specs.Printed.{printed}
-use Rattle.kq_bind_aggregates.specs.Gathered.{aggregates_made}
+use Rattle.kq_bind_aggregates.specs.Gathered.{no_aggregate, aggregates_made}
 use Rattle.kq_bind_expression.specs.Bound.{bound}
 use Rattle.kq_bind_expression.specs.Lookup.{first_named}
-use Rattle.kq_bind_expression.specs.Verdicts.{Verdict, and_then, mistyped, unknown, supported_or}
-use Rattle.kq_bind_steps.specs.Clauses.{range_made, range_rows, table_rows, sorted_by, topped_by, keys_gathered, summarized_by, grouped, grouping_items, part_type, or_dynamic, item_name, item_value, if_dynamic, expanded_at, expanded_as, parts_of, joined_on, arms_with, all_together}
-use Rattle.kq_bind_steps.specs.Flows.{Progressing, Flowing, columns, columns_of, columns_at, after, added, following, again, next_stage}
+use Rattle.kq_bind_expression.specs.declared.fault.BindFault.{BindFault}
+use Rattle.kq_bind_expression.specs.Verdicts.{Answers, Verdict, and_then, mistyped, unknown, supported_or}
+use Rattle.kq_bind_steps.specs.Clauses.{range_made, range_rows, table_rows, sorted_by, topped_by, summarized_by, grouped, grouping_items, part_type, or_dynamic, item_name, item_value, if_dynamic, expanded_at, expanded_as, parts_of, joined_on, arms_with, all_together}
+use Rattle.kq_bind_steps.specs.Flows.{Progressing, Flowing, columns, columns_at, after, added, following, again, next_stage}
 use Rattle.kq_bind_steps.specs.Operators.{row_made, printed_row, where_true, filtered, row_number, taken, count_column, laid_after, projected, extended, dropped, new_name, old_name, renamed, distinct_rows, all_distinct}
 use Rattle.kq_bind_steps.specs.Scopes.{Scoping, Tabling, names, leaf_kind, leaf_of, tabling_named, named_rows, source_named, part_of, part_named}
 use Rattle.kq_bind_supported.specs.Unsupported.{unsupported_query}
@@ -34,8 +35,9 @@ use Rattle.kq_grammar.specs.Trees.{Tree, ItemTree, KeyTree, AggregateTree, Tabul
 use Rattle.kq_plan.specs.declared.names.NameKind.TheVariants as name
 use Rattle.kq_plan.specs.declared.work.JoinKind.{JoinKind}
 use Rattle.kq_plan.specs.declared.work.LeafKind.TheVariants as kind
+use Rattle.kq_plan.specs.declared.plan.Plan.{Plan}
 use Rattle.kq_plan.specs.Names.{Known}
-use Rattle.kq_plan.specs.Plans.{Doing, leaf, one_row, numbers, written, kept, mapped, cut, counted, sorted, topped, apart, summarized, joined, united, expanded, Stepping, Planned, Filling, scalar as scalar_step}
+use Rattle.kq_plan.specs.Plans.{Doing, leaf, one_row, numbers, written, kept, mapped, cut, counted, sorted, topped, apart, summarized, joined, united, expanded, Stepping, Planned, planned_of, scalar as scalar_step}
 use Rattle.kq_spelled.specs.Names.{name_said, name_place, string_said}
 use Rattle.kq_spelled.specs.Pieces.{piece}
 use Rattle.kq_syntax.specs.Choices.{Right, scalar, table as tabular_alone, either}
@@ -44,9 +46,9 @@ use Rattle.kq_value.specs.declared.schema.Field.{Field}
 use Rattle.kq_value.specs.declared.ty.Ty.{Ty}
 use Rattle.kq_value.specs.declared.ty.Ty.TheVariants as ty
 use Rattle.kq_value.specs.Ty.{same_ty}
-use Rattle.kq_fitting.specs.Staged.{IsArmBefore, Takes, ArePlaced, IsStage, IsStaged}
+use Rattle.kq_fitting.specs.Staged.{IsArmBefore, Takes, IsStage, IsStaged}
 use Rattle.kq_fitting.proofs.Progress.{then_ok, done, done_is}
-use Rattle.kq_fitting.proofs.Staging.{IsUpTo, IsWithin, Grown, IsTableAt, Begins, Walks, nothing_grown, grown_length, begins_further, next_begins, grown_further, step_walks, after_walks, begun, following_walks, again_walks, right_takes, own_stages}
+use Rattle.kq_fitting.proofs.Staging.{IsUpTo, IsWithin, Grown, IsTableAt, Begins, Walks, grown_length, begins_further, next_begins, grown_further, step_walks, after_walks, begun, following_walks, again_walks, right_takes, own_stages}
 
 -- ---- sources
 
@@ -178,8 +180,8 @@ grouped_walks : (s : Scoping) (p : Progressing) (w v : Flowing) (aggs : List Agg
 grouped_walks s p w v aggs is h g e =
     let cs = columns w in
     let m = then_ok (items_made (names s) cs [] true nothing_made is)
-    (λ m. and_then (aggregates_made (names s) cs m.fields (keys_gathered m.fields) aggs) (λ k. done (summarized_by w m.terms k))) v e in
-    let k = then_ok (aggregates_made (names s) cs m.0.fields (keys_gathered m.0.fields) aggs) (λ k. done (summarized_by w m.0.terms k)) v m.2 in
+    (λ m. and_then (aggregates_made (names s) cs m.fields (no_aggregate m.fields) aggs) (λ k. done (summarized_by w m.terms k))) v e in
+    let k = then_ok (aggregates_made (names s) cs m.0.fields (no_aggregate m.0.fields) aggs) (λ k. done (summarized_by w m.0.terms k)) v m.2 in
     subst (Walks p) (done_is (summarized_by w m.0.terms k.0) v k.2)
     (goes_on s p w (λ i. summarized i m.0.terms k.0.aggregates) k.0.fields h g (refl, g.rows))
 
@@ -406,3 +408,9 @@ supported (Some at) v x e = absurd (cc)
 -- the stages of whatever a query is bound to
 pub bound_staged : (text : List ℕ) (known : List ℕ → Option Known) (q : QueryTree) (p : Planned) → query_bound text known q ≡ Ok p → IsStaged p
 bound_staged text known q p e = walked_staged text known q p (supported (unsupported_query text q) (query_walked text known q) p e)
+
+-- what the code answers
+pub answer_staged : (text : List ℕ) (known : List ℕ → Option Known) (q : QueryTree) (r : Result Plan BindFault)
+    → Answers planned_of (query_bound text known q) r → IfOk r (λ (p : Plan). IsStaged (planned_of p))
+answer_staged text known q (Ok p) e = bound_staged text known q (planned_of p) e
+answer_staged text known q (Err f) e = tt

@@ -1,12 +1,12 @@
 -- A default name becomes the least free one.
-use Rattle.std.proofs.Common.{◌≡◌, ℕ, zero, suc, ◌+◌, ◌^◌, ◌<◌, ◌≤◌, Bool, true, false, ◌||◌, cond, List, [], ◌∷◌, ◌++◌, length, length-append, append-nil, Some, refl, sym, ap, ◌∙◌, subst, arith}
+use Rattle.std.proofs.Common.{◌≡◌, ℕ, zero, suc, ◌+◌, ◌^◌, ◌<◌, ◌≤◌, Bool, true, false, ◌||◌, cond, List, [], ◌++◌, length, length-append, refl, sym, ap, ◌∙◌, subst, arith}
 use Rattle.std.specs.Prelude.{decimal, nat_eq}
 use Rattle.std.proofs.lemmas.Bool.{eqb-true, eqb-false}
 use Rattle.kq_bind_columns.specs.Naming.{is_taken, numbered, first_free, free_name}
 use Rattle.kq_bind_columns.proofs.Free.{free_name-free}
 use Rattle.kq_value.specs.declared.schema.Field.{Field}
-use Rattle.kq_fitting.specs.Suffixes.{IsNamed, HasLeastSuffix, IsMadeFree}
-use Rattle.kq_fitting.proofs.Apart.{not_both, is_false, or_first, taken_append, taken_there, there_taken}
+use Rattle.kq_fitting.specs.Suffixes.{IsNamed, IsMadeFree}
+use Rattle.kq_fitting.proofs.Apart.{not_both, or_first, taken_append, taken_there, there_taken}
 
 pub taken_named : (cs : List Field) (name : List ℕ) → is_taken cs name ≡ true → IsNamed cs name
 taken_named cs name e = let r = taken_there cs name e in record { number = r.0; column = r.1; there = r.2; so = r.3 }

@@ -1,10 +1,10 @@
 -- The columns of joins and unions have different names where those of the rows that they take have.
-use Rattle.std.proofs.Common.{◌≡◌, ◌≢◌, ◌⊎◌, inl, inr, ℕ, zero, suc, ◌+◌, ◌^◌, ◌<◌, ◌≤◌, Bool, true, false, ◌||◌, ◌&&◌, not, cond, List, [], ◌∷◌, ◌++◌, length, length-append, refl, sym, ap, ◌∙◌, subst, arith}
+use Rattle.std.proofs.Common.{◌≡◌, ◌≢◌, ◌⊎◌, inl, inr, ℕ, zero, suc, ◌+◌, ◌^◌, ◌≤◌, Bool, true, false, ◌||◌, ◌&&◌, not, cond, List, [], ◌∷◌, ◌++◌, length, length-append, refl, sym, ap, ◌∙◌, subst, arith}
 use Rattle.std.specs.Prelude.{codes, nat_eq}
-use Rattle.std.specs.List.{filter, insert, list_any}
+use Rattle.std.specs.List.{filter, insert}
 use Rattle.std.specs.Cmp.Lexicographic.{pointwise}
 use Rattle.kq_bind_clauses.specs.Joins.{beside, join_columns}
-use Rattle.kq_bind_clauses.specs.Unions.{has_column, place_behind, put_behind_name, with_column, with_columns, all_columns, in_all, common_columns, union_sources, type_word, is_mixed, keep_names, typed_name, names_made, union_columns}
+use Rattle.kq_bind_clauses.specs.Unions.{has_column, place_behind, put_behind_name, with_column, with_columns, all_columns, in_all, union_sources, type_word, is_mixed, keep_names, typed_name, names_made, union_columns}
 use Rattle.kq_bind_columns.specs.Items.{field}
 use Rattle.kq_bind_columns.specs.Naming.{is_taken, free_name}
 use Rattle.kq_bind_columns.proofs.Free.{free_name-free}
@@ -15,7 +15,7 @@ use Rattle.kq_value.specs.declared.ty.Ty.{Ty}
 use Rattle.kq_value.specs.Schema.{same_field}
 use Rattle.kq_value.specs.Ty.{same_ty}
 use Rattle.kq_value.proofs.Fields.{same_ty-Decides, same_field-Decides}
-use Rattle.kq_fitting.proofs.Apart.{same, not_both, is_false, is_true, are_same, are_apart, neither, none_of, or_else, or_first, taken_append, Apart, IfFew, free_behind}
+use Rattle.kq_fitting.proofs.Apart.{same, not_both, is_false, are_same, are_apart, neither, none_of, or_else, or_first, taken_append, Apart, IfFew, free_behind}
 
 -- ---- joins
 
@@ -233,7 +233,7 @@ made_apart : (every taken fs : List Field) → Room taken fs → ((g : Field) �
 made_apart every taken [] room all h kept = tt
 made_apart every taken (f ∷ fs) room all h kept = by (is_mixed every f) refl
     (made_apart every (taken ++ typed taken f ∷ []) fs (room_typed taken (typed taken f) f fs room) rest h.1
-      (λ g at is. more_taken taken (typed taken f) g.name (kept g (inr at) is)))
+    (λ g at is. more_taken taken (typed taken f) g.name (kept g (inr at) is)))
     (made_apart every taken fs (room_kept taken f fs room) rest h.1 (λ g at is. kept g (inr at) is))
   where
     rest : (g : Field) → Among fs g → Among every g
@@ -243,12 +243,12 @@ made_apart every taken (f ∷ fs) room all h kept = by (is_mixed every f) refl
         → Apart (cond b (typed taken f ∷ names_made every (taken ++ typed taken f ∷ []) fs) (f ∷ names_made every taken fs))
     by true is one two = (
       none_named every (taken ++ typed taken f ∷ []) fs (typed_name taken f) (room_typed taken (typed taken f) f fs room) (just_taken taken (typed taken f))
-      (λ g at own. apart_names taken g.name (typed_name taken f) (kept g (inr at) own) (typed_free taken f fs room)),
+          (λ g at own. apart_names taken g.name (typed_name taken f) (kept g (inr at) own) (typed_free taken f fs room)),
       one,
     )
     by false is one two = (
       none_named every taken fs f.name (room_kept taken f fs room) (kept f (inl refl) is)
-      (λ g at own. kept_apart every f fs g (all f (inl refl)) at h.0 own),
+          (λ g at own. kept_apart every f fs g (all f (inl refl)) at h.0 own),
       two,
     )
 

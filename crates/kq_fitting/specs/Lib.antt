@@ -1,1 +1,4 @@
 pub mod Different
+pub mod Suffixes
+pub mod Staged
+pub mod United

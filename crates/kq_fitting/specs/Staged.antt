@@ -1,6 +1,6 @@
 -- The stages of steps, which are numbered by the places in the text, among the steps, which come in the order of their evaluation.
 use Rattle.std.specs.Prelude.{◌≡◌, ◌⊎◌, ℕ, suc, ◌+◌, ◌<◌, ◌≤◌, List, [], ◌∷◌, ◌++◌, All, Some, length, slice_get}
-use Rattle.kq_plan.specs.Plans.{Filling, Doing, leaf, one_row, numbers, written, scalar, kept, mapped, cut, counted, sorted, topped, apart, summarized, joined, united, expanded, Stepping, Planned}
+use Rattle.kq_plan.specs.Plans.{Filling, Doing, kept, mapped, cut, counted, sorted, topped, apart, summarized, joined, united, expanded, Stepping, Planned}
 
 -- a step of this number is among so many
 abbrev pub IsArmBefore : ℕ → Filling → Type 0

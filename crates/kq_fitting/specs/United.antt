@@ -1,5 +1,5 @@
 -- The columns of a union, and what fills them.
-use Rattle.std.specs.Prelude.{◌≡◌, ℕ, List, [], ◌++◌, Option, Some, codes, slice_get}
+use Rattle.std.specs.Prelude.{◌≡◌, ℕ, List, [], ◌++◌, Some, codes, slice_get}
 use Rattle.kq_bind_clauses.specs.Unions.{type_word, filling, union_columns}
 use Rattle.kq_bind_columns.specs.Naming.{free_name}
 use Rattle.kq_value.specs.declared.schema.Field.{Field}

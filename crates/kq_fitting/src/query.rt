@@ -1,11 +1,13 @@
 // Queries that are bound to plans that fit.
-ghost use Rattle.std.specs.Prelude.{◌≡◌, Ok, IfOk};
+ghost use Rattle.std.specs.Prelude.{◌≡◌, All, Ok, IfOk};
 ghost use Rattle.kq_bind_steps.specs.Flows.{columns_at};
 ghost use Rattle.kq_bind.specs.Queries.{query_bound};
 ghost use Rattle.kq_bind_expression.specs.Verdicts.{Answers};
 ghost use Rattle.kq_grammar.specs.TabularViews.{query_of};
 ghost use Rattle.kq_plan.specs.Fits.{Fits};
 ghost use Rattle.kq_plan.specs.Plans.{planned_of};
+ghost use Rattle.kq_fitting.specs.Different.{KnowsDifferent, IsNarrow, HasDifferent};
+ghost use Rattle.kq_fitting.specs.Staged.{IsStaged};
 
 use kq_bind::bind;
 use kq_bind_expression::BindFault;
@@ -13,7 +15,7 @@ use kq_grammar::Query;
 use kq_plan::{Names, Plan};
 use std::alloc::Global;
 
-/// The plan of a query over the names of a catalogue, or its first fault, as `kq_bind::bind` gives it: a plan fits those names.
+/// The plan of a query over the names of a catalogue, or its first fault, as `kq_bind::bind` gives it: a plan fits those names, each of its steps has columns of different names, as those that the names stand for are, and a stage of its own.
 pub fn bind_fitting<N: Names>(
     alloc: Global,
     text: &str,
@@ -22,6 +24,8 @@ pub fn bind_fitting<N: Names>(
 ) -> Result<Plan, BindFault>
     ensures bound { Answers planned_of (query_bound text.now (N.known names.now) (query_of query.now)) result }
     ensures fits { IfOk result (λ p. Fits (N.known names.now) (planned_of p) (columns_at (planned_of p).steps p.output)) }
+    ensures different { KnowsDifferent (N.known names.now) → IfOk result (λ p. All IsNarrow (planned_of p).steps → All HasDifferent (planned_of p).steps) }
+    ensures staged { IfOk result (λ p. IsStaged (planned_of p)) }
 {
     bind(alloc, text, query, names)
 }

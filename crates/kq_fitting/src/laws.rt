@@ -1,0 +1,21 @@
+// Laws of the names and the columns that queries are bound to, which hold of the definitions alone.
+ghost use Rattle.std.specs.Prelude.{◌≡◌, ◌↔◌, ℕ, ◌+◌, ◌^◌, ◌≤◌, Bool, true, false, List, ◌∷◌, length, Some, slice_get};
+ghost use Rattle.kq_bind_clauses.specs.Unions.{union_sources};
+ghost use Rattle.kq_bind_columns.specs.Naming.{free_name};
+ghost use Rattle.kq_value.specs.declared.schema.Field.{Field};
+ghost use Rattle.kq_fitting.specs.Different.{AreDifferent};
+ghost use Rattle.kq_fitting.specs.Suffixes.{IsMadeFree};
+ghost use Rattle.kq_fitting.specs.United.{Has, IsOfAll, IsOfSome, FillsOne, StandsFor};
+
+/// A column without a name of its own gets the least suffix that is free, where its default name isn't.
+pub fn default_names_are_free()
+    ensures { (given avoided : List Field) (base : List ℕ) → length given + length avoided + 2 ≤ 2 ^ 64 → IsMadeFree given avoided base (free_name given avoided base) }
+{}
+
+/// An outer union has the columns of any arm, an inner one those of every arm; each of an arm's that it has fills one of its columns, of its type.
+pub fn unions_have_their_columns()
+    ensures outer { (arms : List (List Field)) (f : Field) → Has (union_sources false arms) f ↔ IsOfSome arms f }
+    ensures inner { (a : List Field) (arms : List (List Field)) (f : Field) → Has (union_sources true (a ∷ arms)) f ↔ IsOfAll (a ∷ arms) f }
+    ensures filled { (inner : Bool) (arms : List (List Field)) (arm : List Field) (i : ℕ) (c : Field) → ((a : List Field) → Has arms a → AreDifferent a) → Has arms arm → slice_get arm i ≡ Some c → Has (union_sources inner arms) c → FillsOne arm (union_sources inner arms) i c }
+    ensures named { (sources : List Field) (place : ℕ) (f : Field) → slice_get sources place ≡ Some f → StandsFor sources place f }
+{}
