@@ -41,9 +41,10 @@ pub record Begins (s : Scoping) (p : Progressing) : Type 0 where
   pub placed : ArePlaced [] p.steps
   pub tables : All (IsTableAt (length p.steps)) s.tables
 
--- what holds behind it: its rows are of the last step, or none is new
-pub record Walks (p : Progressing) (v : Flowing) : Type 0 where
+-- what holds behind it, and behind so many stages: its rows are of the last step, or none is new
+pub record Walks (passed : ℕ) (p : Progressing) (v : Flowing) : Type 0 where
   pub grown : Grown p.steps p.stages v.progress
+  pub counted : v.progress.stages ≡ p.stages + passed
   pub rows : v.input < length v.progress.steps
   pub last : (v.progress.steps ≡ p.steps) ⊎ (suc v.input ≡ length v.progress.steps)
 
@@ -115,33 +116,38 @@ last_there : (ss : List Stepping) (s : Stepping) → suc (length ss) ≡ length 
 last_there ss s = omega (arith, length-append ss (s ∷ []))
 
 -- the step goes on
-pub step_walks : (s : Scoping) (p w r : Progressing) (d : Doing) (cs : List Field) → Begins s p → Grown p.steps p.stages w → (g : Grown w.steps (w.stages + 1) r)
-    → Takes (length w.steps) (length g.new) d → Walks p (added r (w.stages + 1) d cs)
-step_walks s p w r d cs h f g takes =
+pub step_walks : (passed : ℕ) (s : Scoping) (p w r : Progressing) (d : Doing) (cs : List Field) → Begins s p → Grown p.steps p.stages w
+    → (g : Grown w.steps (w.stages + 1) r) → Takes (length w.steps) (length g.new) d → r.stages ≡ p.stages + passed → Walks passed p (added r (w.stages + 1) d cs)
+step_walks passed s p w r d cs h f g takes counted =
     let one : Stepping = record { stage = w.stages + 1; doing = d; columns = cs } in
     let last = last_there r.steps one in
-    record { grown = step_grown p.steps p.stages w r d cs h.below f g takes; rows = omega (arith, last); last = inr last }
+    record { grown = step_grown p.steps p.stages w r d cs h.below f g takes; counted = counted; rows = omega (arith, last); last = inr last }
 
 -- a step that has no steps of its own
-pub after_walks : (s : Scoping) (p w : Progressing) (d : Doing) (cs : List Field) → Begins s p → Grown p.steps p.stages w → Takes (length w.steps) 0 d
-    → Walks p (following w d cs)
+pub after_walks : (passed : ℕ) (s : Scoping) (p w : Progressing) (d : Doing) (cs : List Field) → Begins s p → Grown p.steps p.stages w
+    → Takes (length w.steps) 0 d → w.stages ≡ p.stages + passed → Walks (passed + 1) p (following w d cs)
 unfolding nothing_grown
-after_walks s p w d cs h f takes = step_walks s p w (next_stage w) d cs h f (nothing_grown w.steps (w.stages + 1) (next_stage w) refl (omega arith) f.placed) takes
+after_walks passed s p w d cs h f takes counted =
+    step_walks (passed + 1) s p w (next_stage w) d cs h f (nothing_grown w.steps (w.stages + 1) (next_stage w) refl (omega arith) f.placed) takes
+    (omega (arith, counted))
 
 pub begun : (s : Scoping) (p : Progressing) → Begins s p → Grown p.steps p.stages p
 begun s p h = nothing_grown p.steps p.stages p refl (omega arith) h.placed
 
-pub following_walks : (s : Scoping) (p : Progressing) (d : Doing) (cs : List Field) → Begins s p → Takes (length p.steps) 0 d → Walks p (following p d cs)
-following_walks s p d cs h takes = after_walks s p p d cs h (begun s p h) takes
+pub following_walks : (s : Scoping) (p : Progressing) (d : Doing) (cs : List Field) → Begins s p → Takes (length p.steps) 0 d → Walks 1 p (following p d cs)
+following_walks s p d cs h takes = after_walks 0 s p p d cs h (begun s p h) takes (omega arith)
 
-pub again_walks : (s : Scoping) (p : Progressing) (i : ℕ) → Begins s p → i < length p.steps → Walks p (again p i)
+pub again_walks : (s : Scoping) (p : Progressing) (i : ℕ) → Begins s p → i < length p.steps → Walks 1 p (again p i)
 again_walks s p i h lt =
-    record { grown = nothing_grown p.steps p.stages (next_stage p) refl (omega arith) h.placed; rows = lt; last = inl refl }
+    record { grown = nothing_grown p.steps p.stages (next_stage p) refl (omega arith) h.placed; counted = refl; rows = lt; last = inl refl }
+
+pub recounted : (m n : ℕ) (p : Progressing) (v : Flowing) → m ≡ n → Walks m p v → Walks n p v
+recounted m n p v same h = subst (λ k. Walks k p v) same h
 
 -- the right rows of a join
-pub right_takes : (w : Progressing) (r : Flowing) (i : ℕ) (walks : Walks (next_stage w) r) → i < length w.steps
+pub right_takes : (passed : ℕ) (w : Progressing) (r : Flowing) (i : ℕ) (walks : Walks passed (next_stage w) r) → i < length w.steps
     → (i < length w.steps) × (r.input < length w.steps + length walks.grown.new) × ((length walks.grown.new ≡ 0) ⊎ (suc r.input ≡ length w.steps + length walks.grown.new))
-right_takes w r i walks lt =
+right_takes passed w r i walks lt =
     let long = grown_length w.steps (w.stages + 1) r.progress walks.grown in
     (lt, omega (arith, walks.rows, long), by long walks.last)
   where

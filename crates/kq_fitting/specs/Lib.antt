@@ -2,3 +2,4 @@ pub mod Different
 pub mod Suffixes
 pub mod Staged
 pub mod United
+pub mod Counted

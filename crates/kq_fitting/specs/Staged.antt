@@ -46,13 +46,13 @@ ArePlaced before (s ∷ ss) = IsPlaced before s × ArePlaced (before ++ s ∷ []
 abbrev pub HaveOwnStages : List Stepping → Type 0
 HaveOwnStages ss = (i j : ℕ) (s t : Stepping) → slice_get ss i ≡ Some s → slice_get ss j ≡ Some t → s.stage ≡ t.stage → i ≡ j
 
--- stages are numbered from 1
-abbrev pub IsStage : Stepping → Type 0
-IsStage s = 1 ≤ s.stage
+-- stages are numbered from 1 to so many
+abbrev pub IsStage : ℕ → Stepping → Type 0
+IsStage number s = (1 ≤ s.stage) × (s.stage ≤ number)
 
--- the stages of a plan
-pub record IsStaged (p : Planned) : Type 0 where
-  pub stages : All IsStage p.steps
+-- the stages of a plan for a text of so many
+pub record IsStaged (number : ℕ) (p : Planned) : Type 0 where
+  pub stages : All (IsStage number) p.steps
   pub own : HaveOwnStages p.steps
   pub placed : ArePlaced [] p.steps
   pub output : p.output < length p.steps
