@@ -20,3 +20,4 @@ pub mod Suffixed
 pub mod Staging
 pub mod Placing
 pub mod Filled
+pub mod Written

@@ -3,3 +3,4 @@ pub mod Suffixes
 pub mod Staged
 pub mod United
 pub mod Counted
+pub mod Written

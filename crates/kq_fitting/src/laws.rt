@@ -1,11 +1,15 @@
 // Laws of the names and the columns that queries are bound to, which hold of the definitions alone.
-ghost use Rattle.std.specs.Prelude.{◌≡◌, ◌↔◌, ℕ, ◌+◌, ◌^◌, ◌≤◌, Bool, true, false, List, ◌∷◌, length, Some, slice_get};
+ghost use Rattle.std.specs.Prelude.{◌≡◌, ◌↔◌, ℕ, ◌+◌, ◌^◌, ◌≤◌, Bool, true, false, List, ◌∷◌, length, Some, Ok, slice_get};
+ghost use Rattle.kq_bind_clauses.specs.Tables.{Tabled, tabled};
 ghost use Rattle.kq_bind_clauses.specs.Unions.{union_sources};
 ghost use Rattle.kq_bind_columns.specs.Naming.{free_name};
+ghost use Rattle.kq_grammar.specs.declared.clause.Cell.{Cell};
+ghost use Rattle.kq_grammar.specs.declared.clause.Column.{Column};
 ghost use Rattle.kq_value.specs.declared.schema.Field.{Field};
 ghost use Rattle.kq_fitting.specs.Different.{AreDifferent};
 ghost use Rattle.kq_fitting.specs.Suffixes.{IsMadeFree};
 ghost use Rattle.kq_fitting.specs.United.{Has, IsOfAll, IsOfSome, FillsOne, StandsFor};
+ghost use Rattle.kq_fitting.specs.Written.{HoldsCells};
 
 /// A column without a name of its own gets the least suffix that is free, where its default name isn't.
 pub fn default_names_are_free()
@@ -18,4 +22,9 @@ pub fn unions_have_their_columns()
     ensures inner { (a : List Field) (arms : List (List Field)) (f : Field) → Has (union_sources true (a ∷ arms)) f ↔ IsOfAll (a ∷ arms) f }
     ensures filled { (inner : Bool) (arms : List (List Field)) (arm : List Field) (i : ℕ) (c : Field) → ((a : List Field) → Has arms a → AreDifferent a) → Has arms arm → slice_get arm i ≡ Some c → Has (union_sources inner arms) c → FillsOne arm (union_sources inner arms) i c }
     ensures named { (sources : List Field) (place : ℕ) (f : Field) → slice_get sources place ≡ Some f → StandsFor sources place f }
+{}
+
+/// A datatable has its cells row by row, each as a value of its column.
+pub fn tables_have_their_cells()
+    ensures { (text : List ℕ) (at : ℕ) (columns : List Column) (cells : List Cell) (t : Tabled) → tabled text at columns cells ≡ Ok t → HoldsCells text cells t }
 {}

@@ -4,5 +4,5 @@
 mod laws;
 mod query;
 
-pub use laws::{default_names_are_free, unions_have_their_columns};
+pub use laws::{default_names_are_free, tables_have_their_cells, unions_have_their_columns};
 pub use query::bind_fitting;
