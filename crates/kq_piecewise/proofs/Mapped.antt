@@ -1,28 +1,26 @@
--- Values column by column are those row by row.
-use Rattle.std.proofs.Common.{◌≡◌, ◌<◌, ◌+◌, ℕ, zero, suc, List, [], ◌∷◌, ◌++◌, map, length, get_or, take, Err, refl, sym, ap, ◌∙◌, subst, arith, append_assoc}
-use Rattle.std.proofs.lemmas.List.{map-append}
-use Rattle.std.specs.List.{concat, range_with_len}
+-- Rows made source by source are those made row by row.
+use Rattle.std.proofs.Common.{◌≡◌, ◌<◌, ◌≤◌, ◌+◌, ◌-◌, ℕ, zero, suc, List, [], ◌∷◌, ◌++◌, map, length, get_or, set, take, drop, Err, refl, sym, ap, ◌∙◌, arith}
+use Rattle.std.proofs.lemmas.List.{map-append, drop-drop, drop-set-lt}
 use Rattle.kq_value.specs.declared.value.Value.{Value}
 use Rattle.kq_computed.specs.Computed.{Computed, Is, Overflow, and_then, each, AnswersAs}
 use Rattle.kq_computed.specs.declared.fault.EvalFault.{EvalFault}
 use Rattle.kq_computed.specs.declared.fault.EvalFault.TheVariants as faults
 use Rattle.kq_columnar.specs.declared.vector.Vector.{Vector}
-use Rattle.kq_columnar.specs.Vectors.{cells_of, row_at, rows_at}
+use Rattle.kq_columnar.specs.Vectors.{cells_of}
 use Rattle.kq_expr.specs.declared.expr.Expr.{Expr}
-use Rattle.kq_expr.specs.Terms.{term_of}
-use Rattle.kq_scalar.specs.Val.{Meaning, Surroundings, meaning, val, values, cell_of}
+use Rattle.kq_expr.specs.declared.expr.Expr.TheFolds.{fold-roll-Expr}
+use Rattle.kq_expr.specs.declared.expr.Expr.TheOpen.{Expr-F}
+use Rattle.kq_expr.specs.declared.expr.Expr.TheVariants as exprs
+use Rattle.kq_expr.specs.declared.expr.Expr.TheViews.{rolls-Column}
+use Rattle.kq_expr.specs.Terms.{Term, column, one_term, term_of}
+use Rattle.kq_rows.specs.Chunks.{row_at as row_of}
+use Rattle.kq_scalar.specs.Val.{Meaning, Surroundings, meaning, values, cell_of}
+use Rattle.kq_piecewise.specs.declared.sources.Source.{Source}
+use Rattle.kq_piecewise.specs.declared.sources.Source.TheVariants.{Column, Made}
 use Rattle.kq_piecewise.specs.Operators.{values_at}
-use Rattle.kq_piecewise.specs.Pieces.{Hold, columns_read, column_of}
-use Rattle.kq_piecewise.proofs.Reading.{first_all, other_all}
-use Rattle.kq_piecewise.proofs.Standing.{range_more, stands_for}
-
--- the columns that one of the expressions reads
-pub hold_one : (columns : List Vector) (rows : List (List Value)) (es : List Expr) (i : ℕ) (e : Expr) → i < length es → e ≡ get_or es i e → Hold columns rows (concat (map columns_read es)) → Hold columns rows (columns_read e)
-hold_one columns rows [] i e l is h = absurd (omega arith)
-hold_one columns rows (x ∷ es) zero e l is h =
-    subst (λ (z : Expr). Hold columns rows (columns_read z)) (sym is) (first_all (λ j. get_or (map cells_of columns) j [] ≡ column_of j rows) (columns_read x) (concat (map columns_read es)) h)
-hold_one columns rows (x ∷ es) (suc i) e l is h =
-    hold_one columns rows es i e (omega arith) is (other_all (λ j. get_or (map cells_of columns) j [] ≡ column_of j rows) (columns_read x) (concat (map columns_read es)) h)
+use Rattle.kq_piecewise.specs.Pieces.{piece_of}
+use Rattle.kq_piecewise.specs.Sources.{GiveBehind, cell_from, cells_from, row_from, rows_from}
+use Rattle.kq_piecewise.proofs.Laws.{each_long}
 
 module _ (s : Surroundings) where
   snoc_step : (o : Computed Value) (os : Computed (List Value)) (p : Computed Value)
@@ -41,48 +39,31 @@ module _ (s : Surroundings) where
   values_snoc [] m r = end_step (m s r)
   values_snoc (x ∷ ms) m r = ap (λ os. and_then (x s r) (λ v. and_then os (λ vs. Is (v ∷ vs)))) (values_snoc ms m r) ∙ snoc_step (x s r) (values ms s r) (m s r)
 
-  both : (o : Computed (List Value)) (os : Computed (List (List Value))) (p : Computed Value) (ps : Computed (List Value)) (row : List Value) (rows : List (List Value)) (cs : List Value)
-      (x : Value) (next whole : Computed (List (List Value)))
-      → and_then o (λ y. and_then os (λ ys. Is (y ∷ ys))) ≡ Is (row ∷ rows) → and_then p (λ c. and_then ps (λ cs. Is (c ∷ cs))) ≡ Is cs → cell_of cs 0 ≡ x
-      → whole ≡ and_then (and_then o (λ vs. and_then p (λ w. Is (vs ++ w ∷ [])))) (λ y. and_then next (λ ys. Is (y ∷ ys)))
-      → whole ≡ and_then next (λ ys. Is ((row ++ x ∷ []) ∷ ys))
-  both Overflow os p ps row rows cs x next whole h k at is = absurd cc
-  both (Is r) Overflow p ps row rows cs x next whole h k at is = absurd cc
-  both (Is r) (Is rs) Overflow ps row rows cs x next whole h k at is = absurd cc
-  both (Is r) (Is rs) (Is c) Overflow row rows cs x next whole h k at is = absurd cc
-  both (Is r) (Is rs) (Is c) (Is ws) row rows [] x next whole h k at is = absurd cc
-  both (Is r) (Is rs) (Is c) (Is ws) row rows (w ∷ more) x next whole h k at is =
-      let first : r ≡ row = cc in
-      let here : c ≡ w = cc in
-      is ∙ (λ j. and_then next (λ ys. Is ((first j ++ (here ∙ at) j ∷ []) ∷ ys)))
+  first_is : {A : Type 0} (o : Computed A) (os : Computed (List A)) (y : A) (ys : List A) → and_then o (λ y. and_then os (λ ys. Is (y ∷ ys))) ≡ Is (y ∷ ys) → o ≡ Is y
+  first_is Overflow os y ys h = absurd cc
+  first_is (Is z) Overflow y ys h = absurd cc
+  first_is (Is z) (Is zs) y ys h = cc
 
   later : {A : Type 0} (o : Computed A) (os : Computed (List A)) (y : A) (ys : List A) → and_then o (λ y. and_then os (λ ys. Is (y ∷ ys))) ≡ Is (y ∷ ys) → os ≡ Is ys
   later Overflow os y ys h = absurd cc
   later (Is z) Overflow y ys h = absurd cc
   later (Is z) (Is zs) y ys h = cc
 
-  tail_of : (o : Computed Value) (os : Computed (List Value)) (cs : List Value) → and_then o (λ y. and_then os (λ ys. Is (y ∷ ys))) ≡ Is cs → (ws : List Value) × ((os ≡ Is ws) × ((i : ℕ) → cell_of cs (suc i) ≡ cell_of ws i))
-  tail_of Overflow os cs h = absurd cc
-  tail_of (Is z) Overflow cs h = absurd cc
-  tail_of (Is z) (Is zs) [] h = absurd cc
-  tail_of (Is z) (Is zs) (c ∷ cs) h = (cs, (cc, λ i. refl))
-
-  row_more : (vectors : List Vector) (v : Vector) (i : ℕ) → row_at (vectors ++ v ∷ []) i ≡ row_at vectors i ++ cell_of (cells_of v) i ∷ []
-  row_more vectors v i = map-append (λ c. cell_of (cells_of c) i) vectors (v ∷ [])
-
-  -- one column more
-  each_snoc : (ms : List Meaning) (m : Meaning) (vectors : List Vector) (v : Vector) (rows : List (List Value)) (k : ℕ) (cs : List Value)
-      → each (values ms s) rows ≡ Is (rows_at vectors (range_with_len k (length rows))) → each (m s) rows ≡ Is cs → ((i n : ℕ) → n ≡ k + i → cell_of cs i ≡ cell_of (cells_of v) n)
-      → each (values (ms ++ m ∷ []) s) rows ≡ Is (rows_at (vectors ++ v ∷ []) (range_with_len k (length rows)))
-  each_snoc ms m vectors v [] k cs h g at = refl
-  each_snoc ms m vectors v (r ∷ rows) k cs h g at =
-      let below = later (values ms s r) (each (values ms s) rows) (row_at vectors k) (rows_at vectors (range_with_len (k + 1) (length rows))) h in
-      let rest = tail_of (m s r) (each (m s) rows) cs g in
-      let next = each_snoc ms m vectors v rows (k + 1) rest.0 below rest.1.0 (λ i n is. sym (rest.1.1 i) ∙ at (suc i) n (omega arith)) in
-      both (values ms s r) (each (values ms s) rows) (m s r) (each (m s) rows) (row_at vectors k) (rows_at vectors (range_with_len (k + 1) (length rows))) cs (cell_of (cells_of v) k)
-      (each (values (ms ++ m ∷ []) s) rows) (each (values (ms ++ m ∷ []) s) (r ∷ rows)) h g (at 0 k (omega arith))
-      (ap (λ o. and_then o (λ y. and_then (each (values (ms ++ m ∷ []) s) rows) (λ ys. Is (y ∷ ys)))) (values_snoc ms m r))
-      ∙ (λ j. and_then (next j) (λ ys. Is (sym (row_more vectors v k) j ∷ ys)))
+  -- one source more
+  each_snoc : (ms : List Meaning) (m : Meaning) (xs : List Source) (x : Source) (rows : List (List Value)) (i : ℕ)
+      → each (values ms s) rows ≡ Is (rows_from xs i rows) → each (m s) rows ≡ Is (cells_from x i rows)
+      → each (values (ms ++ m ∷ []) s) rows ≡ Is (rows_from (xs ++ x ∷ []) i rows)
+  each_snoc ms m xs x [] i h g = refl
+  each_snoc ms m xs x (r ∷ rows) i h g =
+      let first = first_is (values ms s r) (each (values ms s) rows) (row_from xs i r) (rows_from xs (i + 1) rows) h in
+      let here = first_is (m s r) (each (m s) rows) (cell_from x i r) (cells_from x (i + 1) rows) g in
+      let below = later (values ms s r) (each (values ms s) rows) (row_from xs i r) (rows_from xs (i + 1) rows) h in
+      let beside = later (m s r) (each (m s) rows) (cell_from x i r) (cells_from x (i + 1) rows) g in
+      let next = each_snoc ms m xs x rows (i + 1) below beside in
+      ap (λ o. and_then o (λ y. and_then (each (values (ms ++ m ∷ []) s) rows) (λ ys. Is (y ∷ ys))))
+      (values_snoc ms m r ∙ (λ j. and_then (first j) (λ vs. and_then (here j) (λ w. Is (vs ++ w ∷ [])))))
+      ∙ ap (λ os. and_then os (λ ys. Is ((row_from xs i r ++ cell_from x i r ∷ []) ∷ ys))) next
+      ∙ ap (λ row. Is (row ∷ rows_from (xs ++ x ∷ []) (i + 1) rows)) (sym (map-append (λ x. cell_from x i r) xs (x ∷ [])))
 
   stops : {D E : Type 0} (q : Computed D) → and_then {B = E} q (λ z. Overflow) ≡ Overflow
   stops (Is z) = refl
@@ -112,35 +93,76 @@ module _ (s : Surroundings) where
   taken (x ∷ es) zero e l is = ap (λ (z : Expr). meaning (term_of z) ∷ []) (sym is)
   taken (x ∷ es) (suc i) e l is = ap (λ ms. meaning (term_of x) ∷ ms) (taken es i e (omega arith) is)
 
-  pub column_pushed : (es : List Expr) (i : ℕ) (e : Expr) (vectors : List Vector) (v : Vector) (rows : List (List Value)) (n : ℕ) → length rows ≡ n → i < length es → e ≡ get_or es i e
-      → each (values_at (map term_of (take i es)) s) rows ≡ Is (rows_at vectors (range_with_len 0 n)) → each (meaning (term_of e) s) rows ≡ Is (cells_of v)
-      → each (values_at (map term_of (take (suc i) es)) s) rows ≡ Is (rows_at (vectors ++ v ∷ []) (range_with_len 0 n))
-  column_pushed es i e vectors v rows n long l is h g =
-      ap (λ ms. each (values ms s) rows) (taken es i e l is)
-      ∙ each_snoc (map meaning (map term_of (take i es))) (meaning (term_of e)) vectors v rows 0 (cells_of v)
-      (h ∙ ap (λ (k : ℕ). Is (rows_at vectors (range_with_len 0 k))) (sym long)) g (λ i n at. let back : i ≡ n = omega arith in ap (cell_of (cells_of v)) back)
-      ∙ ap (λ (k : ℕ). Is (rows_at (vectors ++ v ∷ []) (range_with_len 0 k))) long
+  pub source_pushed : (es : List Expr) (i : ℕ) (e : Expr) (xs : List Source) (x : Source) (rows : List (List Value)) → i < length es → e ≡ get_or es i e
+      → each (values_at (map term_of (take i es)) s) rows ≡ Is (rows_from xs 0 rows) → each (meaning (term_of e) s) rows ≡ Is (cells_from x 0 rows)
+      → each (values_at (map term_of (take (suc i) es)) s) rows ≡ Is (rows_from (xs ++ x ∷ []) 0 rows)
+  source_pushed es i e xs x rows l is h g =
+      ap (λ ms. each (values ms s) rows) (taken es i e l is) ∙ each_snoc (map meaning (map term_of (take i es))) (meaning (term_of e)) xs x rows 0 h g
 
-  pub no_columns : (rows : List (List Value)) (k : ℕ) → each (values_at [] s) rows ≡ Is (rows_at [] (range_with_len k (length rows)))
-  no_columns [] k = refl
-  no_columns (r ∷ rows) k = ap (λ os. and_then os (λ ys. Is ([] ∷ ys))) (no_columns rows (k + 1))
+  pub no_sources : (rows : List (List Value)) (i : ℕ) → each (values_at [] s) rows ≡ Is (rows_from [] i rows)
+  no_sources [] i = refl
+  no_sources (r ∷ rows) i = ap (λ os. and_then os (λ ys. Is ([] ∷ ys))) (no_sources rows (i + 1))
 
--- one row more
-pub rows_more : (vectors : List Vector) (old made : List (List Value)) (row : List Value) (i : ℕ) → made ≡ old ++ rows_at vectors (range_with_len 0 i) → row ≡ row_at vectors i
-    → made ++ row ∷ [] ≡ old ++ rows_at vectors (range_with_len 0 (suc i))
-rows_more vectors old made row i h e =
-    (λ j. h j ++ e j ∷ []) ∙ append_assoc old (rows_at vectors (range_with_len 0 i)) (row_at vectors i ∷ [])
-    ∙ ap (λ rs. old ++ rs) (sym (ap (rows_at vectors) (range_more 0 i i (omega arith)) ∙ map-append (row_at vectors) (range_with_len 0 i) (i ∷ [])))
+  -- a column is what the term of a column gives
+  pub column_gives : (j : ℕ) (rows : List (List Value)) (i : ℕ) → each (meaning (column j) s) rows ≡ Is (cells_from (Column j) i rows)
+  column_gives j [] i = refl
+  column_gives j (r ∷ rows) i = ap (λ os. and_then os (λ vs. Is (cell_of r j ∷ vs))) (column_gives j rows (i + 1))
 
--- an expression over the columns that all expressions read
-pub column_stands : (es : List Expr) (i : ℕ) (e : Expr) (s : Surroundings) (columns given : List Vector) (reads places : List ℕ) (rows : List (List Value)) (n : ℕ) → length rows ≡ n
-    → i < length es → e ≡ get_or es i e → Hold columns rows reads → reads ≡ concat (map columns_read es) → given ≡ columns → places ≡ range_with_len 0 n
-    → each (val e s) (rows_at given places) ≡ each (meaning (term_of e) s) rows
-column_stands es i e s columns given reads places rows n long l is held read same at =
-    (λ j. each (val e s) (rows_at (same j) (at j)))
-    ∙ stands_for e s columns rows n long (hold_one columns rows es i e l is (subst (λ (js : List ℕ). Hold columns rows js) read held))
+pub column_term : (j : ℕ) → term_of (exprs.Column j) ≡ column j
+column_term j = ap term_of (sym (rolls-Column j)) ∙ fold-roll-Expr Term one_term (Expr-F.Column j)
 
-pub column_fault : {V W : Type 0} (see : V → List (List Value)) (saw : W → List Value) (s : Surroundings) (es : List Expr) (i : ℕ) (e : Expr) (rows : List (List Value)) (fault : EvalFault)
+made_cells : (v : Vector) (rows : List (List Value)) (cs : List Value) (k : ℕ) → length cs ≡ length rows → ((i n : ℕ) → n ≡ k + i → cell_of (cells_of v) n ≡ cell_of cs i) → cells_from (Made v) k rows ≡ cs
+made_cells v [] [] k h at = refl
+made_cells v [] (c ∷ cs) k h at = absurd (omega arith)
+made_cells v (r ∷ rows) [] k h at = absurd (omega arith)
+made_cells v (r ∷ rows) (c ∷ cs) k h at = λ t. at 0 k (omega arith) t ∷ made_cells v rows cs (k + 1) (omega arith) (λ i n is. at (suc i) n (omega arith)) t
+
+-- values that were made of all rows
+pub made_gives : (f : List Value → Computed Value) (v : Vector) (rows : List (List Value)) → each f rows ≡ Is (cells_of v) → each f rows ≡ Is (cells_from (Made v) 0 rows)
+made_gives f v rows h =
+    h ∙ ap Is (sym (made_cells v rows (cells_of v) 0 (each_long f rows (cells_of v) h) (λ i n is. let back : n ≡ i = omega arith in ap (cell_of (cells_of v)) back)))
+
+rows_more : (xs : List Source) (k : ℕ) (rows : List (List Value)) (from i n m : ℕ) → n ≡ from + i → m ≡ k + i → n < length rows
+    → rows_from xs k (take (suc i) (drop from rows)) ≡ rows_from xs k (take i (drop from rows)) ++ row_from xs m (row_of rows n) ∷ []
+rows_more xs k [] from i n m is at h = absurd (omega arith)
+rows_more xs k (r ∷ rows) zero zero zero m is at h = let same : k ≡ m = omega arith in ap (λ (q : ℕ). row_from xs q r ∷ []) same
+rows_more xs k (r ∷ rows) zero zero (suc n) m is at h = absurd (omega arith)
+rows_more xs k (r ∷ rows) zero (suc i) zero m is at h = absurd (omega arith)
+rows_more xs k (r ∷ rows) zero (suc i) (suc n) m is at h = ap (λ rs. row_from xs k r ∷ rs) (rows_more xs (k + 1) rows zero i n m (omega arith) (omega arith) (omega arith))
+rows_more xs k (r ∷ rows) (suc from) i zero m is at h = absurd (omega arith)
+rows_more xs k (r ∷ rows) (suc from) i (suc n) m is at h = rows_more xs k rows from i n m (omega arith) at (omega arith)
+
+-- one row more of a piece
+pub rows_next : (xs : List Source) (rows : List (List Value)) (from i : ℕ) → from ≤ i → i < length rows
+    → rows_from xs 0 (piece_of rows from (suc i)) ≡ rows_from xs 0 (piece_of rows from i) ++ row_from xs (i - from) (row_of rows i) ∷ []
+rows_next xs rows from i low h =
+    let one : suc i - from ≡ suc (i - from) = omega arith in
+    ap (λ (k : ℕ). rows_from xs 0 (take k (drop from rows))) one ∙ rows_more xs 0 rows from (i - from) i (i - from) (omega arith) (omega arith) h
+
+-- ---- sources that gave a row up to one of them
+
+pub cell_put : (old now : List Source) (n i : ℕ) (x : Source) (r : List Value) → length now ≡ length old → drop n now ≡ drop n old → n < length now → x ≡ get_or now n x
+    → row_from (take (suc n) old) i r ≡ row_from (take n old) i r ++ cell_from x i r ∷ []
+cell_put old [] n i x r long same l is = absurd (omega arith)
+cell_put [] (y ∷ now) n i x r long same l is = absurd (omega arith)
+cell_put (o ∷ old) (y ∷ now) zero i x r long same l is = let e : o ≡ x = cc in ap (λ (z : Source). cell_from z i r ∷ []) e
+cell_put (o ∷ old) (y ∷ now) (suc n) i x r long same l is = ap (λ cs. cell_from o i r ∷ cs) (cell_put old now n i x r (omega arith) same (omega arith) is)
+
+pub still_there : (old now : List Source) (n : ℕ) (y : Source) → drop n now ≡ drop n old → drop (suc n) (set now n y) ≡ drop (suc n) old
+still_there old now n y same =
+    let one : suc n ≡ n + 1 = omega arith in
+    drop-set-lt (suc n) now n y (omega arith) ∙ ap (λ (k : ℕ). drop k now) one ∙ sym (drop-drop 1 n now) ∙ ap (drop 1) same ∙ drop-drop 1 n old ∙ ap (λ (k : ℕ). drop k old) (sym one)
+
+same_row : (now : List Source) (n : ℕ) (x y : Source) (k : ℕ) (r : List Value) → n < length now → x ≡ get_or now n x → cell_from y k r ≡ cell_from x k r → row_from (set now n y) k r ≡ row_from now k r
+same_row [] n x y k r l is h = absurd (omega arith)
+same_row (z ∷ now) zero x y k r l is h = ap (λ c. c ∷ row_from now k r) (h ∙ ap (λ (w : Source). cell_from w k r) is)
+same_row (z ∷ now) (suc n) x y k r l is h = ap (λ cs. cell_from z k r ∷ cs) (same_row now n x y k r (omega arith) is h)
+
+pub give_same : (old now : List Source) (n i : ℕ) (x y : Source) → n < length now → x ≡ get_or now n x → GiveBehind i old now
+    → ((k : ℕ) (r : List Value) → i < k → cell_from y k r ≡ cell_from x k r) → GiveBehind i old (set now n y)
+give_same old now n i x y l is before h = λ k r behind. same_row now n x y k r l is (h k r behind) ∙ before k r behind
+
+pub source_fault : {V W : Type 0} (see : V → List (List Value)) (saw : W → List Value) (s : Surroundings) (es : List Expr) (i : ℕ) (e : Expr) (rows : List (List Value)) (fault : EvalFault)
     → i < length es → e ≡ get_or es i e → AnswersAs saw (each (meaning (term_of e) s) rows) (Err fault) → AnswersAs see (each (values_at (map term_of es) s) rows) (Err fault)
-column_fault see saw s es i e rows faults.Memory l is h = tt
-column_fault see saw s es i e rows faults.Overflow l is h = column_overflows s es i e rows l is h
+source_fault see saw s es i e rows faults.Memory l is h = tt
+source_fault see saw s es i e rows faults.Overflow l is h = column_overflows s es i e rows l is h

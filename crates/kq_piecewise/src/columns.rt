@@ -101,7 +101,7 @@ fn numbers_in<N: Number>(
     Ok(Some(numbers))
 }
 
-fn row_in(rows: &Rows, i: usize) -> &[Value]
+pub(crate) fn row_in(rows: &Rows, i: usize) -> &[Value]
     requires { i < length rows.now }
     ensures { result.now ≡ row_at rows.now i }
 {
@@ -126,7 +126,7 @@ fn cells_in(alloc: Global, rows: &Rows, from: usize, to: usize, j: usize) -> Res
 }
 
 // A copy of the cell, and a null past the end.
-fn copy_of(row: &[Value], j: usize) -> Result<Value, Memory>
+pub(crate) fn copy_of(row: &[Value], j: usize) -> Result<Value, Memory>
     ensures { IfOk result (λ v. v ≡ cell_of row.now j) }
 {
     if j < row.len() {

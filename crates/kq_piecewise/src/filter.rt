@@ -77,7 +77,8 @@ fn push_if(places: &mut Vec<u32>, kept: bool, from: usize, i: usize) -> Result<(
     Ok(())
 }
 
-// A place as rows are selected by it: rows of larger places are more than memory holds.
+// A place as rows are selected by it, in 32 bits. There may be up to 2^63 - 1 rows, and rows without columns take no memory, so
+// that a larger place can come up: it counts as a want of memory.
 fn place_of(from: usize, i: usize) -> Result<u32, Memory>
     ensures { IfOk result (λ p. p ≡ from + i) }
 {

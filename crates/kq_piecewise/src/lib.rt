@@ -7,6 +7,7 @@ mod map;
 mod numbers;
 mod piece;
 mod reads;
+mod sources;
 mod values;
 
 pub use filter::filter_rows;

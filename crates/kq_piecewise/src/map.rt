@@ -1,18 +1,17 @@
 // The rows that expressions make of each row.
-ghost use Rattle.std.specs.Prelude.{◌≡◌, ◌≤◌, ◌-◌, ◌++◌, ◌∷◌, [], IfOk, OnOk, length, map};
-ghost use Rattle.std.specs.List.{All, range_with_len};
+ghost use Rattle.std.specs.Prelude.{◌≡◌, ◌≤◌, ◌++◌, ◌∷◌, [], IfOk, OnOk, length, map};
+ghost use Rattle.std.specs.List.{All};
 ghost use Rattle.kq_computed.specs.Computed.{Answers, AnswersAs, each};
-ghost use Rattle.kq_columnar.specs.Vectors.{row_at, rows_at};
 ghost use Rattle.kq_expr.specs.Terms.{term_of};
 ghost use Rattle.kq_rows.specs.Chunks.{HasWidth};
 ghost use Rattle.kq_scalar.specs.Val.{surroundings};
 ghost use Rattle.kq_piecewise.specs.Operators.{values_at};
 ghost use Rattle.kq_piecewise.specs.Pieces.{piece_of};
+ghost use Rattle.kq_piecewise.specs.Sources.{GiveBehind, row_from, rows_from};
 
-use crate::columns::columns_in;
-use crate::piece::{PIECE, places_below};
-use crate::reads::columns_of;
-use kq_columnar::{Vector, eval_column};
+use crate::columns::row_in;
+use crate::piece::PIECE;
+use crate::sources::{Source, source_of, take_cell};
 use kq_computed::EvalFault;
 use kq_expr::Expr;
 use kq_rows::Rows;
@@ -33,15 +32,15 @@ pub fn map_rows(
     let mut from = 0;
     while from < rows.len() {
         let to = rows.len().min(from + PIECE);
-        let vectors = eval_each(alloc, rows, from, to, exprs, lets, now)?;
-        push_rows(alloc, &mut mapped, vectors.as_slice(), to - from)?;
+        let sources = sources_of(alloc, rows, from, to, exprs, lets, now)?;
+        push_rows(alloc, &mut mapped, sources, rows, from, to)?;
         from = to;
     }
     Ok(mapped)
 }
 
-// A vector for each expression, with its values over the rows from a place on, up to another.
-fn eval_each(
+// A source for each expression, with its values over the rows from a place on, up to another.
+fn sources_of(
     alloc: Global,
     rows: &Rows,
     from: usize,
@@ -49,54 +48,67 @@ fn eval_each(
     exprs: &[Expr],
     lets: &[Value],
     now: i64,
-) -> Result<Vec<Vector>, EvalFault>
+) -> Result<Vec<Source>, EvalFault>
     requires { (from ≤ to) × (to ≤ length rows.now) }
-    ensures rows { AnswersAs (λ vs. rows_at vs.items (range_with_len 0 (to - from))) (each (values_at (map term_of exprs.now) (surroundings now lets.now)) (piece_of rows.now from to)) result }
-    ensures wide { IfOk result (λ vs. length vs.items ≡ length exprs.now) }
+    ensures rows { AnswersAs (λ xs. rows_from xs.items 0 (piece_of rows.now from to)) (each (values_at (map term_of exprs.now) (surroundings now lets.now)) (piece_of rows.now from to)) result }
+    ensures wide { IfOk result (λ xs. length xs.items ≡ length exprs.now) }
 {
-    let reads = columns_of(alloc, exprs)?;
-    let columns = columns_in(alloc, rows, from, to, &reads)?;
-    let places = places_below(alloc, to - from)?;
-    let mut vectors = Vec::new(alloc);
+    let mut sources = Vec::new(alloc);
     for expr in exprs {
-        vectors.push(eval_column(alloc, expr, &columns, &places, lets, now)?)?;
+        sources.push(source_of(alloc, rows, from, to, expr, lets, now)?)?;
     }
-    Ok(vectors)
+    Ok(sources)
 }
 
-// Puts so many rows of these columns last.
+// Puts the rows last that the sources give of the rows from a place on, up to another.
 fn push_rows(
     alloc: Global,
     mapped: &mut Rows,
-    vectors: &[Vector],
-    count: usize,
+    sources: Vec<Source>,
+    rows: &Rows,
+    from: usize,
+    to: usize,
 ) -> Result<(), Memory>
-    requires { All (HasWidth (length vectors.now)) mapped.old }
-    ensures ok { OnOk result (mapped.new ≡ mapped.old ++ rows_at vectors.now (range_with_len 0 count)) }
-    ensures wide { OnOk result (All (HasWidth (length vectors.now)) mapped.new) }
+    requires piece { (from ≤ to) × (to ≤ length rows.now) }
+    requires wide { All (HasWidth (length sources.items)) mapped.old }
+    ensures ok { OnOk result (mapped.new ≡ mapped.old ++ rows_from sources.items 0 (piece_of rows.now from to)) }
+    ensures wide { OnOk result (All (HasWidth (length sources.items)) mapped.new) }
 {
-    for i in 0..count {
-        push_row(mapped, row_of(alloc, vectors, i)?, vectors.len())?;
+    let mut left = sources;
+    let width = left.len();
+    let mut row = Vec::with_capacity(alloc, width)?;
+    for i in from..to {
+        fill_row(&mut row, &mut left, row_in(rows, i), i - from)?;
+        push_row(mapped, &mut row, width)?;
     }
     Ok(())
 }
 
-fn push_row(mapped: &mut Rows, row: Vec<Value>, width: usize) -> Result<(), Memory>
-    requires rows { All (HasWidth width) mapped.old }
-    requires row { length row.items ≡ width }
-    ensures ok { OnOk result (mapped.new ≡ mapped.old ++ row.items ∷ []) }
-    ensures wide { OnOk result (All (HasWidth width) mapped.new) }
+// Puts a cell from each source into the row, which is empty.
+fn fill_row(
+    row: &mut Vec<Value>,
+    sources: &mut Vec<Source>,
+    given: &[Value],
+    i: usize,
+) -> Result<(), Memory>
+    requires { row.old.items ≡ [] }
+    ensures row { OnOk result (row.new.items ≡ row_from sources.old.items i given.now) }
+    ensures behind { OnOk result (GiveBehind i sources.old.items sources.new.items) }
+    ensures wide { length sources.new.items ≡ length sources.old.items }
 {
-    let mut row = row;
-    mapped.push_from(&mut row)
+    for n in 0..sources.len() {
+        row.push(take_cell(&mut sources[n], given, i)?)?;
+    }
+    Ok(())
 }
 
-fn row_of(alloc: Global, vectors: &[Vector], i: usize) -> Result<Vec<Value>, Memory>
-    ensures { IfOk result (λ r. r.items ≡ row_at vectors.now i) }
+// Puts a row last, which is empty then.
+fn push_row(mapped: &mut Rows, row: &mut Vec<Value>, width: usize) -> Result<(), Memory>
+    requires rows { All (HasWidth width) mapped.old }
+    requires row { length row.old.items ≡ width }
+    ensures ok { OnOk result (mapped.new ≡ mapped.old ++ row.old.items ∷ []) }
+    ensures wide { OnOk result (All (HasWidth width) mapped.new) }
+    ensures left { OnOk result (row.new.items ≡ []) }
 {
-    let mut row = Vec::with_capacity(alloc, vectors.len())?;
-    for vector in vectors {
-        row.push(vector.cell(i)?)?;
-    }
-    Ok(row)
+    mapped.push_from(row)
 }

@@ -1,18 +1,29 @@
-use Rattle.std.proofs.Common.{add-one, append-nil, sym, ap, ◌∙◌, length}
-use Rattle.std.proofs.lemmas.List.{length-map}
-use Rattle.kq_columnar.specs.declared.vector.Vector.{Vector}
-use Rattle.kq_columnar.specs.Vectors.{cells_of}
-use Rattle.kq_scalar.specs.Val.{cell_of}
-use Rattle.kq_piecewise.proofs.Mapped.{rows_more}
+use Rattle.std.proofs.Common.{◌≡◌, ◌≤◌, ◌<◌, ◌-◌, ◌∷◌, [], ◌++◌, ℕ, length, ap, sym, ◌∙◌, subst, arith, add-one, append_assoc}
+use Rattle.std.specs.List.{All}
+use Rattle.kq_value.specs.declared.value.Value.{Value}
+use Rattle.kq_rows.specs.Chunks.{HasWidth, row_at}
+use Rattle.kq_piecewise.specs.Pieces.{piece_of}
+use Rattle.kq_piecewise.specs.Sources.{row_from, rows_from}
+use Rattle.kq_piecewise.proofs.Mapped.{rows_next}
 use Rattle.kq_piecewise.proofs.map.push_rows.Goals as goal
-
-pub loop-i-init : goal.loop-i-init
-loop-i-init c = (sym (append-nil c.args.mapped.now), c.requires)
-
-pub push_row-requires-clause-row : goal.push_row-requires-clause-row
-push_row-requires-clause-row c = ap length c.in_ok-row_of.ensures ∙ length-map c.args.vectors.now (λ (v : Vector). cell_of (cells_of v) c.loop-i.i)
 
 pub loop-i-preserved : goal.loop-i-preserved
 loop-i-preserved c =
-    rw add-one
-    (c.in_ok-push_row.ensures.ok ∙ rows_more c.args.vectors.now c.args.mapped.now c.loop-i.mapped _ c.loop-i.i c.loop-i.invariant.0 c.in_ok-row_of.ensures, c.in_ok-push_row.ensures.wide)
+    let xs = c.args.sources.items in
+    let rows = c.args.rows.now in
+    let from = c.args.from in
+    let i = c.loop-i.i in
+    let before = c.loop-i.invariant in
+    let low : from ≤ i = omega arith in
+    let high : i < length rows = omega arith in
+    let wide : c.len-width.result ≡ length xs = omega (arith, c.len-width.ensures) in
+    let row : c.fill_row.new.row.items ≡ row_from xs (i - from) (row_at rows i) =
+    (c.in_ok-fill_row.ensures.row ∙ before.3 (i - from) c.row_in.result.now (omega arith) ∙ ap (row_from xs (i - from)) c.row_in.ensures) in
+    let old = c.args.mapped.now in (
+      c.in_ok-push_row.ensures.left,
+      rw add-one
+          (c.in_ok-push_row.ensures.ok ∙ (λ t. before.1 t ++ row t ∷ []) ∙ append_assoc old (rows_from xs 0 (piece_of rows from i)) (row_from xs (i - from) (row_at rows i) ∷ []) ∙ ap (λ rs. old ++ rs) (sym (rows_next xs rows from i low high))),
+      subst (λ (w : ℕ). All (HasWidth {T = Value} w) c.push_row.new.mapped) wide c.in_ok-push_row.ensures.wide,
+      λ k r behind. c.in_ok-fill_row.ensures.behind k r (omega arith) ∙ before.3 k r (omega arith),
+      c.fill_row.ensures.wide ∙ before.4,
+    )

@@ -1,8 +1,15 @@
-use Rattle.std.proofs.Common.{◌≡◌, ◌++◌, length}
-use Rattle.std.specs.List.{All, range_with_len}
-use Rattle.kq_columnar.specs.Vectors.{rows_at}
+use Rattle.std.proofs.Common.{◌≡◌, ◌≤◌, ◌-◌, ◌++◌, ℕ, List, [], length}
+use Rattle.std.specs.List.{All}
+use Rattle.kq_value.specs.declared.value.Value.{Value}
 use Rattle.kq_rows.specs.Chunks.{HasWidth}
+use Rattle.kq_piecewise.specs.Pieces.{piece_of}
+use Rattle.kq_piecewise.specs.Sources.{row_from, rows_from}
 use Rattle.kq_piecewise.proofs.map.push_rows.Given as goal
 
 abbrev pub invariant-loop-i : goal.invariant-loop-i
-invariant-loop-i l = (l.mapped ≡ l.fn.mapped ++ rows_at l.vectors (range_with_len 0 l.i)) × All (HasWidth (length l.vectors)) l.mapped
+invariant-loop-i l =
+    (l.row.items ≡ [])
+    × (l.mapped ≡ l.fn.mapped ++ rows_from l.fn.sources.items 0 (piece_of l.rows l.from l.i))
+    × All (HasWidth (length l.fn.sources.items)) l.mapped
+    × ((k : ℕ) (r : List Value) → l.i - l.from ≤ k → row_from l.left.items k r ≡ row_from l.fn.sources.items k r)
+    × (length l.left.items ≡ length l.fn.sources.items)

@@ -1,0 +1,13 @@
+use Rattle.std.proofs.Common.{◌≡◌, length, map, take}
+use Rattle.kq_computed.specs.Computed.{Is, each}
+use Rattle.kq_expr.specs.Terms.{term_of}
+use Rattle.kq_scalar.specs.Val.{surroundings}
+use Rattle.kq_piecewise.specs.Operators.{values_at}
+use Rattle.kq_piecewise.specs.Pieces.{piece_of}
+use Rattle.kq_piecewise.specs.Sources.{rows_from}
+use Rattle.kq_piecewise.proofs.map.sources_of.Given as goal
+
+abbrev pub invariant-loop-expr : goal.invariant-loop-expr
+invariant-loop-expr l =
+    (length l.sources.items ≡ l.expr-index)
+    × (each (values_at (map term_of (take l.expr-index l.exprs)) (surroundings l.now l.lets)) (piece_of l.rows l.from l.to) ≡ Is (rows_from l.sources.items 0 (piece_of l.rows l.from l.to)))

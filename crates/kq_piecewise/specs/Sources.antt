@@ -1,0 +1,33 @@
+-- Rows that are made of other rows, by pieces.
+use Rattle.std.specs.Prelude.{◌≡◌, ◌+◌, ◌<◌, ℕ, List, [], ◌∷◌, map}
+use Rattle.kq_value.specs.declared.value.Value.{Value}
+use Rattle.kq_columnar.specs.Vectors.{cells_of}
+use Rattle.kq_scalar.specs.Val.{cell_of}
+use Rattle.kq_piecewise.specs.declared.sources.Source.{Source}
+use Rattle.kq_piecewise.specs.declared.sources.Source.TheVariants.{Column, Made}
+
+-- the cell that a source gives of a row with this place in its piece
+abbrev pub cell_from : Source → ℕ → List Value → Value
+cell_from (Column j) i r = cell_of r j
+cell_from (Made v) i r = cell_of (cells_of v) i
+
+-- its cells of rows, of which the first has this place
+abbrev pub cells_from : Source → ℕ → List (List Value) → List Value
+cells_from x i [] = []
+cells_from x i (r ∷ rows) = cell_from x i r ∷ cells_from x (i + 1) rows
+
+-- a cell from each source
+abbrev pub row_from : List Source → ℕ → List Value → List Value
+row_from xs i r = map (λ x. cell_from x i r) xs
+
+abbrev pub rows_from : List Source → ℕ → List (List Value) → List (List Value)
+rows_from xs i [] = []
+rows_from xs i (r ∷ rows) = row_from xs i r ∷ rows_from xs (i + 1) rows
+
+-- behind a place, cells stand as they did
+abbrev pub StandBehind : ℕ → List Value → List Value → Type 0
+StandBehind i old new = (k : ℕ) → i < k → cell_of new k ≡ cell_of old k
+
+-- behind a place, sources give what they did
+abbrev pub GiveBehind : ℕ → List Source → List Source → Type 0
+GiveBehind i old new = (k : ℕ) (r : List Value) → i < k → row_from new k r ≡ row_from old k r

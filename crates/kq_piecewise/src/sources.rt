@@ -1,0 +1,95 @@
+// Where the values of an expression over the rows of a piece come from.
+ghost use Rattle.std.specs.Prelude.{◌≡◌, ◌<◌, ◌≤◌, ℕ, List, IfOk, OnOk, length};
+ghost use Rattle.kq_value.specs.declared.value.Value.{Value as Cell};
+ghost use Rattle.kq_columnar.specs.Vectors.{cells_of};
+ghost use Rattle.kq_computed.specs.Computed.{AnswersAs, each};
+ghost use Rattle.kq_expr.specs.Terms.{term_of};
+ghost use Rattle.kq_scalar.specs.Val.{cell_of, meaning, surroundings};
+ghost use Rattle.kq_piecewise.specs.Pieces.{piece_of};
+ghost use Rattle.kq_piecewise.specs.Sources.{StandBehind, cell_from, cells_from};
+
+use crate::columns::copy_of;
+use crate::piece::eval_piece;
+use kq_columnar::Vector;
+use kq_computed::EvalFault;
+use kq_expr::Expr;
+use kq_rows::Rows;
+use kq_value::{Memory, Ty, Value};
+use std::alloc::Global;
+use std::mem;
+
+// A column of the rows themselves, or values that were made of the piece.
+#[derive(Drop)]
+pub(crate) enum Source {
+    Column(usize),
+    Made(Vector),
+}
+
+pub(crate) fn source_of(
+    alloc: Global,
+    rows: &Rows,
+    from: usize,
+    to: usize,
+    expr: &Expr,
+    lets: &[Value],
+    now: i64,
+) -> Result<Source, EvalFault>
+    requires { (from ≤ to) × (to ≤ length rows.now) }
+    ensures { AnswersAs (λ x. cells_from x 0 (piece_of rows.now from to)) (each (meaning (term_of expr.now) (surroundings now lets.now)) (piece_of rows.now from to)) result }
+{
+    match expr {
+        Expr::Column(j) => Ok(Source::Column(*j)),
+        _ => made_of(alloc, rows, from, to, expr, lets, now),
+    }
+}
+
+fn made_of(
+    alloc: Global,
+    rows: &Rows,
+    from: usize,
+    to: usize,
+    expr: &Expr,
+    lets: &[Value],
+    now: i64,
+) -> Result<Source, EvalFault>
+    requires { (from ≤ to) × (to ≤ length rows.now) }
+    ensures { AnswersAs (λ x. cells_from x 0 (piece_of rows.now from to)) (each (meaning (term_of expr.now) (surroundings now lets.now)) (piece_of rows.now from to)) result }
+{
+    match eval_piece(alloc, rows, from, to, expr, lets, now) {
+        Ok(vector) => Ok(Source::Made(vector)),
+        Err(fault) => Err(fault),
+    }
+}
+
+// The cell for a row with this place in its piece. What was made moves out, so that it is there once.
+pub(crate) fn take_cell(source: &mut Source, row: &[Value], i: usize) -> Result<Value, Memory>
+    ensures cell { IfOk result (λ v. v ≡ cell_from source.old i row.now) }
+    ensures behind { OnOk result ((k : ℕ) (r : List Cell) → i < k → cell_from source.new k r ≡ cell_from source.old k r) }
+{
+    match source {
+        Source::Column(j) => copy_of(row, *j),
+        Source::Made(vector) => take_made(vector, i),
+    }
+}
+
+fn take_made(vector: &mut Vector, i: usize) -> Result<Value, Memory>
+    ensures cell { IfOk result (λ v. v ≡ cell_of (cells_of vector.old) i) }
+    ensures behind { OnOk result (StandBehind i (cells_of vector.old) (cells_of vector.new)) }
+{
+    match vector {
+        Vector::Cells(cells) => Ok(take_one(cells, i)),
+        numbers => numbers.cell(i),
+    }
+}
+
+// The cell, in whose place a null is left, and a null past the end.
+fn take_one(cells: &mut Vec<Value>, i: usize) -> Value
+    ensures cell { result ≡ cell_of cells.old.items i }
+    ensures behind { StandBehind i cells.old.items cells.new.items }
+{
+    if i < cells.len() {
+        mem::replace(&mut cells[i], Value::Null(Ty::Long))
+    } else {
+        Value::Null(Ty::Long)
+    }
+}
