@@ -1,3 +1,4 @@
+pub mod Firsts
 pub mod Plans
 pub mod Ranked
 pub mod Placed

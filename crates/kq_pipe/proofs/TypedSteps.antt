@@ -21,7 +21,8 @@ use Rattle.kq_value.specs.Typed.{HasTypes, IsMoment}
 use Rattle.kq_pipe.specs.declared.outcome.Outcome.{Outcome}
 use Rattle.kq_pipe.specs.declared.outcome.Outcome.TheVariants as outcome
 use Rattle.kq_pipe.specs.Gives.{Does, Handed, SortsTo, TopsTo, Unordered, World, around}
-use Rattle.kq_pipe.specs.Operators.{Taken, cell_in_stage, filtered, in_stage, single, tally, values_at}
+use Rattle.kq_piecewise.specs.Operators.{filtered, values_at}
+use Rattle.kq_pipe.specs.Operators.{Taken, cell_in_stage, in_stage, single, tally}
 use Rattle.kq_pipe.specs.Orders.{Sorted, Topped}
 use Rattle.kq_pipe.specs.Outcomes.{Row, cells_of, is_fault, order_of, outcome_at, rows_in, rows_of}
 use Rattle.kq_pipe.specs.Typed.{IsTypedBy, IsTypedCell, IsTypedTable, Stands, Stood, TypedWorld}

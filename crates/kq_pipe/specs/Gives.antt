@@ -11,7 +11,8 @@ use Rattle.kq_pipe.specs.declared.outcome.Outcome.TheVariants as outcome
 use Rattle.kq_pipe.specs.Orders.{Sorted, Topped}
 use Rattle.kq_pipe.specs.Outcomes.{Row, is_fault, outcome_at, rows_of, order_of, cells_of}
 use Rattle.kq_pipe.specs.Reshaped.{come_in_stage, range_at, DiffersTo, JoinsTo, columns_before, arms_together, expanded_by}
-use Rattle.kq_pipe.specs.Operators.{values_at, filtered, single, tally, in_stage, cell_in_stage, Taken}
+use Rattle.kq_piecewise.specs.Operators.{values_at, filtered}
+use Rattle.kq_pipe.specs.Operators.{single, tally, in_stage, cell_in_stage, Taken}
 
 -- which rows a name may give, of this kind and under these columns, or that it may overflow
 abbrev pub World : Type 1

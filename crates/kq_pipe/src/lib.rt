@@ -1,11 +1,11 @@
-//! What a plan gives over a world: its steps run one after another, row by row. How a query becomes a plan is left to the crates beside it, and where the rows of a name come from to those above.
+//! What a plan gives over a world: its steps run one after another. How a query becomes a plan is left to the crates beside it, and where the rows of a name come from to those above.
 #![tactic(auto)]
 
 mod built;
-mod filter;
 mod joined;
 mod leaves;
 mod outcome;
+mod places;
 mod reshaped;
 mod run;
 mod single;

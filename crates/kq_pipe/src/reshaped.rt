@@ -1,18 +1,18 @@
 // Rows that are made anew: ranges, different rows, unions and the parts of dynamics.
-ghost use Rattle.std.specs.Prelude.{◌≡◌, ◌∷◌, IfOk, false, length, map};
-ghost use Rattle.kq_computed.specs.Computed.{Answers, AnswersAs, each};
+ghost use Rattle.std.specs.Prelude.{◌≡◌, IfOk, false, map};
+ghost use Rattle.kq_computed.specs.Computed.{Answers};
 ghost use Rattle.kq_expr.specs.Terms.{term_of};
 ghost use Rattle.kq_plan.specs.Plans.{filling_of};
 ghost use Rattle.kq_rows.specs.Chunks.{same_width};
-ghost use Rattle.kq_scalar.specs.Val.{meaning, surroundings};
+ghost use Rattle.kq_scalar.specs.Val.{surroundings};
 ghost use Rattle.kq_pipe.specs.Operators.{in_stage};
 ghost use Rattle.kq_pipe.specs.Reshaped.{DiffersTo, arms_together, come_in_stage, expanded_by, range_at};
 
-use crate::filter::row_in;
 use crate::outcome::{Outcome, rows_at};
 use crate::terms::value_of;
 use kq_computed::EvalFault;
 use kq_expr::Expr;
+use kq_piecewise::values_over;
 use kq_plan::Arm;
 use kq_reshape::{RangeFault, append_arm, distinct_rows, expand_rows, range_rows};
 use kq_rows::Rows;
@@ -131,22 +131,4 @@ fn expand_each(
         Ok(values) => Ok(expand_rows(alloc, rows, values.as_slice(), at, ty)?),
         Err(fault) => Err(fault),
     }
-}
-
-// The value of an expression over each row.
-fn values_over(
-    alloc: Global,
-    rows: &Rows,
-    expr: &Expr,
-    lets: &[Value],
-    now: i64,
-) -> Result<Vec<Value>, EvalFault>
-    ensures values { AnswersAs (λ vs. vs.items) (each (meaning (term_of expr.now) (surroundings now lets.now)) rows.now) result }
-    ensures beside { IfOk result (λ vs. length vs.items ≡ length rows.now) }
-{
-    let mut values = Vec::new(alloc);
-    for i in 0..rows.len() {
-        values.push(value_of(alloc, expr, row_in(rows, i), lets, now)?)?;
-    }
-    Ok(values)
 }

@@ -7,7 +7,7 @@ ghost use Rattle.kq_scalar.specs.Val.{surroundings};
 ghost use Rattle.kq_pipe.specs.Built.{are_wide};
 ghost use Rattle.kq_pipe.specs.Operators.{single, tally};
 
-use crate::filter::push_copy;
+use crate::places::push_copy;
 use crate::terms::values_of;
 use kq_computed::EvalFault;
 use kq_expr::Expr;

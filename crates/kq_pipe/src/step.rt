@@ -7,18 +7,20 @@ ghost use Rattle.kq_scalar.specs.Val.{meaning, surroundings};
 ghost use Rattle.kq_pipe.specs.Built.{are_wide, is_built_step};
 ghost use Rattle.kq_pipe.specs.Gives.{Case, Handed, SortsTo, TopsTo};
 ghost use Rattle.kq_pipe.specs.Typed.{IsNext};
-ghost use Rattle.kq_pipe.specs.Operators.{AnswersOne, Taken, cell_in_stage, filtered, in_stage, single, tally, values_at};
+ghost use Rattle.kq_piecewise.specs.Operators.{filtered, values_at};
+ghost use Rattle.kq_pipe.specs.Operators.{AnswersOne, Taken, cell_in_stage, in_stage, single, tally};
 
-use crate::filter::{filter_rows, first_rows, map_rows};
 use crate::joined::{fields_at, join};
 use crate::leaves::Leaves;
 use crate::outcome::{Outcome, cells, order_at, rows_at};
+use crate::places::first_rows;
 use crate::reshaped::{distinct, expand, range, union};
 use crate::single::{single_row, tally_row, written_rows};
 use crate::sort::{sort_rows, top_rows};
 use crate::terms::value_of;
 use kq_computed::EvalFault;
 use kq_expr::Expr;
+use kq_piecewise::{filter_rows, map_rows};
 use kq_plan::{LeafKind, SortKey, Step, Work};
 use kq_rows::Rows;
 use kq_value::{Field, Memory, Text, Value};
@@ -63,7 +65,7 @@ pub(crate) fn run_step<L: Leaves>(
                 now,
             )
         }
-        Work::Take(i, count) => take(order_at(done, *i), rows_at(done, *i, &none), *count),
+        Work::Take(i, count) => take(alloc, order_at(done, *i), rows_at(done, *i, &none), *count),
         Work::Count(i) => count(alloc, rows_at(done, *i, &none)),
         Work::Sort(i, keys) => {
             let rows = rows_at(done, *i, &none);
@@ -236,10 +238,10 @@ fn top(
     }
 }
 
-fn take(ordered: bool, rows: &Rows, count: u64) -> Result<Outcome, Memory>
+fn take(alloc: Global, ordered: bool, rows: &Rows, count: u64) -> Result<Outcome, Memory>
     ensures { IfOk result (Taken ordered rows.now count) }
 {
-    let rows = first_rows(rows, count)?;
+    let rows = first_rows(alloc, rows, count)?;
     if ordered {
         Ok(Outcome::Table {
             ordered: true,

@@ -3,7 +3,7 @@ use Rattle.std.proofs.lemmas.Int.{to_z-of_z}
 use Rattle.kq_computed.specs.Computed.{Answers, each}
 use Rattle.kq_expr.specs.Terms.{term_of}
 use Rattle.kq_scalar.specs.Val.{surroundings}
-use Rattle.kq_pipe.specs.Operators.{values_at}
+use Rattle.kq_piecewise.specs.Operators.{values_at}
 use Rattle.kq_pipe.proofs.Plans.{in_stage-overflow}
 use Rattle.kq_pipe.proofs.step.project.Goals as goal
 
