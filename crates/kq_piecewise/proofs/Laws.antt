@@ -80,8 +80,3 @@ module _ {A B : Type 0} (f : A → Computed B) where
 pub answers_seen : {A : Type 0} (o : Computed A) (fault : EvalFault) → AnswersAs (λ (x : A). x) o (Err fault) → Answers o (Err fault)
 answers_seen o faults.Overflow h = h
 answers_seen o faults.Memory h = tt
-
--- a fault is one however values are seen
-pub fault_seen : {V W B : Type 0} (see : V → B) (saw : W → B) (o : Computed B) (fault : EvalFault) → AnswersAs saw o (Err fault) → AnswersAs see o (Err fault)
-fault_seen see saw o faults.Overflow h = h
-fault_seen see saw o faults.Memory h = tt

@@ -1,26 +1,34 @@
 -- Rows made source by source are those made row by row.
-use Rattle.std.proofs.Common.{◌≡◌, ◌<◌, ◌≤◌, ◌+◌, ◌-◌, ℕ, zero, suc, List, [], ◌∷◌, ◌++◌, map, length, get_or, set, take, drop, Err, refl, sym, ap, ◌∙◌, arith}
+use Rattle.std.proofs.Common.{◌≡◌, ◌<◌, ◌≤◌, ◌+◌, ◌-◌, ℕ, zero, suc, Bool, false, cond, List, [], ◌∷◌, ◌++◌, map, length, get_or, set, take, drop, Ok, Err, refl, sym, ap, ◌∙◌, subst, arith}
 use Rattle.std.proofs.lemmas.List.{map-append, drop-drop, drop-set-lt}
+use Rattle.std.specs.List.{concat, range_with_len}
+use Rattle.std.specs.Prelude.{Result}
 use Rattle.kq_value.specs.declared.value.Value.{Value}
 use Rattle.kq_computed.specs.Computed.{Computed, Is, Overflow, and_then, each, AnswersAs}
 use Rattle.kq_computed.specs.declared.fault.EvalFault.{EvalFault}
 use Rattle.kq_computed.specs.declared.fault.EvalFault.TheVariants as faults
 use Rattle.kq_columnar.specs.declared.vector.Vector.{Vector}
-use Rattle.kq_columnar.specs.Vectors.{cells_of}
+use Rattle.kq_columnar.specs.Vectors.{cells_of, rows_at}
 use Rattle.kq_expr.specs.declared.expr.Expr.{Expr}
-use Rattle.kq_expr.specs.declared.expr.Expr.TheFolds.{fold-roll-Expr}
-use Rattle.kq_expr.specs.declared.expr.Expr.TheOpen.{Expr-F}
-use Rattle.kq_expr.specs.declared.expr.Expr.TheVariants as exprs
-use Rattle.kq_expr.specs.declared.expr.Expr.TheViews.{rolls-Column}
-use Rattle.kq_expr.specs.Terms.{Term, column, one_term, term_of}
+use Rattle.kq_expr.specs.Terms.{Term, column, term_of}
 use Rattle.kq_rows.specs.Chunks.{row_at as row_of}
-use Rattle.kq_scalar.specs.Val.{Meaning, Surroundings, meaning, values, cell_of}
+use Rattle.kq_scalar.specs.Val.{Meaning, Surroundings, meaning, val, values, cell_of}
 use Rattle.kq_piecewise.specs.declared.sources.Source.{Source}
 use Rattle.kq_piecewise.specs.declared.sources.Source.TheVariants.{Column, Made}
 use Rattle.kq_piecewise.specs.Operators.{values_at}
-use Rattle.kq_piecewise.specs.Pieces.{piece_of}
-use Rattle.kq_piecewise.specs.Sources.{GiveBehind, cell_from, cells_from, row_from, rows_from}
+use Rattle.kq_piecewise.specs.Pieces.{Hold, column_of, columns_copied, columns_read, is_column, piece_of}
+use Rattle.kq_piecewise.specs.Sources.{GiveBehind, Sourced, cell_from, cells_from, row_from, rows_from}
 use Rattle.kq_piecewise.proofs.Laws.{each_long}
+use Rattle.kq_piecewise.proofs.Reading.{first_all, other_all}
+use Rattle.kq_piecewise.proofs.Standing.{stands_for}
+
+-- the columns that are copied for one of the expressions
+hold_copied : (columns : List Vector) (rows : List (List Value)) (es : List Expr) (i : ℕ) (e : Expr) → i < length es → e ≡ get_or es i e → Hold columns rows (concat (map columns_copied es)) → Hold columns rows (columns_copied e)
+hold_copied columns rows [] i e l is h = absurd (omega arith)
+hold_copied columns rows (x ∷ es) zero e l is h =
+    subst (λ (z : Expr). Hold columns rows (columns_copied z)) (sym is) (first_all (λ j. get_or (map cells_of columns) j [] ≡ column_of j rows) (columns_copied x) (concat (map columns_copied es)) h)
+hold_copied columns rows (x ∷ es) (suc i) e l is h =
+    hold_copied columns rows es i e (omega arith) is (other_all (λ j. get_or (map cells_of columns) j [] ≡ column_of j rows) (columns_copied x) (concat (map columns_copied es)) h)
 
 module _ (s : Surroundings) where
   snoc_step : (o : Computed Value) (os : Computed (List Value)) (p : Computed Value)
@@ -108,9 +116,6 @@ module _ (s : Surroundings) where
   column_gives j [] i = refl
   column_gives j (r ∷ rows) i = ap (λ os. and_then os (λ vs. Is (cell_of r j ∷ vs))) (column_gives j rows (i + 1))
 
-pub column_term : (j : ℕ) → term_of (exprs.Column j) ≡ column j
-column_term j = ap term_of (sym (rolls-Column j)) ∙ fold-roll-Expr Term one_term (Expr-F.Column j)
-
 made_cells : (v : Vector) (rows : List (List Value)) (cs : List Value) (k : ℕ) → length cs ≡ length rows → ((i n : ℕ) → n ≡ k + i → cell_of (cells_of v) n ≡ cell_of cs i) → cells_from (Made v) k rows ≡ cs
 made_cells v [] [] k h at = refl
 made_cells v [] (c ∷ cs) k h at = absurd (omega arith)
@@ -121,6 +126,24 @@ made_cells v (r ∷ rows) (c ∷ cs) k h at = λ t. at 0 k (omega arith) t ∷ m
 pub made_gives : (f : List Value → Computed Value) (v : Vector) (rows : List (List Value)) → each f rows ≡ Is (cells_of v) → each f rows ≡ Is (cells_from (Made v) 0 rows)
 made_gives f v rows h =
     h ∙ ap Is (sym (made_cells v rows (cells_of v) 0 (each_long f rows (cells_of v) h) (λ i n is. let back : n ≡ i = omega arith in ap (cell_of (cells_of v)) back)))
+
+-- the source of one of the expressions, over columns that were copied for all
+pub source_stands : (es : List Expr) (i : ℕ) (e : Expr) (s : Surroundings) (columns given : List Vector) (reads places : List ℕ) (rows : List (List Value)) (n : ℕ) → length rows ≡ n
+    → i < length es → e ≡ get_or es i e → Hold columns rows reads → reads ≡ concat (map columns_copied es) → given ≡ columns → places ≡ range_with_len 0 n
+    → (r : Result Source EvalFault) → Sourced (term_of e) (each (val e s) (rows_at given places)) r → AnswersAs (λ x. cells_from x 0 rows) (each (meaning (term_of e) s) rows) r
+source_stands es i e s columns given reads places rows n long l is held read same at r = go r
+  where
+    stands : is_column (term_of e) ≡ false → each (val e s) (rows_at given places) ≡ each (meaning (term_of e) s) rows
+    stands other =
+        let copied = hold_copied columns rows es i e l is (subst (λ (js : List ℕ). Hold columns rows js) read held) in
+        let all : columns_copied e ≡ columns_read e = ap (λ (b : Bool). cond b [] (columns_read e)) other in
+        (λ j. each (val e s) (rows_at (same j) (at j))) ∙ stands_for e s columns rows n long (subst (λ (js : List ℕ). Hold columns rows js) all copied)
+
+    go : (r : Result Source EvalFault) → Sourced (term_of e) (each (val e s) (rows_at given places)) r → AnswersAs (λ x. cells_from x 0 rows) (each (meaning (term_of e) s) rows) r
+    go (Ok (Column j)) h = ap (λ (t : Term). each (meaning t s) rows) h ∙ column_gives s j rows 0
+    go (Ok (Made v)) h = made_gives (meaning (term_of e) s) v rows (sym (stands h.0) ∙ h.1)
+    go (Err faults.Overflow) h = sym (stands h.0) ∙ h.1
+    go (Err faults.Memory) h = tt
 
 rows_more : (xs : List Source) (k : ℕ) (rows : List (List Value)) (from i n m : ℕ) → n ≡ from + i → m ≡ k + i → n < length rows
     → rows_from xs k (take (suc i) (drop from rows)) ≡ rows_from xs k (take i (drop from rows)) ++ row_from xs m (row_of rows n) ∷ []

@@ -1,5 +1,5 @@
 -- Pieces of rows, and the columns that expressions read of them.
-use Rattle.std.specs.Prelude.{◌≡◌, ◌+◌, ◌-◌, if◌then◌else◌, ℕ, List, [], ◌∷◌, map, get_or, take, drop}
+use Rattle.std.specs.Prelude.{◌≡◌, ◌+◌, ◌-◌, if◌then◌else◌, ℕ, Bool, true, false, List, [], ◌∷◌, map, get_or, take, drop}
 use Rattle.std.specs.List.{All, concat}
 use Rattle.kq_value.specs.declared.value.Value.{Value}
 use Rattle.kq_arithmetic.specs.Logic.{is_yes}
@@ -7,6 +7,7 @@ use Rattle.kq_columnar.specs.declared.vector.Vector.{Vector}
 use Rattle.kq_columnar.specs.Vectors.{cells_of}
 use Rattle.kq_expr.specs.declared.expr.Expr.{Expr, fold-Expr}
 use Rattle.kq_expr.specs.declared.expr.Expr.TheOpen.{Expr-F}
+use Rattle.kq_expr.specs.Terms.{Term, column, term_of}
 use Rattle.kq_scalar.specs.Val.{cell_of}
 
 abbrev pub reads_step : Expr-F (List ℕ) → List ℕ
@@ -18,6 +19,15 @@ reads_step (Expr-F.Call function args) = concat args.items
 -- the numbers of the columns that an expression reads
 abbrev pub columns_read : Expr → List ℕ
 columns_read = fold-Expr (List ℕ) reads_step
+
+-- whether it is a column and nothing else
+abbrev pub is_column : Term → Bool
+is_column (column j) = true
+is_column e = false
+
+-- the columns that are copied for an expression: of a column alone, each cell is taken from its row
+abbrev pub columns_copied : Expr → List ℕ
+columns_copied e = if is_column (term_of e) then [] else columns_read e
 
 -- the rows from a place on, up to another
 abbrev pub piece_of : List (List Value) → ℕ → ℕ → List (List Value)

@@ -1,8 +1,13 @@
 -- Rows that are made of other rows, by pieces.
-use Rattle.std.specs.Prelude.{◌≡◌, ◌+◌, ◌<◌, ℕ, List, [], ◌∷◌, map}
+use Rattle.std.specs.Prelude.{◌≡◌, ◌+◌, ◌<◌, ℕ, false, List, [], ◌∷◌, map, Result, Ok, Err}
 use Rattle.kq_value.specs.declared.value.Value.{Value}
 use Rattle.kq_columnar.specs.Vectors.{cells_of}
+use Rattle.kq_computed.specs.Computed.{Computed, Is, Overflow}
+use Rattle.kq_computed.specs.declared.fault.EvalFault.{EvalFault}
+use Rattle.kq_computed.specs.declared.fault.EvalFault.TheVariants as fault
+use Rattle.kq_expr.specs.Terms.{Term, column}
 use Rattle.kq_scalar.specs.Val.{cell_of}
+use Rattle.kq_piecewise.specs.Pieces.{is_column}
 use Rattle.kq_piecewise.specs.declared.sources.Source.{Source}
 use Rattle.kq_piecewise.specs.declared.sources.Source.TheVariants.{Column, Made}
 
@@ -23,6 +28,13 @@ row_from xs i r = map (λ x. cell_from x i r) xs
 abbrev pub rows_from : List Source → ℕ → List (List Value) → List (List Value)
 rows_from xs i [] = []
 rows_from xs i (r ∷ rows) = row_from xs i r ∷ rows_from xs (i + 1) rows
+
+-- the source of a term's values: a column where the term is one, and else what came of it over the piece
+abbrev pub Sourced : Term → Computed (List Value) → Result Source EvalFault → Type 0
+Sourced e came (Ok (Column j)) = e ≡ column j
+Sourced e came (Ok (Made v)) = (is_column e ≡ false) × (came ≡ Is (cells_of v))
+Sourced e came (Err fault.Overflow) = (is_column e ≡ false) × (came ≡ Overflow)
+Sourced e came (Err fault.Memory) = Unit {0}
 
 -- behind a place, cells stand as they did
 abbrev pub StandBehind : ℕ → List Value → List Value → Type 0

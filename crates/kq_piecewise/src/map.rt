@@ -9,8 +9,9 @@ ghost use Rattle.kq_piecewise.specs.Operators.{values_at};
 ghost use Rattle.kq_piecewise.specs.Pieces.{piece_of};
 ghost use Rattle.kq_piecewise.specs.Sources.{GiveBehind, row_from, rows_from};
 
-use crate::columns::row_in;
-use crate::piece::PIECE;
+use crate::columns::{columns_in, row_in};
+use crate::piece::{PIECE, places_below};
+use crate::reads::copied_of;
 use crate::sources::{Source, source_of, take_cell};
 use kq_computed::EvalFault;
 use kq_expr::Expr;
@@ -53,9 +54,12 @@ fn sources_of(
     ensures rows { AnswersAs (λ xs. rows_from xs.items 0 (piece_of rows.now from to)) (each (values_at (map term_of exprs.now) (surroundings now lets.now)) (piece_of rows.now from to)) result }
     ensures wide { IfOk result (λ xs. length xs.items ≡ length exprs.now) }
 {
+    let copied = copied_of(alloc, exprs)?;
+    let columns = columns_in(alloc, rows, from, to, &copied)?;
+    let places = places_below(alloc, to - from)?;
     let mut sources = Vec::new(alloc);
     for expr in exprs {
-        sources.push(source_of(alloc, rows, from, to, expr, lets, now)?)?;
+        sources.push(source_of(alloc, expr, &columns, &places, lets, now)?)?;
     }
     Ok(sources)
 }

@@ -39,7 +39,7 @@ pub(crate) fn eval_piece(
     eval_column(alloc, expr, &columns, &places, lets, now)
 }
 
-fn places_below(alloc: Global, count: usize) -> Result<Vec<usize>, Memory>
+pub(crate) fn places_below(alloc: Global, count: usize) -> Result<Vec<usize>, Memory>
     ensures { IfOk result (λ v. v.items ≡ range_with_len 0 count) }
 {
     let mut places = Vec::with_capacity(alloc, count)?;

@@ -1,7 +1,8 @@
 // The columns that expressions read.
-ghost use Rattle.std.specs.Prelude.{◌≡◌, ◌++◌, ◌<◌, IfOk, OnOk, map};
+ghost use Rattle.std.specs.Prelude.{◌≡◌, ◌++◌, ◌<◌, IfOk, MatchOption, OnOk, false, map};
 ghost use Rattle.std.specs.List.{All, concat};
-ghost use Rattle.kq_piecewise.specs.Pieces.{columns_read};
+ghost use Rattle.kq_expr.specs.Terms.{column, term_of};
+ghost use Rattle.kq_piecewise.specs.Pieces.{columns_copied, columns_read, is_column};
 
 use kq_expr::Expr;
 use kq_value::Memory;
@@ -16,6 +17,36 @@ pub(crate) fn columns_of(alloc: Global, exprs: &[Expr]) -> Result<Vec<usize>, Me
         push_columns(expr, &mut columns)?;
     }
     Ok(columns)
+}
+
+// The numbers of all columns that are copied for the expressions.
+pub(crate) fn copied_of(alloc: Global, exprs: &[Expr]) -> Result<Vec<usize>, Memory>
+    ensures { IfOk result (λ v. v.items ≡ concat (map columns_copied exprs.now)) }
+{
+    let mut columns = Vec::new(alloc);
+    for expr in exprs {
+        push_copied(expr, &mut columns)?;
+    }
+    Ok(columns)
+}
+
+fn push_copied(expr: &Expr, columns: &mut Vec<usize>) -> Result<(), Memory>
+    ensures { OnOk result (columns.new.items ≡ columns.old.items ++ columns_copied expr.now) }
+{
+    match column_alone(expr) {
+        Some(_) => Ok(()),
+        None => push_columns(expr, columns),
+    }
+}
+
+// Its number, where the expression is a column and nothing else.
+pub(crate) fn column_alone(expr: &Expr) -> Option<usize>
+    ensures { MatchOption result (is_column (term_of expr.now) ≡ false) (λ j. term_of expr.now ≡ column j) }
+{
+    match expr {
+        Expr::Column(j) => Some(*j),
+        Expr::Literal(_) | Expr::Cell(_) | Expr::Call(..) => None,
+    }
 }
 
 #[cycle(reads)]

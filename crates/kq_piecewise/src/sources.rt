@@ -1,19 +1,17 @@
 // Where the values of an expression over the rows of a piece come from.
-ghost use Rattle.std.specs.Prelude.{◌≡◌, ◌<◌, ◌≤◌, ℕ, List, IfOk, OnOk, length};
+ghost use Rattle.std.specs.Prelude.{◌≡◌, ◌<◌, ℕ, List, IfOk, OnOk};
 ghost use Rattle.kq_value.specs.declared.value.Value.{Value as Cell};
-ghost use Rattle.kq_columnar.specs.Vectors.{cells_of};
-ghost use Rattle.kq_computed.specs.Computed.{AnswersAs, each};
+ghost use Rattle.kq_columnar.specs.Vectors.{cells_of, rows_at};
+ghost use Rattle.kq_computed.specs.Computed.{each};
 ghost use Rattle.kq_expr.specs.Terms.{term_of};
-ghost use Rattle.kq_scalar.specs.Val.{cell_of, meaning, surroundings};
-ghost use Rattle.kq_piecewise.specs.Pieces.{piece_of};
-ghost use Rattle.kq_piecewise.specs.Sources.{StandBehind, cell_from, cells_from};
+ghost use Rattle.kq_scalar.specs.Val.{cell_of, surroundings, val};
+ghost use Rattle.kq_piecewise.specs.Sources.{Sourced, StandBehind, cell_from};
 
 use crate::columns::copy_of;
-use crate::piece::eval_piece;
-use kq_columnar::Vector;
+use crate::reads::column_alone;
+use kq_columnar::{Vector, eval_column};
 use kq_computed::EvalFault;
 use kq_expr::Expr;
-use kq_rows::Rows;
 use kq_value::{Memory, Ty, Value};
 use std::alloc::Global;
 use std::mem;
@@ -25,39 +23,23 @@ pub(crate) enum Source {
     Made(Vector),
 }
 
+// The source of an expression's values over the rows at these places. A column alone isn't looked for among the columns, which needn't have it.
 pub(crate) fn source_of(
     alloc: Global,
-    rows: &Rows,
-    from: usize,
-    to: usize,
     expr: &Expr,
+    columns: &[Vector],
+    places: &[usize],
     lets: &[Value],
     now: i64,
 ) -> Result<Source, EvalFault>
-    requires { (from ≤ to) × (to ≤ length rows.now) }
-    ensures { AnswersAs (λ x. cells_from x 0 (piece_of rows.now from to)) (each (meaning (term_of expr.now) (surroundings now lets.now)) (piece_of rows.now from to)) result }
+    ensures { Sourced (term_of expr.now) (each (val expr.now (surroundings now lets.now)) (rows_at columns.now places.now)) result }
 {
-    match expr {
-        Expr::Column(j) => Ok(Source::Column(*j)),
-        _ => made_of(alloc, rows, from, to, expr, lets, now),
-    }
-}
-
-fn made_of(
-    alloc: Global,
-    rows: &Rows,
-    from: usize,
-    to: usize,
-    expr: &Expr,
-    lets: &[Value],
-    now: i64,
-) -> Result<Source, EvalFault>
-    requires { (from ≤ to) × (to ≤ length rows.now) }
-    ensures { AnswersAs (λ x. cells_from x 0 (piece_of rows.now from to)) (each (meaning (term_of expr.now) (surroundings now lets.now)) (piece_of rows.now from to)) result }
-{
-    match eval_piece(alloc, rows, from, to, expr, lets, now) {
-        Ok(vector) => Ok(Source::Made(vector)),
-        Err(fault) => Err(fault),
+    match column_alone(expr) {
+        Some(j) => Ok(Source::Column(j)),
+        None => match eval_column(alloc, expr, columns, places, lets, now) {
+            Ok(vector) => Ok(Source::Made(vector)),
+            Err(fault) => Err(fault),
+        },
     }
 }
 
