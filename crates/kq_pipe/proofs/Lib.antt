@@ -1,7 +1,9 @@
 pub mod Firsts
 pub mod Plans
 pub mod Ranked
+pub mod Numbered
 pub mod Placed
+pub mod Least
 pub mod TypedRows
 pub mod TypedOutcomes
 pub mod TypedReshaped
