@@ -1,6 +1,6 @@
 -- Rows made source by source are those made row by row.
 use Rattle.std.proofs.Common.{◌≡◌, ◌<◌, ◌≤◌, ◌+◌, ◌-◌, ℕ, zero, suc, Bool, false, cond, List, [], ◌∷◌, ◌++◌, map, length, get_or, set, take, drop, Ok, Err, refl, sym, ap, ◌∙◌, subst, arith}
-use Rattle.std.proofs.lemmas.List.{map-append, drop-drop, drop-set-lt}
+use Rattle.std.proofs.lemmas.List.{map-append, drop-drop, drop-set-lt, take_all}
 use Rattle.std.specs.List.{concat, range_with_len}
 use Rattle.std.specs.Prelude.{Result}
 use Rattle.kq_value.specs.declared.value.Value.{Value}
@@ -189,3 +189,11 @@ pub source_fault : {V W : Type 0} (see : V → List (List Value)) (saw : W → L
     → i < length es → e ≡ get_or es i e → AnswersAs saw (each (meaning (term_of e) s) rows) (Err fault) → AnswersAs see (each (values_at (map term_of es) s) rows) (Err fault)
 source_fault see saw s es i e rows faults.Memory l is h = tt
 source_fault see saw s es i e rows faults.Overflow l is h = column_overflows s es i e rows l is h
+
+-- the cells of a column are what the term of a column gives
+pub column_whole : (s : Surroundings) (j : ℕ) (rows : List (List Value)) (n : ℕ) → n ≡ length rows → each (meaning (column j) s) rows ≡ Is (column_of j (piece_of rows 0 n))
+column_whole s j rows n is = gives rows ∙ ap (λ rs. Is (column_of j rs)) (sym (take_all (n - 0) rows (omega arith)))
+  where
+    gives : (rows : List (List Value)) → each (meaning (column j) s) rows ≡ Is (column_of j rows)
+    gives [] = refl
+    gives (r ∷ rows) = ap (λ os. and_then os (λ vs. Is (cell_of r j ∷ vs))) (gives rows)

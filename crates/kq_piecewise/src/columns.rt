@@ -58,17 +58,17 @@ fn column_in(alloc: Global, rows: &Rows, from: usize, to: usize, j: usize) -> Re
     match cell_at(rows, from, j) {
         Some(Value::Long(_)) => match numbers_in::<Longs>(alloc, rows, from, to, j)? {
             Some(longs) => Ok(Vector::Longs(longs)),
-            None => cells_in(alloc, rows, from, to, j),
+            None => any_in(alloc, rows, from, to, j),
         },
         Some(Value::Moment(_)) => match numbers_in::<Moments>(alloc, rows, from, to, j)? {
             Some(ticks) => Ok(Vector::Moments(ticks)),
-            None => cells_in(alloc, rows, from, to, j),
+            None => any_in(alloc, rows, from, to, j),
         },
         Some(Value::Span(_)) => match numbers_in::<Spans>(alloc, rows, from, to, j)? {
             Some(ticks) => Ok(Vector::Spans(ticks)),
-            None => cells_in(alloc, rows, from, to, j),
+            None => any_in(alloc, rows, from, to, j),
         },
-        _ => cells_in(alloc, rows, from, to, j),
+        _ => any_in(alloc, rows, from, to, j),
     }
 }
 
@@ -114,15 +114,29 @@ fn number_at<N: Number>(row: &[Value], j: usize) -> Option<i64>
     if j < row.len() { N::of(&row[j]) } else { None }
 }
 
-fn cells_in(alloc: Global, rows: &Rows, from: usize, to: usize, j: usize) -> Result<Vector, Memory>
+fn any_in(alloc: Global, rows: &Rows, from: usize, to: usize, j: usize) -> Result<Vector, Memory>
     requires { (from ≤ to) × (to ≤ length rows.now) }
     ensures { IfOk result (λ c. cells_of c ≡ column_of j (piece_of rows.now from to)) }
+{
+    Ok(Vector::Cells(cells_in(alloc, rows, from, to, j)?))
+}
+
+// Copies of the cells of a column, of the rows from a place on, up to another.
+pub(crate) fn cells_in(
+    alloc: Global,
+    rows: &Rows,
+    from: usize,
+    to: usize,
+    j: usize,
+) -> Result<Vec<Value>, Memory>
+    requires { (from ≤ to) × (to ≤ length rows.now) }
+    ensures { IfOk result (λ v. v.items ≡ column_of j (piece_of rows.now from to)) }
 {
     let mut cells = Vec::with_capacity(alloc, to - from)?;
     for i in from..to {
         cells.push(copy_of(row_in(rows, i), j)?)?;
     }
-    Ok(Vector::Cells(cells))
+    Ok(cells)
 }
 
 // A copy of the cell, and a null past the end.

@@ -5,7 +5,9 @@ ghost use Rattle.kq_columnar.specs.Vectors.{cells_of};
 ghost use Rattle.kq_expr.specs.Terms.{term_of};
 ghost use Rattle.kq_scalar.specs.Val.{meaning, surroundings};
 
+use crate::columns::cells_in;
 use crate::piece::{PIECE, eval_piece};
+use crate::reads::column_alone;
 use kq_columnar::Vector;
 use kq_computed::EvalFault;
 use kq_expr::Expr;
@@ -15,6 +17,22 @@ use std::alloc::Global;
 
 /// The value of an expression over each row, with the cells of the scalar lets and the ticks of the command's moment.
 pub fn values_over(
+    alloc: Global,
+    rows: &Rows,
+    expr: &Expr,
+    lets: &[Value],
+    now: i64,
+) -> Result<Vec<Value>, EvalFault>
+    ensures values { AnswersAs (λ vs. vs.items) (each (meaning (term_of expr.now) (surroundings now lets.now)) rows.now) result }
+    ensures beside { IfOk result (λ vs. length vs.items ≡ length rows.now) }
+{
+    match column_alone(expr) {
+        Some(j) => Ok(cells_in(alloc, rows, 0, rows.len(), j)?),
+        None => values_by_pieces(alloc, rows, expr, lets, now),
+    }
+}
+
+fn values_by_pieces(
     alloc: Global,
     rows: &Rows,
     expr: &Expr,
