@@ -3,3 +3,4 @@ pub mod Gathering
 pub mod Groupings
 pub mod Search
 pub mod Tables
+pub mod Typed

@@ -1,3 +1,4 @@
 pub mod Grouped
 pub mod Groups
 pub mod Keys
+pub mod Typed
