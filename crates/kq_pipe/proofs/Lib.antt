@@ -7,6 +7,8 @@ pub mod Least
 pub mod TypedRows
 pub mod TypedOutcomes
 pub mod TypedReshaped
+pub mod Arguments
+pub mod TypedGroups
 pub mod TypedSteps
 pub mod Widths
 pub mod Typed

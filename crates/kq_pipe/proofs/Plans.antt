@@ -1,14 +1,12 @@
 -- A plan between its steps, and a take of rows in no order.
-use Rattle.std.proofs.Common.{◌≡◌, Err, ap, ◌≤◌, ◌<◌, ◌+◌, ℕ, ℤ, zero, suc, min, Bool, true, false, List, [], ◌∷◌, ◌++◌, length, get_or, take, drop, map, refl, sym, subst, ◌∙◌, arith, Option, ◌&&◌}
+use Rattle.std.proofs.Common.{◌≡◌, Err, ap, ◌≤◌, ◌<◌, ◌+◌, ℕ, ℤ, zero, suc, min, Bool, true, false, List, [], ◌∷◌, ◌++◌, length, get_or, take, drop, map, refl, sym, subst, ◌∙◌, arith, Option}
 use Rattle.std.specs.Bool.{MatchBool}
-use Rattle.std.specs.Prelude.{IsTrue}
 use Rattle.std.proofs.Math.Seq.{drop-cons}
 use Rattle.std.proofs.Math.ListN.{drop_of_length-le}
 use Rattle.kq_plan.specs.Fits.{FitAfter}
 use Rattle.kq_plan.specs.Names.{Known}
 use Rattle.kq_plan.specs.Plans.{Stepping, stepping_of}
 use Rattle.kq_value.specs.Typed.{IsMoment}
-use Rattle.kq_pipe.specs.Built.{are_built, is_built_step}
 use Rattle.kq_pipe.specs.Typed.{FitsWorld, IsNext, Stood, TypedWorld}
 use Rattle.kq_pipe.proofs.TypedOutcomes.{Stood-push}
 use Rattle.kq_pipe.proofs.TypedSteps.{does_typed}
@@ -38,17 +36,15 @@ Taken-first n rows = (take n rows, length-take_min n rows, NoOftener-take n rows
 -- after the first i steps, which gave these outcomes: what the rest may come to, the plan may come to
 pub record IsAt (w : World) (now : ℤ) (steps : List Step) (output : ℕ) (i : ℕ) (done : List Outcome) : Type 0 where
   pub comes : (o : Outcome) → Follows w now (map stepping_of (take i steps)) done (map stepping_of (drop i steps)) output o → Follows w now [] [] (map stepping_of steps) output o
-  pub built : IsTrue (are_built (map stepping_of (drop i steps)))
   pub known : List ℕ → Option Known
   pub typed : TypedWorld known w
   pub stood : Stood (map stepping_of (take i steps)) done
   pub fits : FitAfter known (map stepping_of (take i steps)) (map stepping_of (drop i steps))
 
-pub IsAt-start : (w : World) (now : ℤ) (steps : List Step) (output : ℕ) → IsTrue (are_built (map stepping_of steps)) → FitsWorld (record { steps = map stepping_of steps; output = output }) w
+pub IsAt-start : (w : World) (now : ℤ) (steps : List Step) (output : ℕ) → FitsWorld (record { steps = map stepping_of steps; output = output }) w
     → IsAt w now steps output 0 []
-IsAt-start w now steps output built fits = record {
+IsAt-start w now steps output fits = record {
   comes = λ o is. is;
-  built = built;
   known = fits.known;
   typed = fits.typed;
   stood = tt;
@@ -57,20 +53,6 @@ IsAt-start w now steps output built fits = record {
 
 rest_is : (steps : List Step) (i : ℕ) (step : Step) → i < length steps → step ≡ get_or steps i step → map stepping_of (drop i steps) ≡ stepping_of step ∷ map stepping_of (drop (suc i) steps)
 rest_is steps i step within at = ap (map stepping_of) (drop-cons steps i step within ∙ (λ j. sym at j ∷ drop (suc i) steps))
-
-and_first : (a b : Bool) → IsTrue (a && b) → IsTrue a
-and_first true b e = refl
-and_first false b e = e
-
-and_then : (a b : Bool) → IsTrue (a && b) → IsTrue b
-and_then true b e = e
-and_then false b e = absurd (cc)
-
--- the next step can be run
-pub IsAt-built : (w : World) (now : ℤ) (steps : List Step) (output : ℕ) (i : ℕ) (done : List Outcome) (step : Step) → IsAt w now steps output i done → i < length steps → step ≡ get_or steps i step
-    → IsTrue (is_built_step (stepping_of step))
-IsAt-built w now steps output i done step here within at =
-    and_first (is_built_step (stepping_of step)) (are_built (map stepping_of (drop (suc i) steps))) (subst (λ (ss : List Stepping). IsTrue (are_built ss)) (rest_is steps i step within at) here.built)
 
 fits_next : (w : World) (now : ℤ) (steps : List Step) (output : ℕ) (i : ℕ) (done : List Outcome) (step : Step) (here : IsAt w now steps output i done) → i < length steps → step ≡ get_or steps i step
     → FitAfter here.known (map stepping_of (take i steps)) (stepping_of step ∷ map stepping_of (drop (suc i) steps))
@@ -123,7 +105,6 @@ IsAt-suc w now steps output i done step o moment here within at case no_fault =
     here.comes x (subst (λ (ss : List Stepping). Follows w now before done ss output x) (sym (rest_is steps i step within at)) (o, case, all)) in
     record {
       comes = goes_on;
-      built = and_then (is_built_step s) (are_built behind) (subst (λ (ss : List Stepping). IsTrue (are_built ss)) (rest_is steps i step within at) here.built);
       known = here.known;
       typed = here.typed;
       stood = subst (λ (ss : List Stepping). Stood ss (done ++ o ∷ [])) front (Stood-push before done s o here.stood (record { typed = typed; no_fault = no_fault }));

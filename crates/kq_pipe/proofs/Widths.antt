@@ -1,20 +1,23 @@
 -- The widths of the rows that a fitting step takes.
-use Rattle.std.proofs.Common.{◌≡◌, ℕ, List, Option, length, subst, sym}
+use Rattle.std.proofs.Common.{◌≡◌, ◌<◌, ◌+◌, ℕ, List, [], Option, Vec, Global, length, map, subst, sym, ap, ◌∙◌, arith, length-append}
 use Rattle.std.specs.List.{All}
+use Rattle.std.proofs.lemmas.List.{get_or-map, length-map}
 use Rattle.kq_expr.specs.Terms.{Term}
 use Rattle.kq_plan.specs.declared.work.JoinKind.{JoinKind}
-use Rattle.kq_plan.specs.Fits.{FitsStep, GivesColumns}
-use Rattle.kq_plan.specs.Plans.{Doing, Stepping, expanded, joined}
+use Rattle.kq_plan.specs.Fits.{FitsStep, GivesColumns, lets_of}
+use Rattle.kq_plan.specs.Plans.{Aggregating, Doing, Stepping, cells_seen, expanded, joined, summarized, written}
 use Rattle.kq_rows.proofs.Typed.{same_width-typed, typed_width}
 use Rattle.kq_rows.specs.Chunks.{HasWidth, same_width}
 use Rattle.kq_value.specs.declared.schema.Field.{Field}
 use Rattle.kq_value.specs.declared.ty.Ty.{Ty}
-use Rattle.kq_value.specs.Typed.{HasTypes}
+use Rattle.kq_value.specs.declared.value.Value.{Value}
 use Rattle.kq_pipe.specs.declared.outcome.Outcome.{Outcome}
 use Rattle.kq_pipe.specs.Gives.{World}
-use Rattle.kq_pipe.specs.Outcomes.{rows_of}
+use Rattle.kq_pipe.specs.Grouping.{all_made}
+use Rattle.kq_pipe.specs.Outcomes.{Row, rows_of}
 use Rattle.kq_pipe.specs.Reshaped.{columns_before}
 use Rattle.kq_pipe.specs.Typed.{IsNext, Stood}
+use Rattle.kq_pipe.proofs.TypedGroups.{all_made_by, length-AreTyped}
 use Rattle.kq_pipe.proofs.TypedOutcomes.{columns_before-given, rows_typed}
 
 -- rows of a step are as wide as its columns
@@ -44,3 +47,23 @@ pub expanded_even : (w : World) (before : List Stepping) (done : List Outcome) (
 expanded_even w before done s i e at t next is =
     let fits = subst (λ (d : Doing). FitsStep next.known before d s.columns) is next.fits in
     same_width-typed fits.0 (rows_of done i) (rows_typed before done i fits.0 next.stood fits.1)
+
+-- the rows of a datatable are as wide as its columns
+pub written_wide : (w : World) (before : List Stepping) (done : List Outcome) (s : Stepping) (rows : List Row) → IsNext w before done s → s.doing ≡ written rows → All (HasWidth (length s.columns)) rows
+written_wide w before done s rows next is = typed_width s.columns rows (subst (λ (d : Doing). FitsStep next.known before d s.columns) is next.fits)
+
+-- the same as the code has them
+pub cells_wide : (rows : List (Vec Value Global)) (width : ℕ) → All (HasWidth width) (map cells_seen rows) → All (λ (row : Vec Value Global). length row.items ≡ width) rows
+cells_wide rows width wide k d within =
+    let inside : k < length (map cells_seen rows) = let a = length-map rows cells_seen in omega (arith, a, within) in
+    ap length (sym (get_or-map cells_seen rows k d [] within)) ∙ wide k [] inside
+
+-- a summarize has a column for each key, and those of its aggregates
+pub summarized_wide : (w : World) (before : List Stepping) (done : List Outcome) (s : Stepping) (i : ℕ) (es : List Term) (gs : List Aggregating) → IsNext w before done s → s.doing ≡ summarized i es gs
+    → length s.columns ≡ length es + all_made gs
+summarized_wide w before done s i es gs next doing =
+    let (from, gives, ks, made, is, are, plain, fit) = subst (λ (d : Doing). FitsStep next.known before d s.columns) doing next.fits in
+    let a = length-AreTyped (lets_of before) from es ks are in
+    let b = all_made_by (lets_of before) from gs made fit in
+    let c : length s.columns ≡ length ks + length made = ap length is ∙ length-append ks made in
+    omega (arith, a, b, c)

@@ -3,6 +3,6 @@ pub mod Orders
 pub mod Keyed
 pub mod Operators
 pub mod Reshaped
+pub mod Grouping
 pub mod Gives
-pub mod Built
 pub mod Typed

@@ -1,7 +1,7 @@
 //! What a plan gives over a world: its steps run one after another. How a query becomes a plan is left to the crates beside it, and where the rows of a name come from to those above.
 #![tactic(auto)]
 
-mod built;
+mod grouping;
 mod joined;
 mod leaves;
 mod outcome;
@@ -13,7 +13,6 @@ mod sort;
 mod step;
 mod terms;
 
-pub use built::is_built;
 pub use leaves::Leaves;
 pub use outcome::Outcome;
 pub use run::run_plan;

@@ -1,8 +1,7 @@
 // A plan, step by step.
-ghost use Rattle.std.specs.Prelude.{IfOk, IsTrue};
+ghost use Rattle.std.specs.Prelude.{IfOk};
 ghost use Rattle.kq_plan.specs.Plans.{planned_of};
 ghost use Rattle.kq_value.specs.Typed.{IsMoment};
-ghost use Rattle.kq_pipe.specs.Built.{is_built};
 ghost use Rattle.kq_pipe.specs.Gives.{Gives};
 ghost use Rattle.kq_pipe.specs.Typed.{FitsWorld};
 
@@ -21,7 +20,6 @@ pub fn run_plan<L: Leaves>(
     leaves: &L,
     now: i64,
 ) -> Result<Outcome, Memory>
-    requires built { IsTrue (is_built (planned_of plan.now)) }
     requires moment { IsMoment now }
     requires fits { FitsWorld (planned_of plan.now) (L.may_give leaves.now) }
     ensures { IfOk result (Gives (planned_of plan.now) (L.may_give leaves.now) now) }

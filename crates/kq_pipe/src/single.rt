@@ -1,10 +1,10 @@
 // Rows of no other rows.
-ghost use Rattle.std.specs.Prelude.{◌≡◌, IfOk, IsTrue, map};
+ghost use Rattle.std.specs.Prelude.{◌≡◌, IfOk, length, map};
+ghost use Rattle.std.specs.List.{All};
 ghost use Rattle.kq_computed.specs.Computed.{Answers};
 ghost use Rattle.kq_expr.specs.Terms.{term_of};
 ghost use Rattle.kq_plan.specs.Plans.{cells_seen};
 ghost use Rattle.kq_scalar.specs.Val.{surroundings};
-ghost use Rattle.kq_pipe.specs.Built.{are_wide};
 ghost use Rattle.kq_pipe.specs.Operators.{single, tally};
 
 use crate::places::push_copy;
@@ -36,7 +36,7 @@ pub(crate) fn written_rows(
     cells: &[Vec<Value>],
     width: usize,
 ) -> Result<Rows, Memory>
-    requires { IsTrue (are_wide width (map cells_seen cells.now)) }
+    requires { All (λ row. length row.items ≡ width) cells.now }
     ensures { IfOk result (λ rows. rows ≡ map cells_seen cells.now) }
 {
     let mut rows = Rows::new(alloc);

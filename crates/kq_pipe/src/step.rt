@@ -1,15 +1,16 @@
 // One step of a plan.
-ghost use Rattle.std.specs.Prelude.{◌≡◌, [], IfOk, IsTrue, false, map};
+ghost use Rattle.std.specs.Prelude.{◌≡◌, [], IfOk, false, length, map};
+ghost use Rattle.std.specs.List.{All};
 ghost use Rattle.kq_computed.specs.Computed.{each};
 ghost use Rattle.kq_expr.specs.Terms.{term_of};
 ghost use Rattle.kq_plan.specs.Plans.{cells_seen, sorting_of, stepping_of};
 ghost use Rattle.kq_scalar.specs.Val.{meaning, surroundings};
-ghost use Rattle.kq_pipe.specs.Built.{are_wide, is_built_step};
 ghost use Rattle.kq_pipe.specs.Gives.{Case, Handed, SortsTo, TopsTo};
 ghost use Rattle.kq_pipe.specs.Typed.{IsNext};
 ghost use Rattle.kq_piecewise.specs.Operators.{filtered, values_at};
 ghost use Rattle.kq_pipe.specs.Operators.{AnswersOne, Taken, cell_in_stage, in_stage, single, tally};
 
+use crate::grouping::summarize;
 use crate::joined::{fields_at, join};
 use crate::leaves::Leaves;
 use crate::outcome::{Outcome, cells, order_at, rows_at};
@@ -35,7 +36,6 @@ pub(crate) fn run_step<L: Leaves>(
     leaves: &L,
     now: i64,
 ) -> Result<Outcome, Memory>
-    requires built { IsTrue (is_built_step (stepping_of step.now)) }
     requires next { IsNext (L.may_give leaves.now) (map stepping_of before.now) done.now (stepping_of step.now) }
     ensures { IfOk result (Case (L.may_give leaves.now) now (map stepping_of before.now) done.now (stepping_of step.now)) }
 {
@@ -91,7 +91,16 @@ pub(crate) fn run_step<L: Leaves>(
             let rows = rows_at(done, *i, &none);
             expand(alloc, stage, rows, expr, *at, *ty, lets.as_slice(), now)
         }
-        Work::Summarize(..) => unreachable!(),
+        Work::Summarize(i, keys, aggregates) => summarize(
+            alloc,
+            stage,
+            rows_at(done, *i, &none),
+            keys.as_slice(),
+            aggregates.as_slice(),
+            step.columns.as_slice(),
+            lets.as_slice(),
+            now,
+        ),
     }
 }
 
@@ -135,7 +144,7 @@ fn print(
 }
 
 fn datatable(alloc: Global, rows: &[Vec<Value>], width: usize) -> Result<Outcome, Memory>
-    requires { IsTrue (are_wide width (map cells_seen rows.now)) }
+    requires { All (λ row. length row.items ≡ width) rows.now }
     ensures { IfOk result (λ o. o ≡ Outcome.Table false (map cells_seen rows.now)) }
 {
     let rows = written_rows(alloc, rows, width)?;

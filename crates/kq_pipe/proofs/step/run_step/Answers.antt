@@ -1,11 +1,14 @@
-use Rattle.std.proofs.Common.{◌≡◌, List, ap, length, map, subst, sym}
+use Rattle.std.proofs.Common.{◌≡◌, ◌+◌, ℕ, List, ap, length, map, rules, subst, sym, ◌∙◌}
+use Rattle.std.proofs.lemmas.List.{length-map}
 use Rattle.std.specs.List.{All}
-use Rattle.kq_plan.specs.Plans.{doing_of, stepping_of}
+use Rattle.kq_expr.specs.Terms.{term_of}
+use Rattle.kq_plan.specs.Plans.{aggregating_of, cells_seen, doing_of, stepping_of}
 use Rattle.kq_rows.specs.Chunks.{HasWidth, same_width}
 use Rattle.kq_value.specs.declared.schema.Field.{Field}
+use Rattle.kq_pipe.specs.Grouping.{all_made}
 use Rattle.kq_pipe.specs.Outcomes.{Row, rows_of}
 use Rattle.kq_pipe.specs.Reshaped.{columns_before}
-use Rattle.kq_pipe.proofs.Widths.{expanded_even, left_wide, right_wide}
+use Rattle.kq_pipe.proofs.Widths.{cells_wide, expanded_even, left_wide, right_wide, summarized_wide, written_wide}
 use Rattle.kq_pipe.proofs.step.run_step.Goals as goal
 
 pub join-requires-clause-left : goal.join-requires-clause-left
@@ -30,3 +33,18 @@ expand-requires g c =
     let rows : c.rows_at-rows-in-Expand.result.now ≡ rows_of c.args.done.now c.in-Expand.i = c.rows_at-rows-in-Expand.ensures in
     let even = expanded_even (g.L.Leaves.may_give c.args.leaves.now) before c.args.done.now (stepping_of c.args.step.now) c.in-Expand.i _ c.in-Expand.at c.in-Expand.ty c.requires.next (ap doing_of c.in-Expand.is) in
     subst (λ (rs : List Row). same_width rs) (sym rows) even
+
+pub datatable-requires : goal.datatable-requires
+datatable-requires g c =
+    let columns = c.args.step.now.columns.items in
+    let many : c.len.result ≡ length columns = search (rules, c.len.ensures) in
+    let written = map cells_seen c.in-Table.rows.items in
+    let wide = written_wide (g.L.Leaves.may_give c.args.leaves.now) (map stepping_of c.args.before.now) c.args.done.now (stepping_of c.args.step.now) written c.requires.next (ap doing_of c.in-Table.is) in
+    rw (c.as_slice-in-Table.ensures.value, many) (cells_wide c.in-Table.rows.items (length columns) wide)
+
+pub summarize-requires : goal.summarize-requires
+summarize-requires g c =
+    let keys = c.in-Summarize.keys.items in
+    let gs = map aggregating_of c.in-Summarize.aggregates.items in
+    let wide = summarized_wide (g.L.Leaves.may_give c.args.leaves.now) (map stepping_of c.args.before.now) c.args.done.now (stepping_of c.args.step.now) c.in-Summarize.i (map term_of keys) gs c.requires.next (ap doing_of c.in-Summarize.is) in
+    rw (c.as_slice-in-Summarize-3.ensures.value, c.as_slice-in-Summarize.ensures.value, c.as_slice-in-Summarize-2.ensures.value) (wide ∙ ap (λ (n : ℕ). n + all_made gs) (length-map keys term_of))
