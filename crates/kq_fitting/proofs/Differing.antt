@@ -1,7 +1,7 @@
 -- The columns of each step of a bound plan have different names.
-use Rattle.std.proofs.Common.{◌≡◌, ℕ, zero, suc, ◌+◌, Bool, true, false, cond, List, [], ◌∷◌, ◌++◌, length, map, All, Option, Some, None, Result, Ok, Err, IfOk, refl, ap, subst, arith}
-use Rattle.std.specs.Prelude.{slice_set}
-use Rattle.std.proofs.lemmas.List.Elements.{All-nil, All-head, All-tail, All-pop, All-push, All-weaker}
+use Rattle.std.proofs.Common.{◌≡◌, ℕ, zero, suc, ◌+◌, ◌^◌, ◌<◌, Bool, true, false, cond, List, [], ◌∷◌, ◌++◌, length, map, All, Option, Some, None, Result, Ok, Err, IfOk, refl, ap, subst, arith}
+use Rattle.std.specs.Prelude.{slice_set, slice_index_or, Vec}
+use Rattle.std.proofs.lemmas.List.Elements.{All-nil, All-head, All-tail, All-map, All-pop, All-push, All-weaker}
 use Rattle.kq_bind.specs.Pipes.{tabular, sourced, from_word, united_with, gathered, armed, piped, operated}
 use Rattle.kq_bind.specs.Queries.{Letting, nothing_let, scope_of, is_let, scalar_put, tabular_put, if_new, scalar_let, tabular_let, bare_name, is_tabular, let_made, lets_made, planned, query_walked, query_bound}
 use Rattle.kq_bind_clauses.specs.Joins.{join_kind, on_keys, join_columns}
@@ -36,7 +36,7 @@ use Rattle.kq_plan.specs.declared.work.JoinKind.{JoinKind}
 use Rattle.kq_plan.specs.declared.work.LeafKind.TheVariants as kind
 use Rattle.kq_plan.specs.declared.plan.Plan.{Plan}
 use Rattle.kq_plan.specs.Names.{Known}
-use Rattle.kq_plan.specs.Plans.{Doing, leaf, written, kept, mapped, cut, counted, sorted, topped, apart, summarized, joined, expanded, Stepping, Planned, planned_of, scalar as scalar_step}
+use Rattle.kq_plan.specs.Plans.{Doing, leaf, written, kept, mapped, cut, counted, sorted, topped, apart, summarized, joined, expanded, Stepping, Planned, planned_of, stepping_of, scalar as scalar_step}
 use Rattle.kq_spelled.specs.Names.{name_said, name_place, string_said}
 use Rattle.kq_spelled.specs.Pieces.{piece}
 use Rattle.kq_syntax.specs.Choices.{Right, scalar, table as tabular_alone, either}
@@ -45,7 +45,7 @@ use Rattle.kq_value.specs.declared.schema.Field.{Field}
 use Rattle.kq_value.specs.declared.ty.Ty.{Ty}
 use Rattle.kq_value.specs.declared.ty.Ty.TheVariants as ty
 use Rattle.kq_value.specs.Ty.{same_ty}
-use Rattle.kq_fitting.specs.Different.{KnowsDifferent, HasDifferent, IsNarrow}
+use Rattle.kq_fitting.specs.Different.{KnowsDifferent, HasDifferent}
 use Rattle.kq_fitting.proofs.Progress.{then_ok, done, done_is}
 use Rattle.kq_fitting.proofs.Apart.{Apart, apart_behind, one_apart, apart_different, different_apart, set_apart, found_named, unfound, IfFew}
 use Rattle.kq_fitting.proofs.Named.{items_apart, printed_apart, columns_apart, aggregates_apart}
@@ -53,6 +53,10 @@ use Rattle.kq_fitting.proofs.Placed.{over_apart, without_apart, chosen_once, cho
 use Rattle.kq_fitting.proofs.Together.{join_apart, FirstApart, sources_single, union_apart}
 
 -- ---- one step more
+
+-- no more columns than a vector holds
+abbrev IsNarrow : Stepping → Type 0
+IsNarrow s = length s.columns < 2 ^ 63
 
 abbrev IsApart : Stepping → Type 0
 IsApart s = Apart s.columns
@@ -401,8 +405,15 @@ bound_different text known q p e tells narrow =
     let all = walked_apart text known q p tells (supported (unsupported_query text q) (query_walked text known q) p e) narrow in
     All-weaker IsApart HasDifferent (λ s h. apart_different s.columns h) p.steps all
 
+-- a vector holds fewer than 2^63 items
+vec_few : {X Z : Type 0} (v : Vec X Z) → length v.items < 2 ^ 63
+vec_few v = let ok = v.ok in let small = v.small in omega (arith, ok.0, ok.1, small)
+
+plan_narrow : (p : Plan) → All IsNarrow (planned_of p).steps
+plan_narrow p = All-map IsNarrow stepping_of p.steps.items (λ k d less. vec_few (slice_index_or p.steps.items k d).columns)
+
 -- what the code answers
 pub answer_different : (text : List ℕ) (known : List ℕ → Option Known) (q : QueryTree) (r : Result Plan BindFault) → KnowsDifferent known
-    → Answers planned_of (query_bound text known q) r → IfOk r (λ (p : Plan). All IsNarrow (planned_of p).steps → All HasDifferent (planned_of p).steps)
-answer_different text known q (Ok p) tells e = bound_different text known q (planned_of p) e tells
+    → Answers planned_of (query_bound text known q) r → IfOk r (λ (p : Plan). All HasDifferent (planned_of p).steps)
+answer_different text known q (Ok p) tells e = bound_different text known q (planned_of p) e tells (plan_narrow p)
 answer_different text known q (Err f) tells e = tt

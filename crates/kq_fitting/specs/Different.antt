@@ -1,5 +1,5 @@
 -- Columns of different names.
-use Rattle.std.specs.Prelude.{◌≡◌, ℕ, ◌^◌, ◌<◌, List, length, Option, Some, slice_get}
+use Rattle.std.specs.Prelude.{◌≡◌, ℕ, List, Option, Some, slice_get}
 use Rattle.kq_plan.specs.declared.names.NameKind.{NameKind}
 use Rattle.kq_plan.specs.Names.{Known}
 use Rattle.kq_plan.specs.Plans.{Stepping}
@@ -16,7 +16,3 @@ KnowsDifferent known = (said : List ℕ) (kind : NameKind) (cs : List Field) →
 -- the columns of a step have different names
 abbrev pub HasDifferent : Stepping → Type 0
 HasDifferent s = AreDifferent s.columns
-
--- a step of no more columns than a vector can hold
-abbrev pub IsNarrow : Stepping → Type 0
-IsNarrow s = length s.columns < 2 ^ 63

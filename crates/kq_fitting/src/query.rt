@@ -7,7 +7,7 @@ ghost use Rattle.kq_grammar.specs.TabularViews.{query_of};
 ghost use Rattle.kq_plan.specs.Fits.{Fits};
 ghost use Rattle.kq_plan.specs.Plans.{planned_of};
 ghost use Rattle.kq_fitting.specs.Counted.{stages_of};
-ghost use Rattle.kq_fitting.specs.Different.{KnowsDifferent, IsNarrow, HasDifferent};
+ghost use Rattle.kq_fitting.specs.Different.{KnowsDifferent, HasDifferent};
 ghost use Rattle.kq_fitting.specs.Staged.{IsStaged};
 
 use kq_bind::bind;
@@ -25,7 +25,7 @@ pub fn bind_fitting<N: Names>(
 ) -> Result<Plan, BindFault>
     ensures bound { Answers planned_of (query_bound text.now (N.known names.now) (query_of query.now)) result }
     ensures fits { IfOk result (λ p. Fits (N.known names.now) (planned_of p) (columns_at (planned_of p).steps p.output)) }
-    ensures different { KnowsDifferent (N.known names.now) → IfOk result (λ p. All IsNarrow (planned_of p).steps → All HasDifferent (planned_of p).steps) }
+    ensures different { KnowsDifferent (N.known names.now) → IfOk result (λ p. All HasDifferent (planned_of p).steps) }
     ensures staged { IfOk result (λ p. IsStaged (stages_of (query_of query.now)) (planned_of p)) }
 {
     bind(alloc, text, query, names)
