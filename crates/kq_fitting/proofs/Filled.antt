@@ -1,9 +1,8 @@
 -- Which columns a union has, and that each column of its arms fills one.
-use Rattle.std.proofs.Common.{◌≡◌, ◌⊎◌, inl, inr, ℕ, zero, suc, ◌+◌, Bool, true, false, ◌||◌, ◌&&◌, not, cond, List, [], ◌∷◌, ◌++◌, Option, Some, None, refl, sym, ap, ◌∙◌, subst, arith}
+use Rattle.std.proofs.Common.{◌≡◌, ◌⊎◌, inl, inr, ℕ, zero, suc, ◌+◌, Bool, true, false, ◌||◌, ◌&&◌, cond, List, [], ◌∷◌, Option, Some, None, refl, sym, ap, ◌∙◌, subst, arith}
 use Rattle.std.specs.Prelude.{slice_get}
 use Rattle.std.specs.List.{filter}
-use Rattle.kq_bind_clauses.specs.Unions.{has_column, place_behind, put_behind_name, with_column, with_columns, all_columns, in_all, union_sources, is_mixed, keep_names, typed_name, names_made, of_type, filling}
-use Rattle.kq_bind_columns.specs.Items.{field}
+use Rattle.kq_bind_clauses.specs.Unions.{has_column, place_behind, put_behind_name, with_column, with_columns, all_columns, in_all, union_sources, of_type, filling}
 use Rattle.kq_bind_columns.specs.Naming.{is_taken}
 use Rattle.kq_bind_expression.specs.Lookup.{first_named}
 use Rattle.kq_value.specs.declared.schema.Field.{Field}
@@ -12,9 +11,9 @@ use Rattle.kq_value.specs.Schema.{same_field}
 use Rattle.kq_value.specs.Ty.{same_ty}
 use Rattle.kq_value.proofs.Fields.{same_ty-Decides, same_field-Decides}
 use Rattle.kq_fitting.specs.Different.{AreDifferent}
-use Rattle.kq_fitting.specs.United.{Has, IsOfAll, IsOfSome, FillsOne, IsOfOneType, StandsFor}
+use Rattle.kq_fitting.specs.United.{Has, IsOfAll, IsOfSome, FillsOne}
 use Rattle.kq_fitting.proofs.Apart.{same, same_text_is, are_same, not_both, is_false, or_first, or_else, there_taken, Apart, different_apart}
-use Rattle.kq_fitting.proofs.Together.{Among, has_among, among_has, has_insert, Single, FirstApart, sources_single, mixed_there, field_parts}
+use Rattle.kq_fitting.proofs.Together.{Among, has_among, among_has, has_insert, Single, FirstApart, sources_single, field_parts}
 
 -- ---- columns that are there
 
@@ -126,7 +125,7 @@ have_all [] f h = refl
 have_all (a ∷ arms) f h =
     true_both (has_column a f) (in_all arms f) (has_is a f (h a (arm_first a arms))) (have_all arms f (λ b at. h b (arm_later a b arms at)))
 
-filtered_from : (p : Field → Bool) (cs : List Field) (f : Field) → Among (filter p cs) f → Among cs f × (p f ≡ true)
+pub filtered_from : (p : Field → Bool) (cs : List Field) (f : Field) → Among (filter p cs) f → Among cs f × (p f ≡ true)
 filtered_from p [] f h = absurd h
 filtered_from p (c ∷ cs) f h = by (p c) refl h (filtered_from p cs f) where
   by : (b : Bool) → p c ≡ b → Among (cond b (c ∷ filter p cs) (filter p cs)) f → (Among (filter p cs) f → Among cs f × (p f ≡ true))
@@ -247,73 +246,6 @@ fills_one arm sources i c different single at has = record {
       let same : q.1 ≡ c = same_some q.1 c (sym here ∙ at) in
       let is : f.0 ≡ c = field_parts f.0 q.1 (sym q.4) (sym p.3 ∙ sym q.5) ∙ same in
       single_places sources k has.number c single (f.1 ∙ ap (λ (z : Field). Some z) is) has.there
-
--- ---- the columns themselves
-
-not_mixed : (sources : List Field) (f : Field) → IsOfOneType sources f → is_mixed sources f ≡ false
-not_mixed sources f h = none sources (λ g at. h g (among_there sources g at)) where
-  none : (cs : List Field) → ((g : Field) → Among cs g → g.name ≡ f.name → g.ty ≡ f.ty) → is_mixed cs f ≡ false
-  none [] k = refl
-  none (c ∷ cs) k = by (same c.name f.name) (same_ty c.ty f.ty) refl refl (none cs (λ g at. k g (inr at))) where
-    by : (a b : Bool) → same c.name f.name ≡ a → same_ty c.ty f.ty ≡ b → is_mixed cs f ≡ false → ((a && not b) || is_mixed cs f) ≡ false
-    by false b e g more = more
-    by true true e g more = more
-    by true false e g more = absurd (not_both (same_ty c.ty f.ty) ((same_ty-Decides c.ty f.ty).1 (k c (inl refl) (same_text_is c.name f.name e))) g)
-
-mixed_not : (sources : List Field) (f : Field) → (IsOfOneType sources f → ⊥) → is_mixed sources f ≡ true
-mixed_not sources f h = by (is_mixed sources f) refl where
-  all : is_mixed sources f ≡ false → IsOfOneType sources f
-  all e g has name = one (same_ty g.ty f.ty) refl where
-    one : (b : Bool) → same_ty g.ty f.ty ≡ b → g.ty ≡ f.ty
-    one true is = (same_ty-Decides g.ty f.ty).0 is
-    one false is =
-        let other : g.ty ≡ f.ty → ⊥ = λ t. not_both (same_ty g.ty f.ty) ((same_ty-Decides g.ty f.ty).1 t) is in
-        absurd (not_both (is_mixed sources f) (mixed_there sources f g (there_among sources has.number g has.there) name other) e)
-
-  by : (b : Bool) → is_mixed sources f ≡ b → b ≡ true
-  by true e = refl
-  by false e = absurd (h (all e))
-
-abbrev made_for : List Field → List Field → Field → Field
-made_for every taken f = cond (is_mixed every f) (field (typed_name taken f) f.ty) f
-
-named_at : (every taken fs : List Field) (k : ℕ) (f : Field) → slice_get fs k ≡ Some f
-    → (now : List Field) × (slice_get (names_made every taken fs) k ≡ Some (made_for every now f))
-named_at every taken [] k f e = absurd (cc)
-named_at every taken (g ∷ fs) zero f e =
-    let is : g ≡ f = cc in
-    (taken, subst (λ (z : Field). slice_get (names_made every taken (g ∷ fs)) zero ≡ Some (made_for every taken z)) is (by (is_mixed every g)))
-  where
-    by : (b : Bool) → slice_get (cond b (field (typed_name taken g) g.ty ∷ names_made every (taken ++ field (typed_name taken g) g.ty ∷ []) fs)
-        (g ∷ names_made every taken fs)) zero ≡ Some (cond b (field (typed_name taken g) g.ty) g)
-    by true = refl
-    by false = refl
-named_at every taken (g ∷ fs) (suc k) f e =
-    by (is_mixed every g) (named_at every (taken ++ field (typed_name taken g) g.ty ∷ []) fs k f e) (named_at every taken fs k f e)
-  where
-    by : (b : Bool)
-        → (now : List Field) × (slice_get (names_made every (taken ++ field (typed_name taken g) g.ty ∷ []) fs) k ≡ Some (made_for every now f))
-        → (now : List Field) × (slice_get (names_made every taken fs) k ≡ Some (made_for every now f))
-        → (now : List Field) × (slice_get (cond b (field (typed_name taken g) g.ty ∷ names_made every (taken ++ field (typed_name taken g) g.ty ∷ []) fs)
-        (g ∷ names_made every taken fs)) (suc k) ≡ Some (made_for every now f))
-    by true one two = one
-    by false one two = two
-
-pub stands_for : (sources : List Field) (k : ℕ) (f : Field) → slice_get sources k ≡ Some f → StandsFor sources k f
-stands_for sources k f e =
-    let at = named_at sources (keep_names sources) sources k f e in
-    record {
-      column = made_for sources at.0 f;
-      there = at.1;
-      of_type = by (is_mixed sources f) at.0;
-      kept = λ one. ap (λ b. (cond b (field (typed_name at.0 f) f.ty) f).name) (not_mixed sources f one);
-      taken = at.0;
-      made = λ several. ap (λ b. (cond b (field (typed_name at.0 f) f.ty) f).name) (mixed_not sources f several);
-    }
-  where
-    by : (b : Bool) (taken : List Field) → (cond b (field (typed_name taken f) f.ty) f).ty ≡ f.ty
-    by true taken = refl
-    by false taken = refl
 
 -- ---- unions
 

@@ -18,6 +18,7 @@ pub mod Together
 pub mod Differing
 pub mod Suffixed
 pub mod Staging
-pub mod Placing
+pub mod Stages
 pub mod Filled
+pub mod Standing
 pub mod Written

@@ -27,7 +27,7 @@ pub record Found (n k : ℕ) (given avoided : List Field) (base : List ℕ) : Ty
 here_found : (n k : ℕ) (given avoided : List Field) (base : List ℕ) → first_free n k given avoided base ≡ numbered base k → Found n k given avoided base
 here_found n k given avoided base is = record { number = k; written = is; least = omega arith; lesser = λ i low high. absurd (omega (arith, low, high)) }
 
-found : (n k : ℕ) (given avoided : List Field) (base : List ℕ) → Found n k given avoided base
+pub found : (n k : ℕ) (given avoided : List Field) (base : List ℕ) → Found n k given avoided base
 found zero k given avoided base = here_found zero k given avoided base refl
 found (suc n) k given avoided base = by (is_used given avoided (numbered base k)) refl (found n (k + 1) given avoided base) where
   by : (b : Bool) → is_used given avoided (numbered base k) ≡ b → Found n (k + 1) given avoided base → Found (suc n) k given avoided base

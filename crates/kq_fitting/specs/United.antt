@@ -1,8 +1,8 @@
 -- The columns of a union, and what fills them.
-use Rattle.std.specs.Prelude.{◌≡◌, ℕ, List, [], ◌++◌, Some, codes, slice_get}
+use Rattle.std.specs.Prelude.{◌≡◌, ◌⊎◌, ℕ, ◌<◌, ◌≤◌, List, ◌++◌, Some, codes, slice_get, decimal}
 use Rattle.kq_bind_clauses.specs.Unions.{type_word, filling, union_columns}
-use Rattle.kq_bind_columns.specs.Naming.{free_name}
 use Rattle.kq_value.specs.declared.schema.Field.{Field}
+use Rattle.kq_fitting.specs.Suffixes.{IsNamed}
 
 -- it stands in the list
 pub record Has {X : Type 0} (xs : List X) (x : X) : Type 0 where
@@ -30,11 +30,21 @@ pub record FillsOne (arm sources : List Field) (number : ℕ) (c : Field) : Type
 abbrev pub IsOfOneType : List Field → Field → Type 0
 IsOfOneType sources f = (g : Field) → Has sources g → g.name ≡ f.name → g.ty ≡ f.ty
 
--- the column of a union in the place of one of its sources: of its type, and of its name, where this has one type, or else of a free name that is made of the name and the type
+-- a name with the least number from 1 behind it that no column before it has, where one has the name itself; all these are columns of the union
+pub record IsSuffixed (columns : List Field) (base name : List ℕ) : Type 0 where
+  pub number : ℕ
+  pub written : name ≡ base ++ decimal number
+  pub positive : 1 ≤ number
+  pub without : IsNamed columns base
+  pub lesser : (k : ℕ) → 1 ≤ k → k < number → IsNamed columns (base ++ decimal k)
+
+abbrev pub base_name : Field → List ℕ
+base_name f = f.name ++ codes "_" ++ type_word f.ty
+
+-- the column of a union in the place of one of its sources: of its type, and of its name, where this has one type, or else of the name with the type's word behind it
 pub record StandsFor (sources : List Field) (place : ℕ) (f : Field) : Type 0 where
   pub column : Field
   pub there : slice_get (union_columns sources) place ≡ Some column
   pub of_type : column.ty ≡ f.ty
   pub kept : IsOfOneType sources f → column.name ≡ f.name
-  pub taken : List Field
-  pub made : (IsOfOneType sources f → ⊥) → column.name ≡ free_name taken [] (f.name ++ codes "_" ++ type_word f.ty)
+  pub typed : ¬ (IsOfOneType sources f) → (column.name ≡ base_name f) ⊎ IsSuffixed (union_columns sources) (base_name f) column.name

@@ -1,5 +1,6 @@
 -- The laws are proved over the definitions.
-use Rattle.kq_fitting.proofs.Filled.{outer_some, some_outer, inner_all, all_inner, union_fills, stands_for}
+use Rattle.kq_fitting.proofs.Filled.{outer_some, some_outer, inner_all, all_inner, union_fills}
+use Rattle.kq_fitting.proofs.Standing.{stands_for}
 use Rattle.kq_fitting.proofs.laws.unions_have_their_columns.Goals as goal
 
 pub returns-clause-outer : goal.returns-clause-outer

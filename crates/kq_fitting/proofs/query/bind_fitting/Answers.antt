@@ -2,7 +2,7 @@
 use Rattle.kq_grammar.specs.TabularViews.{query_of}
 use Rattle.kq_fitting.proofs.Differing.{answer_different}
 use Rattle.kq_fitting.proofs.Fitting.{answer_fits}
-use Rattle.kq_fitting.proofs.Placing.{answer_staged}
+use Rattle.kq_fitting.proofs.Stages.{answer_staged}
 use Rattle.kq_fitting.proofs.query.bind_fitting.Goals as goal
 
 pub returns-clause-fits : goal.returns-clause-fits
