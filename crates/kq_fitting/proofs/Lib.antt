@@ -17,6 +17,7 @@ pub mod Placed
 pub mod Together
 pub mod Differing
 pub mod Suffixed
+pub mod Beside
 pub mod Staging
 pub mod Stages
 pub mod Filled

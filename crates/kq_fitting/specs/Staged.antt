@@ -6,8 +6,8 @@ use Rattle.kq_plan.specs.Plans.{Filling, Doing, kept, mapped, cut, counted, sort
 abbrev pub IsArmBefore : ℕ → Filling → Type 0
 IsArmBefore n arm = arm.0 < n
 
--- what a step takes, where so many steps before it stand before it in the text too, and so many only behind it: only joins and unions have steps of these behind them,
--- a join's left rows are of a step that stands before it, and its right rows those of the last step behind it, if there is one
+-- what a step takes, where so many of the steps before it are earlier in the text too, and so many are its own, which stand behind it there: none but joins and unions
+-- have steps of their own, the left rows of a join are of an earlier step, and its right rows of the last of its own, if it has any
 abbrev pub Takes : ℕ → ℕ → Doing → Type 0
 Takes earlier own (kept i e) = (own ≡ 0) × (i < earlier)
 Takes earlier own (mapped i es) = (own ≡ 0) × (i < earlier)
@@ -28,7 +28,7 @@ IsStageBelow n s = s.stage < n
 abbrev pub IsStageAbove : ℕ → Stepping → Type 0
 IsStageAbove n s = n < s.stage
 
--- the steps that are evaluated before a step: first those that stand before it in the text, and then its own, as those of a join's right side, which stand behind it
+-- the steps before a step: the earlier ones have lower stages, and its own, as those of a join's right side, come last and have higher ones
 pub record IsPlaced (before : List Stepping) (s : Stepping) : Type 0 where
   pub earlier : List Stepping
   pub own : List Stepping
