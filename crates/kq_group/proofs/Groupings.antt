@@ -47,7 +47,7 @@ same_place (k ∷ keys) (suc i) zero once h l e = absurd (none_later k keys i on
 same_place (k ∷ keys) (suc i) (suc j) once h l e = ap suc (same_place keys i j (later_once k keys once) (omega arith) (omega arith) e)
 
 -- whether a row is of the group is whether it has the group's key
-same_test : (keys : List Key) (g h : ℕ) (r : Key) → Once keys → g < length keys → h < length keys → row_at keys h ≡ r → is_same_row (row_at keys g) r ≡ nat_eq g h
+pub same_test : (keys : List Key) (g h : ℕ) (r : Key) → Once keys → g < length keys → h < length keys → row_at keys h ≡ r → is_same_row (row_at keys g) r ≡ nat_eq g h
 same_test keys g h r once inside there e = by_case (nat_eq g h) (is_same_row (row_at keys g) r) (Decides-eqb g h) (is_same_row-Decides (row_at keys g) r)
   where
     by_case : (b s : Bool) → Decides b (g ≡ h) → Decides s (row_at keys g ≡ r) → s ≡ b
@@ -99,12 +99,12 @@ beside_at (rows ∷ args) (others ∷ more) (suc a) = beside_at args more a
 
 -- ---- keys
 
-empty_times : (keys : List Key) → All (HasWidth 0) keys → times [] keys ≡ length keys
+pub empty_times : (keys : List Key) → All (HasWidth 0) keys → times [] keys ≡ length keys
 empty_times [] wide = refl
 empty_times ([] ∷ keys) wide = let later = empty_times keys (λ i d h. wide (suc i) d (omega arith)) in omega (arith, later)
 empty_times ((v ∷ k) ∷ keys) wide = let h = wide 0 [] (omega arith) in absurd (omega (arith, h))
 
-one_empty : (keys : List Key) → All (HasWidth 0) keys → length keys ≡ 1 → keys ≡ [] ∷ []
+pub one_empty : (keys : List Key) → All (HasWidth 0) keys → length keys ≡ 1 → keys ≡ [] ∷ []
 one_empty [] wide e = absurd (omega arith)
 one_empty ([] ∷ []) wide e = refl
 one_empty ((v ∷ k) ∷ keys) wide e = let h = wide 0 [] (omega arith) in absurd (omega (arith, h))
@@ -121,7 +121,7 @@ AreKeys-more (suc width) before keys old new ns are wide g = record {
 }
 
 -- a key of a new group is none of the old ones
-fresh_key : (old new added : List Key) (n : ℕ) → new ≡ old ++ added → Once new → length old ≤ n → n < length new → times (row_at new n) old ≡ 0
+pub fresh_key : (old new added : List Key) (n : ℕ) → new ≡ old ++ added → Once new → length old ≤ n → n < length new → times (row_at new n) old ≡ 0
 fresh_key old new added n is once past within =
     let k = row_at new n in
     let long : length new ≡ length old + length added = ap length is ∙ length-append old added in
@@ -131,7 +131,7 @@ fresh_key old new added n is once past within =
     let one = once k in
     omega (arith, some, both, one)
 
-old_key : (old new added : List Key) (n : ℕ) → new ≡ old ++ added → n < length old → row_at new n ≡ row_at old n
+pub old_key : (old new added : List Key) (n : ℕ) → new ≡ old ++ added → n < length old → row_at new n ≡ row_at old n
 old_key old new added n is h = ap (λ (ks : List Key). row_at ks n) is ∙ get_or_append_left old added [] n h
 
 -- a fresh key has no rows yet
@@ -184,7 +184,7 @@ holds_more width before keys old new ns had args s t n are wide once g was along
           (gathers.fresh n (omega (arith, as_many, past)) within)
     ])))
 
-same_shape : (s t : Numbered) → t.kind ≡ s.kind → t.types ≡ s.types → shape_of t ≡ shape_of s
+pub same_shape : (s t : Numbered) → t.kind ≡ s.kind → t.types ≡ s.types → shape_of t ≡ shape_of s
 same_shape s t e f = ap (λ k. record { kind = k; types = t.types }) e ∙ ap (λ ts. record { kind = s.kind; types = ts }) f
 
 pub same_shapes : (olds news : List Numbered) → length news ≡ length olds → ((a : ℕ) → a < length olds → shape_of (state_at news a) ≡ shape_of (state_at olds a)) → map shape_of news ≡ map shape_of olds
@@ -193,7 +193,7 @@ same_shapes [] (t ∷ news) long same = absurd (omega arith)
 same_shapes (s ∷ olds) [] long same = absurd (omega arith)
 same_shapes (s ∷ olds) (t ∷ news) long same = ap (λ (h : Aggregating). h ∷ map shape_of news) (same 0 (omega arith)) ∙ ap (λ (hs : List Aggregating). shape_of s ∷ hs) (same_shapes olds news (omega arith) (λ a h. same (suc a) (omega arith)))
 
-whole_at : (n : ℕ) (states : List Numbered) → ((a : ℕ) → a < length states → length (state_at states a).kept ≡ n) → All (HasGroups n) states
+pub whole_at : (n : ℕ) (states : List Numbered) → ((a : ℕ) → a < length states → length (state_at states a).kept ≡ n) → All (HasGroups n) states
 whole_at n [] each i d h = absurd (omega arith)
 whole_at n (s ∷ states) each zero d h = each 0 (omega arith)
 whole_at n (s ∷ states) each (suc i) d h = whole_at n states (λ a l. each (suc a) (omega arith)) i d (omega arith)

@@ -1,6 +1,7 @@
 pub mod Finishing
 pub mod Gathering
 pub mod Groupings
+pub mod Merging
 pub mod Search
 pub mod Tables
 pub mod Typed

@@ -11,7 +11,7 @@ use kq_value::Memory;
 use std::alloc::Global;
 
 // Puts groups of no rows last, up to so many.
-fn lengthen(alloc: Global, states: &mut States, count: usize) -> Result<(), Memory>
+pub(crate) fn lengthen(alloc: Global, states: &mut States, count: usize) -> Result<(), Memory>
     requires { length states.old.kept ≤ count }
     ensures { OnOk result (Lengthens count states.old states.new) }
 {

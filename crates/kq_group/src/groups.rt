@@ -1,16 +1,20 @@
 // Groups of rows by their keys.
-ghost use Rattle.std.specs.Prelude.{◌≡◌, ◌<◌, ◌++◌, List, [], IfOk, OnOk, length, map};
+ghost use Rattle.std.specs.Prelude.{◌≡◌, ◌<◌, ◌≤◌, ◌++◌, List, [], IfNone, IfOk, IfSome, IsTrue, OnOk, ◌↔◌, ◌^◌, length, map};
 ghost use Rattle.std.specs.List.{All};
 ghost use Rattle.kq_computed.specs.Computed.{Answers, AnswersAs, Is, and_then};
 ghost use Rattle.kq_rows.specs.Chunks.{HasWidth, row_at};
 ghost use Rattle.kq_agg.specs.Tables.{Numbered};
 ghost use Rattle.kq_group.specs.Grouped.{AreKeys, FitArgs, IsGrouped};
-ghost use Rattle.kq_group.specs.Groups.{Adds, EndsWide, IsWhole, Starts, cells_from, rows_from};
-ghost use Rattle.kq_group.specs.Keys.{IsTable};
+ghost use Rattle.kq_value.specs.Same.{times};
+ghost use Rattle.kq_group.specs.Groups.{Adds, EndsWide, IsWhole, Starts, cells_from, rows_from, shape_of};
+ghost use Rattle.kq_group.specs.Keys.{IsTable, key_hash};
+ghost use Rattle.kq_group.specs.Merges.{Lacks, Merges, picked};
 
 use crate::aggregated::Aggregated;
+use crate::cells::hash;
 use crate::gathered::{all_fresh, gather_all};
 use crate::key_table::KeyTable;
+use crate::merged::{absorb_all, all_places};
 use kq_agg::States;
 use kq_computed::EvalFault;
 use kq_rows::Rows;
@@ -50,6 +54,48 @@ impl Groups {
         Ok(Groups { keys, states })
     }
 
+    /// No groups, not even that of the one empty key.
+    pub fn none(alloc: Global, width: usize, aggregates: &[Aggregated]) -> Result<Groups, Memory>
+        ensures { IfOk result (Lacks width aggregates.now) }
+    {
+        let keys = KeyTable::new(alloc, width)?;
+        let states = all_fresh(alloc, aggregates, 0)?;
+        Ok(Groups { keys, states })
+    }
+
+    /// The number of groups. Their keys are different ones.
+    pub fn len(&self) -> usize
+        ensures count { result ≡ length self.now.keys }
+        ensures small { result < 2 ^ 32 }
+        ensures apart { (k : List Value) → times k self.now.keys ≤ 1 }
+        ensures wide { All (HasWidth self.now.width) self.now.keys }
+    {
+        self.keys.keys.len()
+    }
+
+    /// Whether there are none.
+    pub fn is_empty(&self) -> bool
+        ensures { IsTrue result ↔ (self.now.keys ≡ []) }
+    {
+        self.keys.keys.is_empty()
+    }
+
+    /// The number of the group with a key. It takes no memory.
+    pub fn get(&self, key: &[Value]) -> Option<usize>
+        ensures found { IfSome result (λ n. (n < length self.now.keys) × (row_at self.now.keys n ≡ key.now)) }
+        ensures absent { IfNone result (times key.now self.now.keys ≡ 0) }
+    {
+        self.keys.find(hash(key), key)
+    }
+
+    /// The hash of the key of a group.
+    pub fn hash_at(&self, group: usize) -> u64
+        requires { group < length self.now.keys }
+        ensures { result ≡ key_hash (row_at self.now.keys group) }
+    {
+        self.keys.hashes[group]
+    }
+
     /// Takes in rows with these keys and, for each aggregate, arguments. After a refusal the groups are to be dropped.
     pub fn add(&mut self, alloc: Global, keys: &Rows, args: &[Rows]) -> Result<(), Memory>
         requires whole { IsWhole self.old }
@@ -68,6 +114,40 @@ impl Groups {
             args,
         )?;
         Ok(())
+    }
+
+    /// Takes in the groups of another, key by key: their rows come after those that are there. After a refusal the groups are to be dropped.
+    pub fn merge(&mut self, alloc: Global, other: &Groups) -> Result<(), Memory>
+        requires whole { IsWhole self.old }
+        requires other_whole { IsWhole other.now }
+        requires width { other.now.width ≡ self.old.width }
+        requires shapes { map shape_of other.now.states ≡ map shape_of self.old.states }
+        ensures { OnOk result (Merges other.now self.old self.new) }
+    {
+        let places = all_places(alloc, other.len())?;
+        self.merge_at(alloc, other, places.as_slice())
+    }
+
+    /// The same of those groups of the other that have these numbers, each once.
+    pub fn merge_at(&mut self, alloc: Global, other: &Groups, places: &[u32]) -> Result<(), Memory>
+        requires whole { IsWhole self.old }
+        requires other_whole { IsWhole other.now }
+        requires width { other.now.width ≡ self.old.width }
+        requires shapes { map shape_of other.now.states ≡ map shape_of self.old.states }
+        requires within { All (λ n. n < length other.now.keys) places.now }
+        requires once { (k : List Value) → times k (map (row_at other.now.keys) places.now) ≤ 1 }
+        ensures { OnOk result (Merges (picked places.now other.now) self.old self.new) }
+    {
+        let numbers = self.keys.numbers_at(alloc, &other.keys.keys, places)?;
+        let count = self.keys.keys.len();
+        absorb_all(
+            alloc,
+            self.states.as_mut_slice(),
+            count,
+            numbers.as_slice(),
+            other.states.as_slice(),
+            places,
+        )
     }
 
     /// A row for each group: its key, and then the cells of the aggregates in order.

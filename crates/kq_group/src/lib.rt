@@ -6,6 +6,7 @@ mod cells;
 mod gathered;
 mod groups;
 mod key_table;
+mod merged;
 
 pub use aggregated::Aggregated;
 pub use groups::{Groups, group_rows};
