@@ -1,5 +1,5 @@
 -- The replies to queries.
-use Rattle.std.specs.Prelude.{◌≡◌, ◌⊎◌, ℕ, ℤ, List, Ok, Err, MatchBool}
+use Rattle.std.specs.Prelude.{◌≡◌, ◌⊎◌, ℕ, ℤ, List, Ok, Err}
 use Rattle.kq_bind_steps.specs.Flows.{columns_at}
 use Rattle.kq_bind.specs.Queries.{query_bound}
 use Rattle.kq_bind_expression.specs.declared.fault.BindFault.{BindFault}
@@ -10,7 +10,6 @@ use Rattle.kq_model.specs.declared.answer.Answer.{Answer}
 use Rattle.kq_model.specs.History.{History}
 use Rattle.kq_pipe.specs.declared.outcome.Outcome.{Outcome}
 use Rattle.kq_pipe.specs.declared.outcome.Outcome.TheVariants as outcome
-use Rattle.kq_pipe.specs.Built.{is_built}
 use Rattle.kq_pipe.specs.Gives.{Gives}
 use Rattle.kq_plan.specs.Plans.{Planned}
 use Rattle.kq_reply.specs.declared.refusal.Refusal.{Refusal}
@@ -59,12 +58,8 @@ pub record AnswersRun (h : History) (now : ℤ) (p : Planned) (reply : Reply) : 
   pub given : Gives p (MayGive h) now outcome
   pub shown : Shows (columns_given p) outcome reply
 
--- a plan that holds a step that isn't built is refused
-abbrev pub AnswersPlan : History → ℤ → Planned → Reply → Type 0
-AnswersPlan h now p reply = MatchBool (is_built p) (AnswersRun h now p reply) (reply ≡ replies.Refused refusals.Unbuilt)
-
 abbrev pub AnswersBound : History → ℤ → Verdict Planned → Reply → Type 0
-AnswersBound h now (Ok p) reply = AnswersPlan h now p reply
+AnswersBound h now (Ok p) reply = AnswersRun h now p reply
 AnswersBound h now (Err fault) reply = reply ≡ replies.Refused (refusal_by fault)
 
 -- a query is bound over the names of the history, and its plan is run over the world of the history alone

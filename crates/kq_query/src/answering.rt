@@ -1,12 +1,11 @@
 // Queries and their replies.
-ghost use Rattle.std.specs.Prelude.{◌≡◌, All, IfErr, IfOk, IsTrue};
+ghost use Rattle.std.specs.Prelude.{◌≡◌, All, IfErr, IfOk};
 ghost use Rattle.kq_grammar.specs.TabularViews.{query_of};
-ghost use Rattle.kq_pipe.specs.Built.{is_built};
 ghost use Rattle.kq_pipe.specs.Typed.{IsTypedTable};
 ghost use Rattle.kq_plan.specs.Fits.{Fits};
 ghost use Rattle.kq_plan.specs.Plans.{planned_of};
 ghost use Rattle.kq_value.specs.Typed.{HasTypes, IsMoment};
-ghost use Rattle.kq_query.specs.Answers.{AnswersPlan, AnswersQuery, AnswersRun, RefusesBy, Shows, columns_given, refusal_of};
+ghost use Rattle.kq_query.specs.Answers.{AnswersQuery, AnswersRun, RefusesBy, Shows, columns_given, refusal_of};
 ghost use Rattle.kq_query.specs.Printed.{PrintsAnswer};
 ghost use Rattle.kq_query.specs.Worlds.{known_in};
 
@@ -16,14 +15,14 @@ use kq_catalog::Snapshot;
 use kq_fitting::bind_fitting;
 use kq_grammar::Query;
 use kq_model::Answer;
-use kq_pipe::{Outcome, is_built, run_plan};
+use kq_pipe::{Outcome, run_plan};
 use kq_plan::{Plan, Step};
 use kq_reply::{Refusal, Reply, render};
 use kq_value::{Memory, Schema};
 use std::alloc::Global;
 
-/// The answer to a query at a moment, from the snapshot alone: its rows as they are printed, or the first fault of its binding, that
-/// a step of its plan isn't built, or the fault of its plan. The symbols of the tree are places in the text.
+/// The answer to a query at a moment, from the snapshot alone: its rows as they are printed, or the first fault of its binding, or the
+/// fault of its plan. The symbols of the tree are places in the text.
 pub fn answer(snapshot: &Snapshot, text: &str, query: &Query, now: i64) -> Result<Reply, Refusal>
     requires { IsMoment now }
     ensures answer { IfOk result (AnswersQuery snapshot.now.history now text.now (query_of query.now)) }
@@ -47,23 +46,9 @@ fn refusal(fault: BindFault) -> Refusal
     }
 }
 
-// What a plan gives, or that a step of it isn't built.
+// What a plan gives.
 fn answer_plan(snapshot: &Snapshot, plan: Plan, now: i64) -> Result<Reply, Refusal>
     requires moment { IsMoment now }
-    requires fits { Fits (known_in snapshot.now.history) (planned_of plan) (columns_given (planned_of plan)) }
-    ensures answer { IfOk result (AnswersPlan snapshot.now.history now (planned_of plan)) }
-    ensures refused { IfErr result (RefusesBy (AnswersPlan snapshot.now.history now (planned_of plan))) }
-{
-    if is_built(&plan) {
-        answer_built(snapshot, plan, now)
-    } else {
-        Err(Refusal::Unbuilt)
-    }
-}
-
-fn answer_built(snapshot: &Snapshot, plan: Plan, now: i64) -> Result<Reply, Refusal>
-    requires moment { IsMoment now }
-    requires built { IsTrue (is_built (planned_of plan)) }
     requires fits { Fits (known_in snapshot.now.history) (planned_of plan) (columns_given (planned_of plan)) }
     ensures answer { IfOk result (AnswersRun snapshot.now.history now (planned_of plan)) }
     ensures refused { IfErr result (RefusesBy (AnswersRun snapshot.now.history now (planned_of plan))) }

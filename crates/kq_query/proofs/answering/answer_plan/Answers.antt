@@ -5,7 +5,7 @@ use Rattle.kq_plan.specs.Plans.{planned_of}
 use Rattle.kq_query.specs.Answers.{columns_given}
 use Rattle.kq_query.specs.Worlds.{MayGive, known_in}
 use Rattle.kq_query.proofs.Reading.{world_typed}
-use Rattle.kq_query.proofs.answering.answer_built.Goals as goal
+use Rattle.kq_query.proofs.answering.answer_plan.Goals as goal
 
 pub run_plan-requires-clause-fits : goal.run_plan-requires-clause-fits
 run_plan-requires-clause-fits c =
