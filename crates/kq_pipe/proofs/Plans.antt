@@ -34,18 +34,16 @@ Taken-first n rows = (take n rows, length-take_min n rows, NoOftener-take n rows
 -- ---- midway
 
 -- after the first i steps, which gave these outcomes: what the rest may come to, the plan may come to
-pub record IsAt (w : World) (now : ℤ) (steps : List Step) (output : ℕ) (i : ℕ) (done : List Outcome) : Type 0 where
+pub record IsAt (known : List ℕ → Option Known) (w : World) (now : ℤ) (steps : List Step) (output : ℕ) (i : ℕ) (done : List Outcome) : Type 0 where
   pub comes : (o : Outcome) → Follows w now (map stepping_of (take i steps)) done (map stepping_of (drop i steps)) output o → Follows w now [] [] (map stepping_of steps) output o
-  pub known : List ℕ → Option Known
   pub typed : TypedWorld known w
   pub stood : Stood (map stepping_of (take i steps)) done
   pub fits : FitAfter known (map stepping_of (take i steps)) (map stepping_of (drop i steps))
 
-pub IsAt-start : (w : World) (now : ℤ) (steps : List Step) (output : ℕ) → FitsWorld (record { steps = map stepping_of steps; output = output }) w
-    → IsAt w now steps output 0 []
-IsAt-start w now steps output fits = record {
+pub IsAt-start : (known : List ℕ → Option Known) (w : World) (now : ℤ) (steps : List Step) (output : ℕ) → FitsWorld (record { steps = map stepping_of steps; output = output }) known w
+    → IsAt known w now steps output 0 []
+IsAt-start known w now steps output fits = record {
   comes = λ o is. is;
-  known = fits.known;
   typed = fits.typed;
   stood = tt;
   fits = fits.fits.steps;
@@ -54,32 +52,31 @@ IsAt-start w now steps output fits = record {
 rest_is : (steps : List Step) (i : ℕ) (step : Step) → i < length steps → step ≡ get_or steps i step → map stepping_of (drop i steps) ≡ stepping_of step ∷ map stepping_of (drop (suc i) steps)
 rest_is steps i step within at = ap (map stepping_of) (drop-cons steps i step within ∙ (λ j. sym at j ∷ drop (suc i) steps))
 
-fits_next : (w : World) (now : ℤ) (steps : List Step) (output : ℕ) (i : ℕ) (done : List Outcome) (step : Step) (here : IsAt w now steps output i done) → i < length steps → step ≡ get_or steps i step
-    → FitAfter here.known (map stepping_of (take i steps)) (stepping_of step ∷ map stepping_of (drop (suc i) steps))
-fits_next w now steps output i done step here within at = subst (FitAfter here.known (map stepping_of (take i steps))) (rest_is steps i step within at) here.fits
+fits_next : (known : List ℕ → Option Known) (w : World) (now : ℤ) (steps : List Step) (output : ℕ) (i : ℕ) (done : List Outcome) (step : Step) (here : IsAt known w now steps output i done) → i < length steps → step ≡ get_or steps i step
+    → FitAfter known (map stepping_of (take i steps)) (stepping_of step ∷ map stepping_of (drop (suc i) steps))
+fits_next known w now steps output i done step here within at = subst (FitAfter known (map stepping_of (take i steps))) (rest_is steps i step within at) here.fits
 
-pub IsAt-step : (w : World) (now : ℤ) (steps : List Step) (output : ℕ) (i : ℕ) (done : List Outcome) (step : Step) → IsAt w now steps output i done → i < length steps → step ≡ get_or steps i step
-    → IsNext w (map stepping_of (take i steps)) done (stepping_of step)
-IsAt-step w now steps output i done step here within at = record {
-  known = here.known;
+pub IsAt-step : (known : List ℕ → Option Known) (w : World) (now : ℤ) (steps : List Step) (output : ℕ) (i : ℕ) (done : List Outcome) (step : Step) → IsAt known w now steps output i done → i < length steps → step ≡ get_or steps i step
+    → IsNext known w (map stepping_of (take i steps)) done (stepping_of step)
+IsAt-step known w now steps output i done step here within at = record {
   typed = here.typed;
   stood = here.stood;
-  fits = (fits_next w now steps output i done step here within at).0;
+  fits = (fits_next known w now steps output i done step here within at).0;
 }
 
 -- a fault is what the plan comes to
-pub IsAt-fault : (w : World) (now : ℤ) (steps : List Step) (output : ℕ) (i : ℕ) (done : List Outcome) (step : Step) (o : Outcome) → IsAt w now steps output i done
+pub IsAt-fault : (known : List ℕ → Option Known) (w : World) (now : ℤ) (steps : List Step) (output : ℕ) (i : ℕ) (done : List Outcome) (step : Step) (o : Outcome) → IsAt known w now steps output i done
     → i < length steps → step ≡ get_or steps i step → Case w now (map stepping_of (take i steps)) done (stepping_of step) o → is_fault o ≡ true → Follows w now [] [] (map stepping_of steps) output o
-IsAt-fault w now steps output i done step o here within at case fault =
+IsAt-fault known w now steps output i done step o here within at case fault =
     let before = map stepping_of (take i steps) in
     let rest = Follows w now (before ++ stepping_of step ∷ []) (done ++ o ∷ []) (map stepping_of (drop (suc i) steps)) output o in
     let ended : MatchBool (is_fault o) (o ≡ o) rest = subst (λ (b : Bool). MatchBool b (o ≡ o) rest) (sym fault) refl in
     here.comes o (subst (λ (ss : List Stepping). Follows w now before done ss output o) (sym (rest_is steps i step within at)) (o, case, ended))
 
 -- after the last step, the step of the output decides
-pub IsAt-end : (w : World) (now : ℤ) (steps : List Step) (output : ℕ) (i : ℕ) (done : List Outcome) (o : Outcome) → IsAt w now steps output i done → length steps ≤ i → o ≡ outcome_at done output
+pub IsAt-end : (known : List ℕ → Option Known) (w : World) (now : ℤ) (steps : List Step) (output : ℕ) (i : ℕ) (done : List Outcome) (o : Outcome) → IsAt known w now steps output i done → length steps ≤ i → o ≡ outcome_at done output
     → Follows w now [] [] (map stepping_of steps) output o
-IsAt-end w now steps output i done o here past is =
+IsAt-end known w now steps output i done o here past is =
     let before = map stepping_of (take i steps) in
     here.comes o (subst (λ (l : List Step). Follows w now before done (map stepping_of l) output o) (sym (drop_of_length-le steps past)) is)
 
@@ -89,15 +86,15 @@ front_is (s ∷ steps) zero step within at = ap (λ (x : Step). stepping_of x �
 front_is (s ∷ steps) (suc i) step within at = ap (λ (ss : List Stepping). stepping_of s ∷ ss) (front_is steps i step (omega (arith, within)) at)
 
 -- the plan goes on behind what a step gave
-IsAt-suc : (w : World) (now : ℤ) (steps : List Step) (output : ℕ) (i : ℕ) (done : List Outcome) (step : Step) (o : Outcome) → IsMoment now → IsAt w now steps output i done
-    → i < length steps → step ≡ get_or steps i step → Case w now (map stepping_of (take i steps)) done (stepping_of step) o → is_fault o ≡ false → IsAt w now steps output (suc i) (done ++ o ∷ [])
-IsAt-suc w now steps output i done step o moment here within at case no_fault =
+IsAt-suc : (known : List ℕ → Option Known) (w : World) (now : ℤ) (steps : List Step) (output : ℕ) (i : ℕ) (done : List Outcome) (step : Step) (o : Outcome) → IsMoment now → IsAt known w now steps output i done
+    → i < length steps → step ≡ get_or steps i step → Case w now (map stepping_of (take i steps)) done (stepping_of step) o → is_fault o ≡ false → IsAt known w now steps output (suc i) (done ++ o ∷ [])
+IsAt-suc known w now steps output i done step o moment here within at case no_fault =
     let before = map stepping_of (take i steps) in
     let s = stepping_of step in
     let behind = map stepping_of (drop (suc i) steps) in
     let front = front_is steps i step within at in
-    let fits = fits_next w now steps output i done step here within at in
-    let typed = does_typed here.known w now before done s.stage s.columns s.doing o moment here.typed here.stood fits.0 case in
+    let fits = fits_next known w now steps output i done step here within at in
+    let typed = does_typed known w now before done s.stage s.columns s.doing o moment here.typed here.stood fits.0 case in
     let goes_on : (x : Outcome) → Follows w now (map stepping_of (take (suc i) steps)) (done ++ o ∷ []) behind output x → Follows w now [] [] (map stepping_of steps) output x = λ x is.
     let rest = Follows w now (before ++ s ∷ []) (done ++ o ∷ []) behind output x in
     let later : rest = subst (λ (ss : List Stepping). Follows w now ss (done ++ o ∷ []) behind output x) (sym front) is in
@@ -105,17 +102,16 @@ IsAt-suc w now steps output i done step o moment here within at case no_fault =
     here.comes x (subst (λ (ss : List Stepping). Follows w now before done ss output x) (sym (rest_is steps i step within at)) (o, case, all)) in
     record {
       comes = goes_on;
-      known = here.known;
       typed = here.typed;
       stood = subst (λ (ss : List Stepping). Stood ss (done ++ o ∷ [])) front (Stood-push before done s o here.stood (record { typed = typed; no_fault = no_fault }));
-      fits = subst (λ (ss : List Stepping). FitAfter here.known ss behind) front fits.1;
+      fits = subst (λ (ss : List Stepping). FitAfter known ss behind) front fits.1;
     }
 
-pub IsAt-next : (w : World) (now : ℤ) (steps : List Step) (output : ℕ) (i : ℕ) (done : List Outcome) (step : Step) (o : Outcome) → IsMoment now → IsAt w now steps output i done
-    → i < length steps → step ≡ get_or steps i step → Case w now (map stepping_of (take i steps)) done (stepping_of step) o → is_fault o ≡ false → IsAt w now steps output (i + 1) (done ++ o ∷ [])
-IsAt-next w now steps output i done step o moment here within at case no_fault =
+pub IsAt-next : (known : List ℕ → Option Known) (w : World) (now : ℤ) (steps : List Step) (output : ℕ) (i : ℕ) (done : List Outcome) (step : Step) (o : Outcome) → IsMoment now → IsAt known w now steps output i done
+    → i < length steps → step ≡ get_or steps i step → Case w now (map stepping_of (take i steps)) done (stepping_of step) o → is_fault o ≡ false → IsAt known w now steps output (i + 1) (done ++ o ∷ [])
+IsAt-next known w now steps output i done step o moment here within at case no_fault =
     let same : suc i ≡ i + 1 = omega arith in
-    subst (λ (n : ℕ). IsAt w now steps output n (done ++ o ∷ [])) same (IsAt-suc w now steps output i done step o moment here within at case no_fault)
+    subst (λ (n : ℕ). IsAt known w now steps output n (done ++ o ∷ [])) same (IsAt-suc known w now steps output i done step o moment here within at case no_fault)
 
 -- what overflows, overflows at its stage
 pub in_stage-overflow : (stage : ℕ) (ordered : Bool) (c : Computed (List Row)) (met : EvalFault) → met ≡ fault.Overflow → Answers c (Err met) → outcome.Overflow stage ≡ in_stage stage ordered c

@@ -4,8 +4,10 @@ use Rattle.std.specs.List.{All}
 use Rattle.std.proofs.lemmas.List.{get_or-map, length-map}
 use Rattle.kq_expr.specs.Terms.{Term}
 use Rattle.kq_plan.specs.declared.work.JoinKind.{JoinKind}
-use Rattle.kq_plan.specs.Fits.{FitsStep, GivesColumns, lets_of}
-use Rattle.kq_plan.specs.Plans.{Aggregating, Doing, Stepping, cells_seen, expanded, joined, summarized, written}
+use Rattle.kq_plan.specs.declared.work.LeafKind.{LeafKind}
+use Rattle.kq_plan.specs.Fits.{FitsLeaf, FitsStep, GivesColumns, lets_of}
+use Rattle.kq_plan.specs.Names.{Known}
+use Rattle.kq_plan.specs.Plans.{Aggregating, Doing, Stepping, cells_seen, expanded, joined, summarized, written, leaf}
 use Rattle.kq_rows.proofs.Typed.{same_width-typed, typed_width}
 use Rattle.kq_rows.specs.Chunks.{HasWidth, same_width}
 use Rattle.kq_value.specs.declared.schema.Field.{Field}
@@ -25,32 +27,32 @@ pub rows_wide : (before : List Stepping) (done : List Outcome) (i : ℕ) (cs : L
 rows_wide before done i cs stood is =
     subst (λ (fs : List Field). All (HasWidth (length fs)) (rows_of done i)) (sym (columns_before-given before i cs is)) (typed_width cs (rows_of done i) (rows_typed before done i cs stood is))
 
-joined_fits : (w : World) (before : List Stepping) (done : List Outcome) (s : Stepping) (kind : JoinKind) (i j : ℕ) (on : List (ℕ × ℕ)) (next : IsNext w before done s) → s.doing ≡ joined kind i j on
-    → FitsStep next.known before (joined kind i j on) s.columns
-joined_fits w before done s kind i j on next is = subst (λ (d : Doing). FitsStep next.known before d s.columns) is next.fits
+joined_fits : (known : List ℕ → Option Known) (w : World) (before : List Stepping) (done : List Outcome) (s : Stepping) (kind : JoinKind) (i j : ℕ) (on : List (ℕ × ℕ)) (next : IsNext known w before done s) → s.doing ≡ joined kind i j on
+    → FitsStep known before (joined kind i j on) s.columns
+joined_fits known w before done s kind i j on next is = subst (λ (d : Doing). FitsStep known before d s.columns) is next.fits
 
-pub left_wide : (w : World) (before : List Stepping) (done : List Outcome) (s : Stepping) (kind : JoinKind) (i j : ℕ) (on : List (ℕ × ℕ)) → IsNext w before done s → s.doing ≡ joined kind i j on
+pub left_wide : (known : List ℕ → Option Known) (w : World) (before : List Stepping) (done : List Outcome) (s : Stepping) (kind : JoinKind) (i j : ℕ) (on : List (ℕ × ℕ)) → IsNext known w before done s → s.doing ≡ joined kind i j on
     → All (HasWidth (length (columns_before before i))) (rows_of done i)
-left_wide w before done s kind i j on next is =
-    let fits = joined_fits w before done s kind i j on next is in
+left_wide known w before done s kind i j on next is =
+    let fits = joined_fits known w before done s kind i j on next is in
     rows_wide before done i fits.0 next.stood fits.2
 
-pub right_wide : (w : World) (before : List Stepping) (done : List Outcome) (s : Stepping) (kind : JoinKind) (i j : ℕ) (on : List (ℕ × ℕ)) → IsNext w before done s → s.doing ≡ joined kind i j on
+pub right_wide : (known : List ℕ → Option Known) (w : World) (before : List Stepping) (done : List Outcome) (s : Stepping) (kind : JoinKind) (i j : ℕ) (on : List (ℕ × ℕ)) → IsNext known w before done s → s.doing ≡ joined kind i j on
     → All (HasWidth (length (columns_before before j))) (rows_of done j)
-right_wide w before done s kind i j on next is =
-    let fits = joined_fits w before done s kind i j on next is in
+right_wide known w before done s kind i j on next is =
+    let fits = joined_fits known w before done s kind i j on next is in
     rows_wide before done j fits.1 next.stood fits.3
 
 -- rows whose dynamics are expanded are of one width
-pub expanded_even : (w : World) (before : List Stepping) (done : List Outcome) (s : Stepping) (i : ℕ) (e : Term) (at : ℕ) (t : Option Ty) → IsNext w before done s → s.doing ≡ expanded i e at t
+pub expanded_even : (known : List ℕ → Option Known) (w : World) (before : List Stepping) (done : List Outcome) (s : Stepping) (i : ℕ) (e : Term) (at : ℕ) (t : Option Ty) → IsNext known w before done s → s.doing ≡ expanded i e at t
     → same_width (rows_of done i)
-expanded_even w before done s i e at t next is =
-    let fits = subst (λ (d : Doing). FitsStep next.known before d s.columns) is next.fits in
+expanded_even known w before done s i e at t next is =
+    let fits = subst (λ (d : Doing). FitsStep known before d s.columns) is next.fits in
     same_width-typed fits.0 (rows_of done i) (rows_typed before done i fits.0 next.stood fits.1)
 
 -- the rows of a datatable are as wide as its columns
-pub written_wide : (w : World) (before : List Stepping) (done : List Outcome) (s : Stepping) (rows : List Row) → IsNext w before done s → s.doing ≡ written rows → All (HasWidth (length s.columns)) rows
-written_wide w before done s rows next is = typed_width s.columns rows (subst (λ (d : Doing). FitsStep next.known before d s.columns) is next.fits)
+pub written_wide : (known : List ℕ → Option Known) (w : World) (before : List Stepping) (done : List Outcome) (s : Stepping) (rows : List Row) → IsNext known w before done s → s.doing ≡ written rows → All (HasWidth (length s.columns)) rows
+written_wide known w before done s rows next is = typed_width s.columns rows (subst (λ (d : Doing). FitsStep known before d s.columns) is next.fits)
 
 -- the same as the code has them
 pub cells_wide : (rows : List (Vec Value Global)) (width : ℕ) → All (HasWidth width) (map cells_seen rows) → All (λ (row : Vec Value Global). length row.items ≡ width) rows
@@ -59,11 +61,16 @@ cells_wide rows width wide k d within =
     ap length (sym (get_or-map cells_seen rows k d [] within)) ∙ wide k [] inside
 
 -- a summarize has a column for each key, and those of its aggregates
-pub summarized_wide : (w : World) (before : List Stepping) (done : List Outcome) (s : Stepping) (i : ℕ) (es : List Term) (gs : List Aggregating) → IsNext w before done s → s.doing ≡ summarized i es gs
+pub summarized_wide : (known : List ℕ → Option Known) (w : World) (before : List Stepping) (done : List Outcome) (s : Stepping) (i : ℕ) (es : List Term) (gs : List Aggregating) → IsNext known w before done s → s.doing ≡ summarized i es gs
     → length s.columns ≡ length es + all_made gs
-summarized_wide w before done s i es gs next doing =
-    let (from, gives, ks, made, is, are, plain, fit) = subst (λ (d : Doing). FitsStep next.known before d s.columns) doing next.fits in
+summarized_wide known w before done s i es gs next doing =
+    let (from, gives, ks, made, is, are, plain, fit) = subst (λ (d : Doing). FitsStep known before d s.columns) doing next.fits in
     let a = length-AreTyped (lets_of before) from es ks are in
     let b = all_made_by (lets_of before) from gs made fit in
     let c : length s.columns ≡ length ks + length made = ap length is ∙ length-append ks made in
     omega (arith, a, b, c)
+
+-- a leaf is known as it is asked for
+pub leaf_fits : (known : List ℕ → Option Known) (w : World) (before : List Stepping) (done : List Outcome) (s : Stepping) (kind : LeafKind) (name : List ℕ) → IsNext known w before done s → s.doing ≡ leaf kind name
+    → FitsLeaf kind (known name) s.columns
+leaf_fits known w before done s kind name next is = subst (λ (d : Doing). FitsStep known before d s.columns) is next.fits

@@ -49,16 +49,14 @@ Stood before done = AllZip Stands before done
 
 -- ---- plans
 
--- the plan fits names whose rows in this world have the types of their columns
-pub record FitsWorld (p : Planned) (w : World) : Type 0 where
-  pub known : List ℕ → Option Known
+-- the plan fits these names, whose rows in this world have the types of their columns
+pub record FitsWorld (p : Planned) (known : List ℕ → Option Known) (w : World) : Type 0 where
   pub columns : List Field
   pub typed : TypedWorld known w
   pub fits : Fits known p columns
 
 -- a step that fits such names, behind steps that gave what fits them
-pub record IsNext (w : World) (before : List Stepping) (done : List Outcome) (s : Stepping) : Type 0 where
-  pub known : List ℕ → Option Known
+pub record IsNext (known : List ℕ → Option Known) (w : World) (before : List Stepping) (done : List Outcome) (s : Stepping) : Type 0 where
   pub typed : TypedWorld known w
   pub stood : Stood before done
   pub fits : FitsStep known before s.doing s.columns

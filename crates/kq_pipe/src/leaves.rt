@@ -1,5 +1,6 @@
 // The world that a plan's leaves read.
 ghost use Rattle.kq_pipe.specs.Operators.{AnswersOne};
+ghost use Rattle.kq_plan.specs.Fits.{FitsLeaf};
 
 use kq_computed::EvalFault;
 use kq_plan::LeafKind;
@@ -9,11 +10,15 @@ use std::alloc::Global;
 
 /// The rows that the names of a plan stand for.
 pub trait Leaves {
-    ghost use Rattle.std.specs.Prelude.{List, ℕ};
+    ghost use Rattle.std.specs.Prelude.{List, Option, ℕ};
     ghost use Rattle.kq_value.specs.declared.schema.Field.{Field as Column};
     ghost use Rattle.kq_value.specs.declared.value.Value.{Value as Cell};
     ghost use Rattle.kq_computed.specs.Computed.{Computed};
     ghost use Rattle.kq_plan.specs.declared.work.LeafKind.{LeafKind as Kind};
+    ghost use Rattle.kq_plan.specs.Names.{Known};
+
+    /// What a name stands for.
+    ghost known: { Self → List ℕ → Option Known };
 
     /// Which rows a name may give, of this kind and under these columns, and whether it may overflow.
     ghost may_give: { Self → List ℕ → Kind → List Column → Computed (List (List Cell)) → Type 0 };
@@ -26,5 +31,6 @@ pub trait Leaves {
         name: &Text,
         columns: &[Field],
     ) -> Result<Rows, EvalFault>
+        requires { FitsLeaf kind (known self.now name.now) columns.now }
         ensures { AnswersOne (may_give self.now name.now kind columns.now) result };
 }

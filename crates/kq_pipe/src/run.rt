@@ -21,7 +21,7 @@ pub fn run_plan<L: Leaves>(
     now: i64,
 ) -> Result<Outcome, Memory>
     requires moment { IsMoment now }
-    requires fits { FitsWorld (planned_of plan.now) (L.may_give leaves.now) }
+    requires fits { FitsWorld (planned_of plan.now) (L.known leaves.now) (L.may_give leaves.now) }
     ensures { IfOk result (Gives (planned_of plan.now) (L.may_give leaves.now) now) }
 {
     let mut done = Vec::new(alloc);

@@ -3,6 +3,8 @@ ghost use Rattle.std.specs.Prelude.{◌≡◌, [], IfOk, false, length, map};
 ghost use Rattle.std.specs.List.{All};
 ghost use Rattle.kq_computed.specs.Computed.{each};
 ghost use Rattle.kq_expr.specs.Terms.{term_of};
+ghost use Rattle.kq_plan.specs.Fits.{FitsLeaf};
+ghost use Rattle.kq_plan.specs.Fits.{FitsLeaf};
 ghost use Rattle.kq_plan.specs.Plans.{cells_seen, sorting_of, stepping_of};
 ghost use Rattle.kq_scalar.specs.Val.{meaning, surroundings};
 ghost use Rattle.kq_pipe.specs.Gives.{Case, Handed, SortsTo, TopsTo};
@@ -36,7 +38,7 @@ pub(crate) fn run_step<L: Leaves>(
     leaves: &L,
     now: i64,
 ) -> Result<Outcome, Memory>
-    requires next { IsNext (L.may_give leaves.now) (map stepping_of before.now) done.now (stepping_of step.now) }
+    requires next { IsNext (L.known leaves.now) (L.may_give leaves.now) (map stepping_of before.now) done.now (stepping_of step.now) }
     ensures { IfOk result (Case (L.may_give leaves.now) now (map stepping_of before.now) done.now (stepping_of step.now)) }
 {
     let none = Rows::new(alloc);
@@ -112,6 +114,8 @@ fn leaf<L: Leaves>(
     columns: &[Field],
     leaves: &L,
 ) -> Result<Outcome, Memory>
+    requires { FitsLeaf kind (L.known leaves.now name.now) columns.now }
+    requires { FitsLeaf kind (L.known leaves.now name.now) columns.now }
     ensures { IfOk result (Handed (L.may_give leaves.now name.now kind columns.now) stage) }
 {
     match leaves.rows(alloc, kind, name, columns) {

@@ -1,9 +1,8 @@
 -- The rows of extents, as those of a world.
-use Rattle.std.proofs.Common.{◌≡◌, ℕ, List, [], All, map, Option, Some, None, Result, Ok, Err, IfOk, ap, sym, subst}
+use Rattle.std.proofs.Common.{◌≡◌, ℕ, List, [], All, map, Option, Some, None, Result, Ok, Err, IfOk, IsTrue, absurd, ap, is_some, refl, subst}
 use Rattle.std.specs.List.Sorted.{IsPermutation}
 use Rattle.std.specs.Option.{option_map}
 use Rattle.std.proofs.lemmas.List.Sorted.{IsPermutation-map, IsPermutation-sym, All-permutation}
-use Rattle.std.proofs.lemmas.List.Elements.{All-nil}
 use Rattle.kq_computed.specs.Computed.{Computed, Is}
 use Rattle.kq_extent.specs.Seen.{row_of}
 use Rattle.kq_model.specs.History.{History, Numbered, log}
@@ -44,17 +43,21 @@ columns_known None = []
 same_columns : (found : Numbered) (cs : List Field) → Some (known_table found) ≡ Some (name.Table, cs) → found.table.schema ≡ cs
 same_columns found cs e = ap columns_known e
 
-no_rows : (cs : List Field) (rows : List (List Value)) → Is rows ≡ Is [] → All (HasTypes cs) rows
-no_rows cs rows e = subst (All (HasTypes cs)) (sym (same_rows rows e)) (All-nil (HasTypes cs))
-  where
-    same_rows : (rs : List (List Value)) → Is rs ≡ Is [] → rs ≡ []
-    same_rows rs same = cc
-
 table_typed : (h : History) (o : Option Numbered) (cs : List Field) (rows : List (List Value)) → option_map known_table o ≡ Some (name.Table, cs) → TableGives h o (Is rows) → All (HasTypes cs) rows
 table_typed h (Some found) cs rows fits gives = subst (λ (fs : List Field). All (HasTypes fs) rows) (same_columns found cs fits) gives.1
-table_typed h None cs rows fits gives = cc
+table_typed h None cs rows fits gives = absurd gives
+
+-- ---- what is known is a table
+
+pub known_found : (o : Option Numbered) (cs : List Field) → option_map known_table o ≡ Some (name.Table, cs) → IsTrue (is_some o)
+known_found (Some found) cs is = refl
+known_found None cs is = absurd (cc)
+
+pub no_view : (o : Option Numbered) (cs : List Field) → option_map known_table o ≡ Some (name.View, cs) → ⊥
+no_view (Some found) cs is = cc
+no_view None cs is = cc
 
 pub world_typed : (h : History) → TypedWorld (known_in h) (MayGive h)
 world_typed h said kind.Table cs rows fits gives = table_typed h (table_found h said) cs rows fits gives
-world_typed h said kind.View cs rows fits gives = no_rows cs rows gives
-world_typed h said kind.Part cs rows fits gives = no_rows cs rows gives
+world_typed h said kind.View cs rows fits gives = absurd gives
+world_typed h said kind.Part cs rows fits gives = absurd gives

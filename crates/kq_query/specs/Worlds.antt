@@ -23,14 +23,14 @@ known_table found = (name.Table, found.table.schema)
 abbrev pub known_in : History → List ℕ → Option Known
 known_in h said = option_map known_table (table_found h said)
 
--- a table gives its rows in any order, and they have the types of its columns
+-- a table gives its rows in any order, and they have the types of its columns; what is no table gives nothing
 abbrev pub TableGives : History → Option Numbered → Computed (List (List Value)) → Type 0
 TableGives h (Some found) (Is rows) = Same rows (rows_in h found.number) × All (HasTypes found.table.schema) rows
 TableGives h (Some found) Overflow = ⊥
-TableGives h None given = given ≡ Is []
+TableGives h None given = ⊥
 
--- there are no views yet, so their names have no rows
+-- there are no views yet, so no name stands for one
 abbrev pub MayGive : History → List ℕ → LeafKind → List Field → Computed (List (List Value)) → Type 0
 MayGive h said kind.Table columns given = TableGives h (table_found h said) given
-MayGive h said kind.View columns given = given ≡ Is []
-MayGive h said kind.Part columns given = given ≡ Is []
+MayGive h said kind.View columns given = ⊥
+MayGive h said kind.Part columns given = ⊥

@@ -1,5 +1,5 @@
 // The names of a snapshot, and the rows that they stand for.
-ghost use Rattle.std.specs.Prelude.{◌≡◌, IfOk, Some};
+ghost use Rattle.std.specs.Prelude.{◌≡◌, IfOk, IsTrue, Some, is_some};
 ghost use Rattle.std.specs.List.{slice_get};
 ghost use Rattle.kq_computed.specs.Computed.{Is};
 ghost use Rattle.kq_model.specs.History.{log, tables};
@@ -33,7 +33,9 @@ impl Names for Catalogue<'_> {
 }
 
 impl Leaves for Catalogue<'_> {
-    ghost use Rattle.kq_query.specs.Worlds.{MayGive};
+    ghost use Rattle.kq_query.specs.Worlds.{MayGive, known_in};
+
+    ghost known = { λ c. known_in c.snapshot.now.history };
 
     ghost may_give = { λ c. MayGive c.snapshot.now.history };
 
@@ -46,17 +48,18 @@ impl Leaves for Catalogue<'_> {
     ) -> Result<Rows, EvalFault> {
         match kind {
             LeafKind::Table => Ok(rows_named(alloc, self.snapshot, name)?),
-            LeafKind::View | LeafKind::Part => Ok(Rows::new(alloc)),
+            LeafKind::View | LeafKind::Part => unreachable!(),
         }
     }
 }
 
 fn rows_named(alloc: Global, snapshot: &Snapshot, name: &Text) -> Result<Rows, Memory>
+    requires { IsTrue (is_some (table_found snapshot.now.history name.now)) }
     ensures { IfOk result (λ rows. TableGives snapshot.now.history (table_found snapshot.now.history name.now) (Is rows)) }
 {
     match snapshot.table(name) {
         Some((number, table)) => table_rows(alloc, snapshot, number, table),
-        None => Ok(Rows::new(alloc)),
+        None => unreachable!(),
     }
 }
 

@@ -8,7 +8,7 @@ use Rattle.kq_value.specs.declared.schema.Field.{Field}
 use Rattle.kq_pipe.specs.Grouping.{all_made}
 use Rattle.kq_pipe.specs.Outcomes.{Row, rows_of}
 use Rattle.kq_pipe.specs.Reshaped.{columns_before}
-use Rattle.kq_pipe.proofs.Widths.{cells_wide, expanded_even, left_wide, right_wide, summarized_wide, written_wide}
+use Rattle.kq_pipe.proofs.Widths.{cells_wide, expanded_even, leaf_fits, left_wide, right_wide, summarized_wide, written_wide}
 use Rattle.kq_pipe.proofs.step.run_step.Goals as goal
 
 pub join-requires-clause-left : goal.join-requires-clause-left
@@ -16,7 +16,7 @@ join-requires-clause-left g c =
     let before = map stepping_of c.args.before.now in
     let rows : c.rows_at-in-Join.result.now ≡ rows_of c.args.done.now c.in-Join.i = c.rows_at-in-Join.ensures in
     let fields : c.fields_at.result.now ≡ columns_before before c.in-Join.i = c.fields_at.ensures in
-    let wide = left_wide (g.L.Leaves.may_give c.args.leaves.now) before c.args.done.now (stepping_of c.args.step.now) c.in-Join.kind c.in-Join.i c.in-Join.j c.in-Join.on.items c.requires.next (ap doing_of c.in-Join.is) in
+    let wide = left_wide (g.L.Leaves.known c.args.leaves.now) (g.L.Leaves.may_give c.args.leaves.now) before c.args.done.now (stepping_of c.args.step.now) c.in-Join.kind c.in-Join.i c.in-Join.j c.in-Join.on.items c.requires.next (ap doing_of c.in-Join.is) in
     subst (λ (rs : List Row). All (HasWidth (length c.fields_at.result.now)) rs) (sym rows) (subst (λ (fs : List Field). All (HasWidth (length fs)) (rows_of c.args.done.now c.in-Join.i)) (sym fields) wide)
 
 pub join-requires-clause-right : goal.join-requires-clause-right
@@ -24,14 +24,14 @@ join-requires-clause-right g c =
     let before = map stepping_of c.args.before.now in
     let rows : c.rows_at-in-Join-2.result.now ≡ rows_of c.args.done.now c.in-Join.j = c.rows_at-in-Join-2.ensures in
     let fields : c.fields_at-in-Join.result.now ≡ columns_before before c.in-Join.j = c.fields_at-in-Join.ensures in
-    let wide = right_wide (g.L.Leaves.may_give c.args.leaves.now) before c.args.done.now (stepping_of c.args.step.now) c.in-Join.kind c.in-Join.i c.in-Join.j c.in-Join.on.items c.requires.next (ap doing_of c.in-Join.is) in
+    let wide = right_wide (g.L.Leaves.known c.args.leaves.now) (g.L.Leaves.may_give c.args.leaves.now) before c.args.done.now (stepping_of c.args.step.now) c.in-Join.kind c.in-Join.i c.in-Join.j c.in-Join.on.items c.requires.next (ap doing_of c.in-Join.is) in
     subst (λ (rs : List Row). All (HasWidth (length c.fields_at-in-Join.result.now)) rs) (sym rows) (subst (λ (fs : List Field). All (HasWidth (length fs)) (rows_of c.args.done.now c.in-Join.j)) (sym fields) wide)
 
 pub expand-requires : goal.expand-requires
 expand-requires g c =
     let before = map stepping_of c.args.before.now in
     let rows : c.rows_at-rows-in-Expand.result.now ≡ rows_of c.args.done.now c.in-Expand.i = c.rows_at-rows-in-Expand.ensures in
-    let even = expanded_even (g.L.Leaves.may_give c.args.leaves.now) before c.args.done.now (stepping_of c.args.step.now) c.in-Expand.i _ c.in-Expand.at c.in-Expand.ty c.requires.next (ap doing_of c.in-Expand.is) in
+    let even = expanded_even (g.L.Leaves.known c.args.leaves.now) (g.L.Leaves.may_give c.args.leaves.now) before c.args.done.now (stepping_of c.args.step.now) c.in-Expand.i _ c.in-Expand.at c.in-Expand.ty c.requires.next (ap doing_of c.in-Expand.is) in
     subst (λ (rs : List Row). same_width rs) (sym rows) even
 
 pub datatable-requires : goal.datatable-requires
@@ -39,12 +39,17 @@ datatable-requires g c =
     let columns = c.args.step.now.columns.items in
     let many : c.len.result ≡ length columns = search (rules, c.len.ensures) in
     let written = map cells_seen c.in-Table.rows.items in
-    let wide = written_wide (g.L.Leaves.may_give c.args.leaves.now) (map stepping_of c.args.before.now) c.args.done.now (stepping_of c.args.step.now) written c.requires.next (ap doing_of c.in-Table.is) in
+    let wide = written_wide (g.L.Leaves.known c.args.leaves.now) (g.L.Leaves.may_give c.args.leaves.now) (map stepping_of c.args.before.now) c.args.done.now (stepping_of c.args.step.now) written c.requires.next (ap doing_of c.in-Table.is) in
     rw (c.as_slice-in-Table.ensures.value, many) (cells_wide c.in-Table.rows.items (length columns) wide)
 
 pub summarize-requires : goal.summarize-requires
 summarize-requires g c =
     let keys = c.in-Summarize.keys.items in
     let gs = map aggregating_of c.in-Summarize.aggregates.items in
-    let wide = summarized_wide (g.L.Leaves.may_give c.args.leaves.now) (map stepping_of c.args.before.now) c.args.done.now (stepping_of c.args.step.now) c.in-Summarize.i (map term_of keys) gs c.requires.next (ap doing_of c.in-Summarize.is) in
+    let wide = summarized_wide (g.L.Leaves.known c.args.leaves.now) (g.L.Leaves.may_give c.args.leaves.now) (map stepping_of c.args.before.now) c.args.done.now (stepping_of c.args.step.now) c.in-Summarize.i (map term_of keys) gs c.requires.next (ap doing_of c.in-Summarize.is) in
     rw (c.as_slice-in-Summarize-3.ensures.value, c.as_slice-in-Summarize.ensures.value, c.as_slice-in-Summarize-2.ensures.value) (wide ∙ ap (λ (n : ℕ). n + all_made gs) (length-map keys term_of))
+
+pub leaf-requires : goal.leaf-requires
+leaf-requires g c =
+    let before = map stepping_of c.args.before.now in
+    leaf_fits (g.L.Leaves.known c.args.leaves.now) (g.L.Leaves.may_give c.args.leaves.now) before c.args.done.now (stepping_of c.args.step.now) c.in-Leaf.kind c.in-Leaf.name c.requires.next (ap doing_of c.in-Leaf.is)

@@ -11,7 +11,7 @@ pub run_plan-requires-clause-fits : goal.run_plan-requires-clause-fits
 run_plan-requires-clause-fits c =
     let h = c.args.snapshot.now.history in
     let p = planned_of c.args.plan in
-    record { known = known_in h; columns = columns_given p; typed = world_typed h; fits = c.requires.fits }
+    record { columns = columns_given p; typed = world_typed h; fits = c.requires.fits }
 
 pub show-requires : goal.show-requires
 show-requires c =
