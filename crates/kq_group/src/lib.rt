@@ -1,4 +1,4 @@
-//! Groups of rows by their keys: the different keys with their numbers, and for each the states of the aggregates. What an aggregate keeps and ends with, and the values of keys and arguments over a row, are left to other crates.
+//! Groups of rows by their keys: the different keys with their numbers, and for each the states of the aggregates; groups of other rows come to them key by key. What an aggregate keeps and ends with, and the values of keys and arguments over a row, are left to other crates.
 #![tactic(auto)]
 
 mod aggregated;

@@ -85,7 +85,8 @@ fn folded_shard(
     ensures { IfOk result (λ new. FoldsShard width aggregates.now shard delta.now (arc_value old.now) (arc_value new)) }
 {
     let numbers = numbers_in(alloc, delta, shard)?;
-    if numbers.is_empty() {
+    let untouched = numbers.is_empty();
+    if untouched {
         return Ok(Arc::try_clone(old)?);
     }
     let mut groups = Groups::none(alloc, width, aggregates)?;

@@ -7,8 +7,8 @@ use Rattle.kq_parted.specs.Shards.{FoldsShard}
 use Rattle.kq_parted.proofs.Sharding.{FoldsShard-new, FoldsShard-same, no_items}
 use Rattle.kq_parted.proofs.shards.folded_shard.Goals as goal
 
-pub returns-then-is_empty : goal.returns-then-is_empty
-returns-then-is_empty c =
+pub returns-then-untouched : goal.returns-then-untouched
+returns-then-untouched c =
     let old = arc_value c.args.old.now in
     let delta = c.args.delta.now in
     let count : length c.in_ok-numbers.numbers.items ≡ 0 = search rules in
