@@ -4,7 +4,6 @@ ghost use Rattle.std.specs.List.{All};
 ghost use Rattle.kq_computed.specs.Computed.{each};
 ghost use Rattle.kq_expr.specs.Terms.{term_of};
 ghost use Rattle.kq_plan.specs.Fits.{FitsLeaf};
-ghost use Rattle.kq_plan.specs.Fits.{FitsLeaf};
 ghost use Rattle.kq_plan.specs.Plans.{cells_seen, sorting_of, stepping_of};
 ghost use Rattle.kq_scalar.specs.Val.{meaning, surroundings};
 ghost use Rattle.kq_pipe.specs.Gives.{Case, Handed, SortsTo, TopsTo};
@@ -114,7 +113,6 @@ fn leaf<L: Leaves>(
     columns: &[Field],
     leaves: &L,
 ) -> Result<Outcome, Memory>
-    requires { FitsLeaf kind (L.known leaves.now name.now) columns.now }
     requires { FitsLeaf kind (L.known leaves.now name.now) columns.now }
     ensures { IfOk result (Handed (L.may_give leaves.now name.now kind columns.now) stage) }
 {
