@@ -8,6 +8,7 @@ ghost use Rattle.kq_piecewise.specs.Operators.{filtered};
 ghost use Rattle.kq_piecewise.specs.Pieces.{places_true};
 
 use crate::piece::{PIECE, eval_piece};
+use crate::relation::Relation;
 use kq_arithmetic::is_yes;
 use kq_columnar::Vector;
 use kq_computed::EvalFault;
@@ -32,20 +33,21 @@ pub fn filter_rows(
     }
 }
 
-fn places_kept(
+/// The places of the rows for which the condition is true, in order.
+pub fn places_kept<R: Relation>(
     alloc: Global,
-    rows: &Rows,
+    relation: &R,
     condition: &Expr,
     lets: &[Value],
     now: i64,
 ) -> Result<Vec<u32>, EvalFault>
-    ensures { AnswersAs (λ ps. ps.items) (and_then (each (meaning (term_of condition.now) (surroundings now lets.now)) rows.now) (λ vs. Is (places_true 0 vs))) result }
+    ensures { AnswersAs (λ ps. ps.items) (and_then (each (meaning (term_of condition.now) (surroundings now lets.now)) (R.rows relation.now)) (λ vs. Is (places_true 0 vs))) result }
 {
     let mut places = Vec::new(alloc);
     let mut from = 0;
-    while from < rows.len() {
-        let to = rows.len().min(from + PIECE);
-        let truths = eval_piece(alloc, rows, from, to, condition, lets, now)?;
+    while from < relation.len() {
+        let to = relation.len().min(from + PIECE);
+        let truths = eval_piece(alloc, relation, from, to, condition, lets, now)?;
         push_places(&mut places, truths, from)?;
         from = to;
     }

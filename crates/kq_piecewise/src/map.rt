@@ -1,17 +1,18 @@
 // The rows that expressions make of each row.
-ghost use Rattle.std.specs.Prelude.{◌≡◌, ◌≤◌, ◌++◌, ◌∷◌, [], IfOk, OnOk, length, map};
+ghost use Rattle.std.specs.Prelude.{◌≡◌, ◌<◌, ◌≤◌, ◌++◌, ◌∷◌, [], IfOk, OnOk, length, map};
 ghost use Rattle.std.specs.List.{All};
 ghost use Rattle.kq_computed.specs.Computed.{Answers, AnswersAs, each};
 ghost use Rattle.kq_expr.specs.Terms.{term_of};
-ghost use Rattle.kq_rows.specs.Chunks.{HasWidth};
+ghost use Rattle.kq_rows.specs.Chunks.{HasWidth, row_at};
 ghost use Rattle.kq_scalar.specs.Val.{surroundings};
 ghost use Rattle.kq_piecewise.specs.Operators.{values_at};
 ghost use Rattle.kq_piecewise.specs.Pieces.{piece_of};
 ghost use Rattle.kq_piecewise.specs.Sources.{GiveBehind, row_from, rows_from};
 
-use crate::columns::{columns_in, row_in};
+use crate::columns::columns_in;
 use crate::piece::{PIECE, places_below};
 use crate::reads::copied_of;
+use crate::relation::Relation;
 use crate::sources::{Source, source_of, take_cell};
 use kq_computed::EvalFault;
 use kq_expr::Expr;
@@ -20,42 +21,42 @@ use kq_value::{Memory, Value};
 use std::alloc::Global;
 
 /// The values of the expressions over each row, with the cells of the scalar lets and the ticks of the command's moment.
-pub fn map_rows(
+pub fn map_rows<R: Relation>(
     alloc: Global,
-    rows: &Rows,
+    relation: &R,
     exprs: &[Expr],
     lets: &[Value],
     now: i64,
 ) -> Result<Rows, EvalFault>
-    ensures { Answers (each (values_at (map term_of exprs.now) (surroundings now lets.now)) rows.now) result }
+    ensures { Answers (each (values_at (map term_of exprs.now) (surroundings now lets.now)) (R.rows relation.now)) result }
 {
     let mut mapped = Rows::new(alloc);
     let mut from = 0;
-    while from < rows.len() {
-        let to = rows.len().min(from + PIECE);
-        let sources = sources_of(alloc, rows, from, to, exprs, lets, now)?;
-        push_rows(alloc, &mut mapped, sources, rows, from, to)?;
+    while from < relation.len() {
+        let to = relation.len().min(from + PIECE);
+        let sources = sources_of(alloc, relation, from, to, exprs, lets, now)?;
+        push_rows(alloc, &mut mapped, sources, relation, from, to)?;
         from = to;
     }
     Ok(mapped)
 }
 
 // A source for each expression, with its values over the rows from a place on, up to another.
-fn sources_of(
+fn sources_of<R: Relation>(
     alloc: Global,
-    rows: &Rows,
+    relation: &R,
     from: usize,
     to: usize,
     exprs: &[Expr],
     lets: &[Value],
     now: i64,
 ) -> Result<Vec<Source>, EvalFault>
-    requires { (from ≤ to) × (to ≤ length rows.now) }
-    ensures rows { AnswersAs (λ xs. rows_from xs.items 0 (piece_of rows.now from to)) (each (values_at (map term_of exprs.now) (surroundings now lets.now)) (piece_of rows.now from to)) result }
+    requires { (from ≤ to) × (to ≤ length (R.rows relation.now)) }
+    ensures rows { AnswersAs (λ xs. rows_from xs.items 0 (piece_of (R.rows relation.now) from to)) (each (values_at (map term_of exprs.now) (surroundings now lets.now)) (piece_of (R.rows relation.now) from to)) result }
     ensures wide { IfOk result (λ xs. length xs.items ≡ length exprs.now) }
 {
     let copied = copied_of(alloc, exprs)?;
-    let columns = columns_in(alloc, rows, from, to, &copied)?;
+    let columns = columns_in(alloc, relation, from, to, &copied)?;
     let places = places_below(alloc, to - from)?;
     let mut sources = Vec::new(alloc);
     for expr in exprs {
@@ -65,43 +66,45 @@ fn sources_of(
 }
 
 // Puts the rows last that the sources give of the rows from a place on, up to another.
-fn push_rows(
+fn push_rows<R: Relation>(
     alloc: Global,
     mapped: &mut Rows,
     sources: Vec<Source>,
-    rows: &Rows,
+    relation: &R,
     from: usize,
     to: usize,
 ) -> Result<(), Memory>
-    requires piece { (from ≤ to) × (to ≤ length rows.now) }
+    requires piece { (from ≤ to) × (to ≤ length (R.rows relation.now)) }
     requires wide { All (HasWidth (length sources.items)) mapped.old }
-    ensures ok { OnOk result (mapped.new ≡ mapped.old ++ rows_from sources.items 0 (piece_of rows.now from to)) }
+    ensures ok { OnOk result (mapped.new ≡ mapped.old ++ rows_from sources.items 0 (piece_of (R.rows relation.now) from to)) }
     ensures wide { OnOk result (All (HasWidth (length sources.items)) mapped.new) }
 {
     let mut left = sources;
     let width = left.len();
     let mut row = Vec::with_capacity(alloc, width)?;
     for i in from..to {
-        fill_row(&mut row, &mut left, row_in(rows, i), i - from)?;
+        fill_row(&mut row, &mut left, relation, i, i - from)?;
         push_row(mapped, &mut row, width)?;
     }
     Ok(())
 }
 
-// Puts a cell from each source into the row, which is empty.
-fn fill_row(
+// Puts a cell from each source into the row, which is empty, for the row at a place, which has the place `i` in its piece.
+fn fill_row<R: Relation>(
     row: &mut Vec<Value>,
     sources: &mut Vec<Source>,
-    given: &[Value],
+    relation: &R,
+    at: usize,
     i: usize,
 ) -> Result<(), Memory>
-    requires { row.old.items ≡ [] }
-    ensures row { OnOk result (row.new.items ≡ row_from sources.old.items i given.now) }
+    requires place { at < length (R.rows relation.now) }
+    requires empty { row.old.items ≡ [] }
+    ensures row { OnOk result (row.new.items ≡ row_from sources.old.items i (row_at (R.rows relation.now) at)) }
     ensures behind { OnOk result (GiveBehind i sources.old.items sources.new.items) }
     ensures wide { length sources.new.items ≡ length sources.old.items }
 {
     for n in 0..sources.len() {
-        row.push(take_cell(&mut sources[n], given, i)?)?;
+        row.push(take_cell(&mut sources[n], relation, at, i)?)?;
     }
     Ok(())
 }

@@ -4,10 +4,12 @@ ghost use Rattle.kq_value.specs.declared.value.Value.{Value as Seen};
 
 use kq_value::Value;
 
-// A kind of cells, each of which is a number.
-pub(crate) trait Number {
+/// A kind of cells, each of which is a number.
+pub trait Number {
+    /// The cell of a number.
     ghost cell: { ℤ → Seen };
 
+    /// The number in a cell, or none where it is of another kind.
     fn of(value: &Value) -> Option<i64>
         ensures { IfSome result (λ z. value.now ≡ cell z) };
 }

@@ -9,10 +9,10 @@ ghost use Rattle.kq_piecewise.specs.Pieces.{piece_of};
 
 use crate::columns::columns_in;
 use crate::reads::columns_of;
+use crate::relation::Relation;
 use kq_columnar::{Vector, eval_column};
 use kq_computed::EvalFault;
 use kq_expr::Expr;
-use kq_rows::Rows;
 use kq_value::{Memory, Value};
 use std::alloc::Global;
 use std::slice::from_ref;
@@ -21,20 +21,20 @@ use std::slice::from_ref;
 pub(crate) const PIECE: usize = 4096;
 
 // The values of an expression over the rows from a place on, up to another.
-pub(crate) fn eval_piece(
+pub(crate) fn eval_piece<R: Relation>(
     alloc: Global,
-    rows: &Rows,
+    relation: &R,
     from: usize,
     to: usize,
     expr: &Expr,
     lets: &[Value],
     now: i64,
 ) -> Result<Vector, EvalFault>
-    requires { (from ≤ to) × (to ≤ length rows.now) }
-    ensures { AnswersAs cells_of (each (meaning (term_of expr.now) (surroundings now lets.now)) (piece_of rows.now from to)) result }
+    requires { (from ≤ to) × (to ≤ length (R.rows relation.now)) }
+    ensures { AnswersAs cells_of (each (meaning (term_of expr.now) (surroundings now lets.now)) (piece_of (R.rows relation.now) from to)) result }
 {
     let reads = columns_of(alloc, from_ref(expr))?;
-    let columns = columns_in(alloc, rows, from, to, &reads)?;
+    let columns = columns_in(alloc, relation, from, to, &reads)?;
     let places = places_below(alloc, to - from)?;
     eval_column(alloc, expr, &columns, &places, lets, now)
 }

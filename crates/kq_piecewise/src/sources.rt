@@ -1,14 +1,15 @@
 // Where the values of an expression over the rows of a piece come from.
-ghost use Rattle.std.specs.Prelude.{◌≡◌, ◌<◌, ℕ, List, IfOk, OnOk};
+ghost use Rattle.std.specs.Prelude.{◌≡◌, ◌<◌, ℕ, List, IfOk, OnOk, length};
 ghost use Rattle.kq_value.specs.declared.value.Value.{Value as Cell};
 ghost use Rattle.kq_columnar.specs.Vectors.{cells_of, rows_at};
 ghost use Rattle.kq_computed.specs.Computed.{each};
 ghost use Rattle.kq_expr.specs.Terms.{term_of};
+ghost use Rattle.kq_rows.specs.Chunks.{row_at};
 ghost use Rattle.kq_scalar.specs.Val.{cell_of, surroundings, val};
 ghost use Rattle.kq_piecewise.specs.Sources.{Sourced, StandBehind, cell_from};
 
-use crate::columns::copy_of;
 use crate::reads::column_alone;
+use crate::relation::{Relation, cell_or_null};
 use kq_columnar::{Vector, eval_column};
 use kq_computed::EvalFault;
 use kq_expr::Expr;
@@ -43,13 +44,19 @@ pub(crate) fn source_of(
     }
 }
 
-// The cell for a row with this place in its piece. What was made moves out, so that it is there once.
-pub(crate) fn take_cell(source: &mut Source, row: &[Value], i: usize) -> Result<Value, Memory>
-    ensures cell { IfOk result (λ v. v ≡ cell_from source.old i row.now) }
+// The cell for a row, which has the place `i` in its piece. What was made moves out, so that it is there once.
+pub(crate) fn take_cell<R: Relation>(
+    source: &mut Source,
+    relation: &R,
+    at: usize,
+    i: usize,
+) -> Result<Value, Memory>
+    requires { at < length (R.rows relation.now) }
+    ensures cell { IfOk result (λ v. v ≡ cell_from source.old i (row_at (R.rows relation.now) at)) }
     ensures behind { OnOk result ((k : ℕ) (r : List Cell) → i < k → cell_from source.new k r ≡ cell_from source.old k r) }
 {
     match source {
-        Source::Column(j) => copy_of(row, *j),
+        Source::Column(j) => cell_or_null(relation, at, *j),
         Source::Made(vector) => take_made(vector, i),
     }
 }

@@ -8,45 +8,45 @@ ghost use Rattle.kq_scalar.specs.Val.{meaning, surroundings};
 use crate::columns::cells_in;
 use crate::piece::{PIECE, eval_piece};
 use crate::reads::column_alone;
+use crate::relation::Relation;
 use kq_columnar::Vector;
 use kq_computed::EvalFault;
 use kq_expr::Expr;
-use kq_rows::Rows;
 use kq_value::{Memory, Value};
 use std::alloc::Global;
 
 /// The value of an expression over each row, with the cells of the scalar lets and the ticks of the command's moment.
-pub fn values_over(
+pub fn values_over<R: Relation>(
     alloc: Global,
-    rows: &Rows,
+    relation: &R,
     expr: &Expr,
     lets: &[Value],
     now: i64,
 ) -> Result<Vec<Value>, EvalFault>
-    ensures values { AnswersAs (λ vs. vs.items) (each (meaning (term_of expr.now) (surroundings now lets.now)) rows.now) result }
-    ensures beside { IfOk result (λ vs. length vs.items ≡ length rows.now) }
+    ensures values { AnswersAs (λ vs. vs.items) (each (meaning (term_of expr.now) (surroundings now lets.now)) (R.rows relation.now)) result }
+    ensures beside { IfOk result (λ vs. length vs.items ≡ length (R.rows relation.now)) }
 {
     match column_alone(expr) {
-        Some(j) => Ok(cells_in(alloc, rows, 0, rows.len(), j)?),
-        None => values_by_pieces(alloc, rows, expr, lets, now),
+        Some(j) => Ok(cells_in(alloc, relation, 0, relation.len(), j)?),
+        None => values_by_pieces(alloc, relation, expr, lets, now),
     }
 }
 
-fn values_by_pieces(
+fn values_by_pieces<R: Relation>(
     alloc: Global,
-    rows: &Rows,
+    relation: &R,
     expr: &Expr,
     lets: &[Value],
     now: i64,
 ) -> Result<Vec<Value>, EvalFault>
-    ensures values { AnswersAs (λ vs. vs.items) (each (meaning (term_of expr.now) (surroundings now lets.now)) rows.now) result }
-    ensures beside { IfOk result (λ vs. length vs.items ≡ length rows.now) }
+    ensures values { AnswersAs (λ vs. vs.items) (each (meaning (term_of expr.now) (surroundings now lets.now)) (R.rows relation.now)) result }
+    ensures beside { IfOk result (λ vs. length vs.items ≡ length (R.rows relation.now)) }
 {
     let mut values = Vec::new(alloc);
     let mut from = 0;
-    while from < rows.len() {
-        let to = rows.len().min(from + PIECE);
-        let piece = eval_piece(alloc, rows, from, to, expr, lets, now)?;
+    while from < relation.len() {
+        let to = relation.len().min(from + PIECE);
+        let piece = eval_piece(alloc, relation, from, to, expr, lets, now)?;
         push_cells(&mut values, piece)?;
         from = to;
     }

@@ -5,6 +5,6 @@ use Rattle.kq_piecewise.specs.Pieces.{column_of, piece_of}
 use Rattle.kq_piecewise.proofs.columns.columns_in.Given as goal
 
 abbrev pub invariant-loop-j : goal.invariant-loop-j
-invariant-loop-j l =
+invariant-loop-j g l =
     (length l.columns.items ≡ l.j)
-    × All (λ k. k < l.j → get_or (map cells_of l.columns.items) k [] ≡ column_of k (piece_of l.rows l.from l.to)) l.reads
+    × All (λ k. k < l.j → get_or (map cells_of l.columns.items) k [] ≡ column_of k (piece_of (g.R.Relation.rows l.relation) l.from l.to)) l.reads

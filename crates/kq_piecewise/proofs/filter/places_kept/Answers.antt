@@ -9,12 +9,12 @@ use Rattle.kq_piecewise.proofs.Kept.{places_of, places_more, places_fault, place
 use Rattle.kq_piecewise.proofs.filter.places_kept.Goals as goal
 
 pub returns-in_err-truths : goal.returns-in_err-truths
-returns-in_err-truths c =
+returns-in_err-truths g c =
     let again = to_z w64 (of_z w64 c.args.now) in
     let same : again ≡ c.args.now = search (rules, to_z-of_z) in
     let f = λ (z : ℤ). meaning (term_of c.args.condition.now) (surroundings z c.args.lets.now) in
     let see = λ (v : Vec ℕ Global). v.items in
-    let rows = c.args.rows.now in
+    let rows = g.R.Relation.rows c.args.relation.now in
     let fault = c.in_err-truths.field-0.0 in
     let low : c.loop-from.from ≤ c.min-to.result = omega arith in
     let fails = places_fault (f again) see cells_of (places_of (f again) rows) rows c.loop-from.from c.min-to.result c.loop-from.places.items fault low c.loop-from.invariant.1 c.in_err-truths.ensures in
@@ -22,20 +22,20 @@ returns-in_err-truths c =
     rw (p.1, p.2) (subst (λ (z : ℤ). AnswersAs see (places_of (f z) rows) (Err fault)) same fails)
 
 pub loop-from-preserved : goal.loop-from-preserved
-loop-from-preserved c =
+loop-from-preserved g c =
     let f = meaning (term_of c.args.condition.now) (surroundings (to_z w64 (of_z w64 c.args.now)) c.args.lets.now) in
-    let rows = c.args.rows.now in
+    let rows = g.R.Relation.rows c.args.relation.now in
     let from = c.loop-from.from in
     let to = c.min-to.result in
     let low : from ≤ to = omega arith in
     let high : to ≤ length rows = omega arith in
-    (high, rw c.in_ok-push_places.ensures (places_more f _ rows from to c.loop-from.places.items (cells_of c.in_ok-truths.truths) low high c.loop-from.invariant.1 c.in_ok-truths.ensures))
+    (high, rw c.in_ok-push_places.ensures (places_more f (places_of f rows) rows from to c.loop-from.places.items (cells_of c.in_ok-truths.truths) low high c.loop-from.invariant.1 c.in_ok-truths.ensures))
 
 pub returns : goal.returns
-returns c =
+returns g c =
     let again = to_z w64 (of_z w64 c.args.now) in
     let same : again ≡ c.args.now = search (rules, to_z-of_z) in
     let f = λ (z : ℤ). meaning (term_of c.args.condition.now) (surroundings z c.args.lets.now) in
-    let rows = c.args.rows.now in
+    let rows = g.R.Relation.rows c.args.relation.now in
     subst (λ (z : ℤ). places_of (f z) rows ≡ Is c.loop-from.places.items) same
     (places_end (f again) (places_of (f again) rows) rows c.loop-from.from c.loop-from.places.items (omega arith) c.loop-from.invariant.1)

@@ -5,9 +5,9 @@ use Rattle.kq_piecewise.proofs.Kept.{places_of, rest_of}
 use Rattle.kq_piecewise.proofs.filter.places_kept.Given as goal
 
 abbrev pub invariant-loop-from : goal.invariant-loop-from
-invariant-loop-from l =
+invariant-loop-from g l =
     let f = meaning (term_of l.condition) (surroundings l.now l.lets) in
-    (l.from ≤ length l.rows) × (places_of f l.rows ≡ rest_of f l.rows l.from l.places.items)
+    (l.from ≤ length (g.R.Relation.rows l.relation)) × (places_of f (g.R.Relation.rows l.relation) ≡ rest_of f (g.R.Relation.rows l.relation) l.from l.places.items)
 
 abbrev pub decreases-loop-from : goal.decreases-loop-from
-decreases-loop-from l = length l.rows - l.from
+decreases-loop-from g l = length (g.R.Relation.rows l.relation) - l.from

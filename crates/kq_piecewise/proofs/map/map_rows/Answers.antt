@@ -15,11 +15,11 @@ use Rattle.kq_piecewise.proofs.Laws.{answers_seen, piece_more, piece_faults}
 use Rattle.kq_piecewise.proofs.map.map_rows.Goals as goal
 
 pub returns-in_err-sources : goal.returns-in_err-sources
-returns-in_err-sources c =
+returns-in_err-sources g c =
     let again = to_z w64 (of_z w64 c.args.now) in
     let same : again ≡ c.args.now = search (rules, to_z-of_z) in
     let f = λ (z : ℤ). values_at (map term_of c.args.exprs.now) (surroundings z c.args.lets.now) in
-    let rows = c.args.rows.now in
+    let rows = g.R.Relation.rows c.args.relation.now in
     let from = c.loop-from.from in
     let to = c.min-to.result in
     let saw = λ (v : Vec Source Global). rows_from v.items 0 (piece_of rows from to) in
@@ -31,9 +31,9 @@ returns-in_err-sources c =
     rw (p.1, p.2) (answers_seen (each (f c.args.now) rows) fault (subst (λ (z : ℤ). AnswersAs see (each (f z) rows) (Err fault)) same fails))
 
 pub loop-from-preserved : goal.loop-from-preserved
-loop-from-preserved c =
+loop-from-preserved g c =
     let f = values_at (map term_of c.args.exprs.now) (surroundings (to_z w64 (of_z w64 c.args.now)) c.args.lets.now) in
-    let rows = c.args.rows.now in
+    let rows = g.R.Relation.rows c.args.relation.now in
     let from = c.loop-from.from in
     let to = c.min-to.result in
     let low : from ≤ to = omega arith in
@@ -41,9 +41,9 @@ loop-from-preserved c =
     let made = c.loop-from.mapped in
     let vs = rows_from c.in_ok-sources.sources.items 0 (piece_of rows from to) in (
       high,
-      rw c.in_ok-push_rows.ensures.ok (piece_more f _ rows from to made vs low c.loop-from.invariant.1 c.in_ok-sources.ensures.rows),
+      rw c.in_ok-push_rows.ensures.ok (piece_more f (each f rows) rows from to made vs low c.loop-from.invariant.1 c.in_ok-sources.ensures.rows),
       subst (λ (w : ℕ). All (HasWidth {T = Value} w) c.push_rows.new.mapped) c.in_ok-sources.ensures.wide c.in_ok-push_rows.ensures.wide,
     )
 
 pub push_rows-requires-clause-wide : goal.push_rows-requires-clause-wide
-push_rows-requires-clause-wide c = subst (λ (w : ℕ). All (HasWidth {T = Value} w) c.loop-from.mapped) (sym c.in_ok-sources.ensures.wide) c.loop-from.invariant.2
+push_rows-requires-clause-wide g c = subst (λ (w : ℕ). All (HasWidth {T = Value} w) c.loop-from.mapped) (sym c.in_ok-sources.ensures.wide) c.loop-from.invariant.2

@@ -8,9 +8,9 @@ use Rattle.kq_piecewise.specs.Operators.{values_at}
 use Rattle.kq_piecewise.proofs.map.map_rows.Given as goal
 
 abbrev pub invariant-loop-from : goal.invariant-loop-from
-invariant-loop-from l =
+invariant-loop-from g l =
     let f = values_at (map term_of l.exprs) (surroundings l.now l.lets) in
-    (l.from ≤ length l.rows) × (each f l.rows ≡ and_then (each f (drop l.from l.rows)) (λ others. Is (l.mapped ++ others))) × All (HasWidth (length l.exprs)) l.mapped
+    (l.from ≤ length (g.R.Relation.rows l.relation)) × (each f (g.R.Relation.rows l.relation) ≡ and_then (each f (drop l.from (g.R.Relation.rows l.relation))) (λ others. Is (l.mapped ++ others))) × All (HasWidth (length l.exprs)) l.mapped
 
 abbrev pub decreases-loop-from : goal.decreases-loop-from
-decreases-loop-from l = length l.rows - l.from
+decreases-loop-from g l = length (g.R.Relation.rows l.relation) - l.from

@@ -8,9 +8,9 @@ use Rattle.kq_piecewise.proofs.Mapped.{rows_next}
 use Rattle.kq_piecewise.proofs.map.push_rows.Goals as goal
 
 pub loop-i-preserved : goal.loop-i-preserved
-loop-i-preserved c =
+loop-i-preserved g c =
     let xs = c.args.sources.items in
-    let rows = c.args.rows.now in
+    let rows = g.R.Relation.rows c.args.relation.now in
     let from = c.args.from in
     let i = c.loop-i.i in
     let before = c.loop-i.invariant in
@@ -18,7 +18,7 @@ loop-i-preserved c =
     let high : i < length rows = omega arith in
     let wide : c.len-width.result ≡ length xs = omega (arith, c.len-width.ensures) in
     let row : c.fill_row.new.row.items ≡ row_from xs (i - from) (row_at rows i) =
-    (c.in_ok-fill_row.ensures.row ∙ before.3 (i - from) c.row_in.result.now (omega arith) ∙ ap (row_from xs (i - from)) c.row_in.ensures) in
+    c.in_ok-fill_row.ensures.row ∙ before.3 (i - from) (row_at rows i) (omega arith) in
     let old = c.args.mapped.now in (
       c.in_ok-push_row.ensures.left,
       rw add-one

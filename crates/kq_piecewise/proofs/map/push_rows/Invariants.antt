@@ -7,9 +7,9 @@ use Rattle.kq_piecewise.specs.Sources.{row_from, rows_from}
 use Rattle.kq_piecewise.proofs.map.push_rows.Given as goal
 
 abbrev pub invariant-loop-i : goal.invariant-loop-i
-invariant-loop-i l =
+invariant-loop-i g l =
     (l.row.items ≡ [])
-    × (l.mapped ≡ l.fn.mapped ++ rows_from l.fn.sources.items 0 (piece_of l.rows l.from l.i))
+    × (l.mapped ≡ l.fn.mapped ++ rows_from l.fn.sources.items 0 (piece_of (g.R.Relation.rows l.relation) l.from l.i))
     × All (HasWidth (length l.fn.sources.items)) l.mapped
     × ((k : ℕ) (r : List Value) → l.i - l.from ≤ k → row_from l.left.items k r ≡ row_from l.fn.sources.items k r)
     × (length l.left.items ≡ length l.fn.sources.items)

@@ -15,18 +15,18 @@ use Rattle.kq_piecewise.proofs.Mapped.{no_sources, source_fault, source_pushed, 
 use Rattle.kq_piecewise.proofs.map.sources_of.Goals as goal
 
 pub loop-expr-init : goal.loop-expr-init
-loop-expr-init c =
+loop-expr-init g c =
     let s = surroundings c.args.now c.args.lets.now in
-    let rows = piece_of c.args.rows.now c.args.from c.args.to in
+    let rows = piece_of (g.R.Relation.rows c.args.relation.now) c.args.from c.args.to in
     (search rules, rw c.new-sources.ensures.items (no_sources s rows 0))
 
 pub returns-in_err-source_of-clause-rows : goal.returns-in_err-source_of-clause-rows
-returns-in_err-source_of-clause-rows c =
+returns-in_err-source_of-clause-rows g c =
     let same : to_z w64 (of_z w64 c.args.now) ≡ c.args.now = search (rules, to_z-of_z) in
     let n = c.args.to - c.args.from in
     let s = surroundings c.args.now c.args.lets.now in
-    let rows = piece_of c.args.rows.now c.args.from c.args.to in
-    let long = piece_long c.args.rows.now c.args.from c.args.to c.requires.0 c.requires.1 in
+    let rows = piece_of (g.R.Relation.rows c.args.relation.now) c.args.from c.args.to in
+    let long = piece_long (g.R.Relation.rows c.args.relation.now) c.args.from c.args.to c.requires.0 c.requires.1 in
     let e = c.expr-item.result in
     let i = c.loop-expr.expr-index in
     let l : i < length c.args.exprs.now = omega arith in
@@ -41,12 +41,12 @@ returns-in_err-source_of-clause-rows c =
     rw (p.1, p.2) (source_fault (λ (v : Vec Source Global). rows_from v.items 0 rows) (λ (x : Source). cells_from x 0 rows) s c.args.exprs.now i e rows fault l c.expr-item.is gives)
 
 pub loop-expr-preserved : goal.loop-expr-preserved
-loop-expr-preserved c =
+loop-expr-preserved g c =
     let same : to_z w64 (of_z w64 c.args.now) ≡ c.args.now = search (rules, to_z-of_z) in
     let n = c.args.to - c.args.from in
     let s = surroundings c.args.now c.args.lets.now in
-    let rows = piece_of c.args.rows.now c.args.from c.args.to in
-    let long = piece_long c.args.rows.now c.args.from c.args.to c.requires.0 c.requires.1 in
+    let rows = piece_of (g.R.Relation.rows c.args.relation.now) c.args.from c.args.to in
+    let long = piece_long (g.R.Relation.rows c.args.relation.now) c.args.from c.args.to c.requires.0 c.requires.1 in
     let e = c.expr-item.result in
     let i = c.loop-expr.expr-index in
     let l : i < length c.args.exprs.now = omega arith in
@@ -63,9 +63,9 @@ loop-expr-preserved c =
     (rw length-append (omega (arith, c.loop-expr.invariant.0)), source_pushed s c.args.exprs.now i e made x rows l c.expr-item.is before gives)
 
 pub returns-clause-rows : goal.returns-clause-rows
-returns-clause-rows c =
+returns-clause-rows g c =
     let same : to_z w64 (of_z w64 c.args.now) ≡ c.args.now = search (rules, to_z-of_z) in
     let s = surroundings c.args.now c.args.lets.now in
-    let rows = piece_of c.args.rows.now c.args.from c.args.to in
+    let rows = piece_of (g.R.Relation.rows c.args.relation.now) c.args.from c.args.to in
     ap (λ es. each (values_at (map term_of es) s) rows) (sym (take_all c.loop-expr.expr-index c.args.exprs.now (omega arith)))
     ∙ subst (λ (z : ℤ). each (values_at (map term_of (take c.loop-expr.expr-index c.args.exprs.now)) (surroundings z c.args.lets.now)) rows ≡ Is (rows_from c.loop-expr.sources.items 0 rows)) same c.loop-expr.invariant.1

@@ -8,6 +8,6 @@ use Rattle.kq_piecewise.specs.Sources.{rows_from}
 use Rattle.kq_piecewise.proofs.map.sources_of.Given as goal
 
 abbrev pub invariant-loop-expr : goal.invariant-loop-expr
-invariant-loop-expr l =
+invariant-loop-expr g l =
     (length l.sources.items ≡ l.expr-index)
-    × (each (values_at (map term_of (take l.expr-index l.exprs)) (surroundings l.now l.lets)) (piece_of l.rows l.from l.to) ≡ Is (rows_from l.sources.items 0 (piece_of l.rows l.from l.to)))
+    × (each (values_at (map term_of (take l.expr-index l.exprs)) (surroundings l.now l.lets)) (piece_of (g.R.Relation.rows l.relation) l.from l.to) ≡ Is (rows_from l.sources.items 0 (piece_of (g.R.Relation.rows l.relation) l.from l.to)))

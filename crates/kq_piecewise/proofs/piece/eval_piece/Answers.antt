@@ -12,16 +12,16 @@ use Rattle.kq_piecewise.proofs.Standing.{piece_long, reads_one, stands_for}
 use Rattle.kq_piecewise.proofs.piece.eval_piece.Goals as goal
 
 pub returns : goal.returns
-returns c =
+returns g c =
     let same : to_z w64 (of_z w64 c.args.now) ≡ c.args.now = search (rules, to_z-of_z) in
     let e = c.args.expr.now in
     let s = surroundings c.args.now c.args.lets.now in
-    let rows = piece_of c.args.rows.now c.args.from c.args.to in
+    let rows = piece_of (g.R.Relation.rows c.args.relation.now) c.args.from c.args.to in
     let columns = c.in_ok-columns.columns.items in
     let read : c.deref.result.now ≡ columns_read e = c.deref.ensures.value ∙ c.in_ok-reads.ensures ∙ ap (λ (es : List Expr). concat (map columns_read es)) c.from_ref.ensures.value ∙ reads_one e in
     let held = subst (λ (js : List ℕ). Hold columns rows js) read c.in_ok-columns.ensures in
     let places : c.deref-3.result.now ≡ range_with_len 0 (c.args.to - c.args.from) = c.deref-3.ensures.value ∙ c.in_ok-places.ensures in
     let is : each (val e s) (rows_at c.deref-2.result.now c.deref-3.result.now) ≡ each (meaning (term_of e) s) rows =
     ((λ j. each (val e s) (rows_at (c.deref-2.ensures.value j) (places j)))
-    ∙ stands_for e s columns rows (c.args.to - c.args.from) (piece_long c.args.rows.now c.args.from c.args.to c.requires.0 c.requires.1) held) in
+    ∙ stands_for e s columns rows (c.args.to - c.args.from) (piece_long (g.R.Relation.rows c.args.relation.now) c.args.from c.args.to c.requires.0 c.requires.1) held) in
     subst (λ (o : Computed (List Value)). AnswersAs cells_of o c.eval_column.result) is (subst (λ (z : ℤ). AnswersAs cells_of (each (val e (surroundings z c.args.lets.now)) (rows_at c.deref-2.result.now c.deref-3.result.now)) c.eval_column.result) same c.eval_column.ensures)

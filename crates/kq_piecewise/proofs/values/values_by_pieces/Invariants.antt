@@ -5,9 +5,9 @@ use Rattle.kq_scalar.specs.Val.{meaning, surroundings}
 use Rattle.kq_piecewise.proofs.values.values_by_pieces.Given as goal
 
 abbrev pub invariant-loop-from : goal.invariant-loop-from
-invariant-loop-from l =
+invariant-loop-from g l =
     let f = meaning (term_of l.expr) (surroundings l.now l.lets) in
-    (l.from ≤ length l.rows) × (length l.values.items ≡ l.from) × (each f l.rows ≡ and_then (each f (drop l.from l.rows)) (λ others. Is (l.values.items ++ others)))
+    (l.from ≤ length (g.R.Relation.rows l.relation)) × (length l.values.items ≡ l.from) × (each f (g.R.Relation.rows l.relation) ≡ and_then (each f (drop l.from (g.R.Relation.rows l.relation))) (λ others. Is (l.values.items ++ others)))
 
 abbrev pub decreases-loop-from : goal.decreases-loop-from
-decreases-loop-from l = length l.rows - l.from
+decreases-loop-from g l = length (g.R.Relation.rows l.relation) - l.from

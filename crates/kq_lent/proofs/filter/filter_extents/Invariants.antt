@@ -1,0 +1,11 @@
+use Rattle.std.proofs.Common.{◌≡◌, take}
+use Rattle.kq_computed.specs.Computed.{Is}
+use Rattle.kq_expr.specs.Terms.{term_of}
+use Rattle.kq_extent.specs.Seen.{held_extents}
+use Rattle.kq_extent.proofs.Walked.{rows_by}
+use Rattle.kq_piecewise.specs.Operators.{filtered}
+use Rattle.kq_scalar.specs.Val.{surroundings}
+use Rattle.kq_lent.proofs.filter.filter_extents.Given as goal
+
+abbrev pub invariant-loop-at : goal.invariant-loop-at
+invariant-loop-at l = filtered (term_of l.condition) (surroundings l.now l.lets) (rows_by (take l.at (held_extents l.extents))) ≡ Is l.kept
