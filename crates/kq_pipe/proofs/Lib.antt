@@ -1,4 +1,3 @@
-pub mod Firsts
 pub mod Plans
 pub mod Ranked
 pub mod Numbered

@@ -20,6 +20,7 @@ use kq_agg::Kind;
 use kq_computed::EvalFault;
 use kq_expr::Expr;
 use kq_group::{Aggregated, group_rows};
+use kq_lent::Held;
 use kq_piecewise::map_rows;
 use kq_plan::Aggregate;
 use kq_rows::Rows;
@@ -31,7 +32,7 @@ use std::slice::from_ref;
 pub(crate) fn summarize(
     alloc: Global,
     stage: u32,
-    rows: &Rows,
+    rows: &Held,
     keys: &[Expr],
     aggregates: &[Aggregate],
     columns: &[Field],
@@ -41,10 +42,11 @@ pub(crate) fn summarize(
     requires { length columns.now ≡ length keys.now + all_made (map aggregating_of aggregates.now) }
     ensures { IfOk result (GroupsTo (map term_of keys.now) (map aggregating_of aggregates.now) columns.now (surroundings now lets.now) rows.now stage) }
 {
-    match summarized(alloc, rows, keys, aggregates, columns, lets, now) {
+    let gathered = rows.gather(alloc)?;
+    match summarized(alloc, gathered.rows(), keys, aggregates, columns, lets, now) {
         Ok(rows) => Ok(Outcome::Table {
             ordered: false,
-            rows,
+            rows: Held::own(rows),
         }),
         Err(EvalFault::Overflow) => Ok(Outcome::Overflow { stage }),
         Err(EvalFault::Memory) => Err(AllocError),

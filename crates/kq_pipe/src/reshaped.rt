@@ -12,6 +12,7 @@ use crate::outcome::{Outcome, rows_at};
 use crate::terms::value_of;
 use kq_computed::EvalFault;
 use kq_expr::Expr;
+use kq_lent::Held;
 use kq_piecewise::values_over;
 use kq_plan::Arm;
 use kq_reshape::{RangeFault, append_arm, distinct_rows, expand_rows, range_rows};
@@ -53,20 +54,20 @@ fn range_between(
     match range_rows(alloc, &from, &to, &by) {
         Ok(rows) => Ok(Outcome::Table {
             ordered: false,
-            rows,
+            rows: Held::own(rows),
         }),
         Err(RangeFault::Full { limit }) => Ok(Outcome::Full { limit }),
         Err(RangeFault::Memory) => Err(EvalFault::Memory),
     }
 }
 
-pub(crate) fn distinct(alloc: Global, rows: &Rows, columns: &[usize]) -> Result<Outcome, Memory>
+pub(crate) fn distinct(alloc: Global, rows: &Held, columns: &[usize]) -> Result<Outcome, Memory>
     ensures { IfOk result (DiffersTo columns.now rows.now) }
 {
-    let rows = distinct_rows(alloc, rows, columns)?;
+    let rows = distinct_rows(alloc, rows.gather(alloc)?.rows(), columns)?;
     Ok(Outcome::Table {
         ordered: false,
-        rows,
+        rows: Held::own(rows),
     })
 }
 
@@ -79,15 +80,21 @@ pub(crate) fn union(
 ) -> Result<Outcome, Memory>
     ensures { IfOk result (λ o. o ≡ arms_together done.now columns.now (map filling_of arms.now)) }
 {
-    let none = Rows::new(alloc);
+    let none = Held::own(Rows::new(alloc));
     let mut rows = Rows::new(alloc);
     for arm in arms {
-        let given = rows_at(done, arm.input, &none);
-        append_arm(alloc, &mut rows, given, arm.cells.as_slice(), columns)?;
+        let given = rows_at(done, arm.input, &none).gather(alloc)?;
+        append_arm(
+            alloc,
+            &mut rows,
+            given.rows(),
+            arm.cells.as_slice(),
+            columns,
+        )?;
     }
     Ok(Outcome::Table {
         ordered: false,
-        rows,
+        rows: Held::own(rows),
     })
 }
 
@@ -95,7 +102,7 @@ pub(crate) fn union(
 pub(crate) fn expand(
     alloc: Global,
     stage: u32,
-    rows: &Rows,
+    rows: &Held,
     expr: &Expr,
     at: usize,
     ty: Option<Ty>,
@@ -105,10 +112,11 @@ pub(crate) fn expand(
     requires { same_width rows.now }
     ensures { IfOk result (λ o. o ≡ in_stage stage false (expanded_by (term_of expr.now) (surroundings now lets.now) at ty rows.now)) }
 {
-    match expand_each(alloc, rows, expr, at, ty, lets, now) {
+    let gathered = rows.gather(alloc)?;
+    match expand_each(alloc, gathered.rows(), expr, at, ty, lets, now) {
         Ok(rows) => Ok(Outcome::Table {
             ordered: false,
-            rows,
+            rows: Held::own(rows),
         }),
         Err(EvalFault::Overflow) => Ok(Outcome::Overflow { stage }),
         Err(EvalFault::Memory) => Err(AllocError),

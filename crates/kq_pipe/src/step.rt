@@ -15,14 +15,13 @@ use crate::grouping::summarize;
 use crate::joined::{fields_at, join};
 use crate::leaves::Leaves;
 use crate::outcome::{Outcome, cells, order_at, rows_at};
-use crate::places::first_rows;
 use crate::reshaped::{distinct, expand, range, union};
 use crate::single::{single_row, tally_row, written_rows};
 use crate::sort::{sort_rows, top_rows};
 use crate::terms::value_of;
 use kq_computed::EvalFault;
 use kq_expr::Expr;
-use kq_piecewise::{filter_rows, map_rows};
+use kq_lent::Held;
 use kq_plan::{LeafKind, SortKey, Step, Work};
 use kq_rows::Rows;
 use kq_value::{Field, Memory, Text, Value};
@@ -40,7 +39,7 @@ pub(crate) fn run_step<L: Leaves>(
     requires next { IsNext (L.known leaves.now) (L.may_give leaves.now) (map stepping_of before.now) done.now (stepping_of step.now) }
     ensures { IfOk result (Case (L.may_give leaves.now) now (map stepping_of before.now) done.now (stepping_of step.now)) }
 {
-    let none = Rows::new(alloc);
+    let none = Held::own(Rows::new(alloc));
     let lets = cells(alloc, done)?;
     let stage = step.stage;
     match &step.work {
@@ -138,7 +137,7 @@ fn print(
     match single_row(alloc, exprs, lets, now) {
         Ok(rows) => Ok(Outcome::Table {
             ordered: false,
-            rows,
+            rows: Held::own(rows),
         }),
         Err(EvalFault::Overflow) => Ok(Outcome::Overflow { stage }),
         Err(EvalFault::Memory) => Err(AllocError),
@@ -152,7 +151,7 @@ fn datatable(alloc: Global, rows: &[Vec<Value>], width: usize) -> Result<Outcome
     let rows = written_rows(alloc, rows, width)?;
     Ok(Outcome::Table {
         ordered: false,
-        rows,
+        rows: Held::own(rows),
     })
 }
 
@@ -176,15 +175,18 @@ fn filter(
     alloc: Global,
     stage: u32,
     ordered: bool,
-    rows: &Rows,
+    rows: &Held,
     condition: &Expr,
     lets: &[Value],
     now: i64,
 ) -> Result<Outcome, Memory>
     ensures { IfOk result (λ o. o ≡ in_stage stage ordered (filtered (term_of condition.now) (surroundings now lets.now) rows.now)) }
 {
-    match filter_rows(alloc, rows, condition, lets, now) {
-        Ok(rows) => Ok(Outcome::Table { ordered, rows }),
+    match rows.filter(alloc, condition, lets, now) {
+        Ok(rows) => Ok(Outcome::Table {
+            ordered,
+            rows: Held::own(rows),
+        }),
         Err(EvalFault::Overflow) => Ok(Outcome::Overflow { stage }),
         Err(EvalFault::Memory) => Err(AllocError),
     }
@@ -194,15 +196,18 @@ fn project(
     alloc: Global,
     stage: u32,
     ordered: bool,
-    rows: &Rows,
+    rows: &Held,
     exprs: &[Expr],
     lets: &[Value],
     now: i64,
 ) -> Result<Outcome, Memory>
     ensures { IfOk result (λ o. o ≡ in_stage stage ordered (each (values_at (map term_of exprs.now) (surroundings now lets.now)) rows.now)) }
 {
-    match map_rows(alloc, rows, exprs, lets, now) {
-        Ok(rows) => Ok(Outcome::Table { ordered, rows }),
+    match rows.map(alloc, exprs, lets, now) {
+        Ok(rows) => Ok(Outcome::Table {
+            ordered,
+            rows: Held::own(rows),
+        }),
         Err(EvalFault::Overflow) => Ok(Outcome::Overflow { stage }),
         Err(EvalFault::Memory) => Err(AllocError),
     }
@@ -211,17 +216,18 @@ fn project(
 fn sort(
     alloc: Global,
     stage: u32,
-    rows: &Rows,
+    rows: &Held,
     keys: &[SortKey],
     lets: &[Value],
     now: i64,
 ) -> Result<Outcome, Memory>
     ensures { IfOk result (SortsTo (map sorting_of keys.now) (surroundings now lets.now) rows.now stage) }
 {
-    match sort_rows(alloc, rows, keys, lets, now) {
+    let gathered = rows.gather(alloc)?;
+    match sort_rows(alloc, gathered.rows(), keys, lets, now) {
         Ok(rows) => Ok(Outcome::Table {
             ordered: true,
-            rows,
+            rows: Held::own(rows),
         }),
         Err(EvalFault::Overflow) => Ok(Outcome::Overflow { stage }),
         Err(EvalFault::Memory) => Err(AllocError),
@@ -231,7 +237,7 @@ fn sort(
 fn top(
     alloc: Global,
     stage: u32,
-    rows: &Rows,
+    rows: &Held,
     count: u64,
     key: &SortKey,
     lets: &[Value],
@@ -239,20 +245,22 @@ fn top(
 ) -> Result<Outcome, Memory>
     ensures { IfOk result (TopsTo count (sorting_of key.now) (surroundings now lets.now) rows.now stage) }
 {
-    match top_rows(alloc, rows, count, key, lets, now) {
+    let gathered = rows.gather(alloc)?;
+    match top_rows(alloc, gathered.rows(), count, key, lets, now) {
         Ok(rows) => Ok(Outcome::Table {
             ordered: true,
-            rows,
+            rows: Held::own(rows),
         }),
         Err(EvalFault::Overflow) => Ok(Outcome::Overflow { stage }),
         Err(EvalFault::Memory) => Err(AllocError),
     }
 }
 
-fn take(alloc: Global, ordered: bool, rows: &Rows, count: u64) -> Result<Outcome, Memory>
+fn take(alloc: Global, ordered: bool, rows: &Held, count: u64) -> Result<Outcome, Memory>
     ensures { IfOk result (Taken ordered rows.now count) }
 {
-    let rows = first_rows(alloc, rows, count)?;
+    let few = rows.first(alloc, count)?;
+    let rows = Held::own(few);
     if ordered {
         Ok(Outcome::Table {
             ordered: true,
@@ -266,12 +274,12 @@ fn take(alloc: Global, ordered: bool, rows: &Rows, count: u64) -> Result<Outcome
     }
 }
 
-fn count(alloc: Global, rows: &Rows) -> Result<Outcome, Memory>
+fn count(alloc: Global, rows: &Held) -> Result<Outcome, Memory>
     ensures { IfOk result (λ o. o ≡ Outcome.Table false (tally rows.now)) }
 {
     let rows = tally_row(alloc, rows)?;
     Ok(Outcome::Table {
         ordered: false,
-        rows,
+        rows: Held::own(rows),
     })
 }

@@ -90,7 +90,7 @@ fn show(alloc: Global, schema: Schema, outcome: Outcome) -> Result<Reply, Refusa
             Answer {
                 schema,
                 ordered,
-                rows,
+                rows: rows.into_rows(alloc)?,
             },
         )?),
         Outcome::Cell(_) => unreachable!(),

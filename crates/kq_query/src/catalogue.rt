@@ -8,10 +8,10 @@ ghost use Rattle.kq_query.specs.Worlds.{TableGives, table_found};
 
 use kq_catalog::Snapshot;
 use kq_computed::EvalFault;
+use kq_lent::Held;
 use kq_model::Table;
 use kq_pipe::Leaves;
 use kq_plan::{LeafKind, NameKind, Names};
-use kq_rows::Rows;
 use kq_value::{Field, Memory, Schema, Text};
 use std::alloc::Global;
 
@@ -41,37 +41,33 @@ impl Leaves for Catalogue<'_> {
 
     fn rows(
         &self,
-        alloc: Global,
+        _alloc: Global,
         kind: LeafKind,
         name: &Text,
         _columns: &[Field],
-    ) -> Result<Rows, EvalFault> {
+    ) -> Result<Held, EvalFault> {
         match kind {
-            LeafKind::Table => Ok(rows_named(alloc, self.snapshot, name)?),
+            LeafKind::Table => Ok(rows_named(self.snapshot, name)?),
             LeafKind::View | LeafKind::Part => unreachable!(),
         }
     }
 }
 
-fn rows_named(alloc: Global, snapshot: &Snapshot, name: &Text) -> Result<Rows, Memory>
+fn rows_named(snapshot: &Snapshot, name: &Text) -> Result<Held, Memory>
     requires { IsTrue (is_some (table_found snapshot.now.history name.now)) }
     ensures { IfOk result (λ rows. TableGives snapshot.now.history (table_found snapshot.now.history name.now) (Is rows)) }
 {
     match snapshot.table(name) {
-        Some((number, table)) => table_rows(alloc, snapshot, number, table),
+        Some((number, table)) => table_rows(snapshot, number, table),
         None => unreachable!(),
     }
 }
 
-fn table_rows(
-    alloc: Global,
-    snapshot: &Snapshot,
-    number: u32,
-    table: &Table,
-) -> Result<Rows, Memory>
+// The rows of a table, lent by its extents.
+fn table_rows(snapshot: &Snapshot, number: u32, table: &Table) -> Result<Held, Memory>
     requires { slice_get (tables (log snapshot.now.history)) number ≡ Some table.now }
     ensures { IfOk result (λ rows. TableGives snapshot.now.history (Some (record { number = number; table = table.now })) (Is rows)) }
 {
     let extents = snapshot.extents(number);
-    extents.all_rows(alloc)
+    Ok(Held::lent(extents.share()?))
 }

@@ -1,17 +1,28 @@
-use Rattle.kq_extent.specs.Seen.{held_records}
-use Rattle.kq_model.specs.History.{Numbered}
+use Rattle.std.proofs.Common.{◌≡◌, Ok, map, ap, subst, sym, ◌∙◌, arith}
+use Rattle.std.proofs.lemmas.List.Sorted.{length_permutation}
+use Rattle.kq_extent.specs.Seen.{HeldExtents, held_records, row_of}
+use Rattle.kq_lent.specs.Lent.{AreLent, rows_held}
+use Rattle.kq_model.specs.History.{Numbered, log}
+use Rattle.kq_model.specs.Records.{records}
 use Rattle.kq_rows.proofs.Typed.{same_width-typed}
 use Rattle.kq_query.proofs.Reading.{given_held, typed_held}
 use Rattle.kq_query.proofs.catalogue.table_rows.Goals as goal
 
-pub all_rows-requires : goal.all_rows-requires
-all_rows-requires c =
-    let schema = c.args.table.now.schema in
-    let held = held_records c.extents-extents.result.now in
-    same_width-typed schema _ (typed_held schema c.args.snapshot.now.history c.args.number held c.extents-extents.ensures.records (c.extents-extents.ensures.typed c.args.table.now c.requires))
+pub lent-requires : goal.lent-requires
+lent-requires c =
+    let h = c.args.snapshot.now.history in
+    let extents = c.extents-extents in
+    let held = held_records extents.result.now in
+    let typed = typed_held c.args.table.now.schema h c.args.number held extents.ensures.records (extents.ensures.typed c.args.table.now c.requires) in
+    let long = length_permutation held (records (log h) c.args.number) extents.ensures.records in
+    let all : AreLent extents.result.now = record { wide = same_width-typed c.args.table.now.schema (map row_of held) typed; small = omega (arith, long, extents.ensures.small) } in
+    subst (λ (t : HeldExtents). AreLent t) (sym c.in_ok-share.ensures) all
 
 pub returns : goal.returns
 returns c =
-    let held = held_records c.extents-extents.result.now in
+    let h = c.args.snapshot.now.history in
+    let extents = c.extents-extents in
+    let held = held_records extents.result.now in
     let found : Numbered = record { number = c.args.number; table = c.args.table.now } in
-    given_held c.args.snapshot.now.history found held c.all_rows.result c.extents-extents.ensures.records (c.extents-extents.ensures.typed c.args.table.now c.requires) c.all_rows.ensures
+    let is : c.lent.result ≡ map row_of held = c.lent.ensures ∙ ap (λ (t : HeldExtents). rows_held t) c.in_ok-share.ensures in
+    given_held {E = Unit {0}} h found held (Ok c.lent.result) extents.ensures.records (extents.ensures.typed c.args.table.now c.requires) is
