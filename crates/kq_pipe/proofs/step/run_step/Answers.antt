@@ -52,4 +52,4 @@ summarize-requires g c =
 pub leaf-requires : goal.leaf-requires
 leaf-requires g c =
     let before = map stepping_of c.args.before.now in
-    leaf_fits (g.L.Leaves.known c.args.leaves.now) (g.L.Leaves.may_give c.args.leaves.now) before c.args.done.now (stepping_of c.args.step.now) c.in-Leaf.kind c.in-Leaf.name c.requires.next (ap doing_of c.in-Leaf.is)
+    rw (c.as_slice.ensures.value) (leaf_fits (g.L.Leaves.known c.args.leaves.now) (g.L.Leaves.may_give c.args.leaves.now) before c.args.done.now (stepping_of c.args.step.now) c.in-Leaf.kind c.in-Leaf.name c.requires.next (ap doing_of c.in-Leaf.is))
