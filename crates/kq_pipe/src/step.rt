@@ -7,6 +7,7 @@ ghost use Rattle.kq_plan.specs.Fits.{FitsLeaf};
 ghost use Rattle.kq_plan.specs.Plans.{cells_seen, sorting_of, stepping_of};
 ghost use Rattle.kq_scalar.specs.Val.{meaning, surroundings};
 ghost use Rattle.kq_pipe.specs.Gives.{Case, Handed, SortsTo, TopsTo};
+ghost use Rattle.kq_pipe.specs.Outcomes.{cells_of};
 ghost use Rattle.kq_pipe.specs.Typed.{IsNext};
 ghost use Rattle.kq_piecewise.specs.Operators.{filtered, values_at};
 ghost use Rattle.kq_pipe.specs.Operators.{AnswersOne, Taken, cell_in_stage, in_stage, single, tally};
@@ -41,64 +42,84 @@ pub(crate) fn run_step<L: Leaves>(
 {
     let none = Held::own(Rows::new(alloc));
     let lets = cells(alloc, done)?;
+    work(
+        alloc,
+        before,
+        step,
+        done,
+        leaves,
+        &none,
+        lets.as_slice(),
+        now,
+    )
+}
+
+// The same, with no rows, and the cells of the lets, at hand.
+fn work<L: Leaves>(
+    alloc: Global,
+    before: &[Step],
+    step: &Step,
+    done: &[Outcome],
+    leaves: &L,
+    none: &Held,
+    lets: &[Value],
+    now: i64,
+) -> Result<Outcome, Memory>
+    requires next { IsNext (L.known leaves.now) (L.may_give leaves.now) (map stepping_of before.now) done.now (stepping_of step.now) }
+    requires none { none.now ≡ [] }
+    requires lets { lets.now ≡ cells_of done.now }
+    ensures { IfOk result (Case (L.may_give leaves.now) now (map stepping_of before.now) done.now (stepping_of step.now)) }
+{
     let stage = step.stage;
     match &step.work {
         Work::Leaf(kind, name) => leaf(alloc, stage, *kind, name, step.columns.as_slice(), leaves),
-        Work::Row(exprs) => print(alloc, stage, exprs.as_slice(), lets.as_slice(), now),
+        Work::Row(exprs) => print(alloc, stage, exprs.as_slice(), lets, now),
         Work::Table(rows) => datatable(alloc, rows.as_slice(), step.columns.len()),
-        Work::Scalar(expr) => scalar(alloc, stage, expr, lets.as_slice(), now),
+        Work::Scalar(expr) => scalar(alloc, stage, expr, lets, now),
         Work::Where(i, condition) => {
             let ordered = order_at(done, *i);
-            let rows = rows_at(done, *i, &none);
-            filter(alloc, stage, ordered, rows, condition, lets.as_slice(), now)
+            let rows = rows_at(done, *i, none);
+            filter(alloc, stage, ordered, rows, condition, lets, now)
         }
         Work::Project(i, exprs) => {
             let ordered = order_at(done, *i);
-            let rows = rows_at(done, *i, &none);
-            project(
-                alloc,
-                stage,
-                ordered,
-                rows,
-                exprs.as_slice(),
-                lets.as_slice(),
-                now,
-            )
+            let rows = rows_at(done, *i, none);
+            project(alloc, stage, ordered, rows, exprs.as_slice(), lets, now)
         }
-        Work::Take(i, count) => take(alloc, order_at(done, *i), rows_at(done, *i, &none), *count),
-        Work::Count(i) => count(alloc, rows_at(done, *i, &none)),
+        Work::Take(i, count) => take(alloc, order_at(done, *i), rows_at(done, *i, none), *count),
+        Work::Count(i) => count(alloc, rows_at(done, *i, none)),
         Work::Sort(i, keys) => {
-            let rows = rows_at(done, *i, &none);
-            sort(alloc, stage, rows, keys.as_slice(), lets.as_slice(), now)
+            let rows = rows_at(done, *i, none);
+            sort(alloc, stage, rows, keys.as_slice(), lets, now)
         }
         Work::Top(i, count, key) => {
-            let rows = rows_at(done, *i, &none);
-            top(alloc, stage, rows, *count, key, lets.as_slice(), now)
+            let rows = rows_at(done, *i, none);
+            top(alloc, stage, rows, *count, key, lets, now)
         }
-        Work::Range(from, to, by) => range(alloc, stage, from, to, by, lets.as_slice(), now),
-        Work::Distinct(i, columns) => distinct(alloc, rows_at(done, *i, &none), columns.as_slice()),
+        Work::Range(from, to, by) => range(alloc, stage, from, to, by, lets, now),
+        Work::Distinct(i, columns) => distinct(alloc, rows_at(done, *i, none), columns.as_slice()),
         Work::Join(kind, i, j, on) => join(
             alloc,
             *kind,
-            rows_at(done, *i, &none),
-            rows_at(done, *j, &none),
+            rows_at(done, *i, none),
+            rows_at(done, *j, none),
             fields_at(before, *i),
             fields_at(before, *j),
             on.as_slice(),
         ),
         Work::Union(arms) => union(alloc, done, arms.as_slice(), step.columns.as_slice()),
         Work::Expand(i, expr, at, ty) => {
-            let rows = rows_at(done, *i, &none);
-            expand(alloc, stage, rows, expr, *at, *ty, lets.as_slice(), now)
+            let rows = rows_at(done, *i, none);
+            expand(alloc, stage, rows, expr, *at, *ty, lets, now)
         }
         Work::Summarize(i, keys, aggregates) => summarize(
             alloc,
             stage,
-            rows_at(done, *i, &none),
+            rows_at(done, *i, none),
             keys.as_slice(),
             aggregates.as_slice(),
             step.columns.as_slice(),
-            lets.as_slice(),
+            lets,
             now,
         ),
     }

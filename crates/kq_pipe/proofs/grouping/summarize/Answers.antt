@@ -1,4 +1,4 @@
-use Rattle.std.proofs.Common.{◌≡◌, ◌∙◌, ℤ, Err, List, ap, map, refl, rules, subst, w64, to_z, of_z}
+use Rattle.std.proofs.Common.{◌≡◌, ◌∙◌, ℤ, Err, List, ap, false, map, refl, rules, subst, w64, to_z, of_z}
 use Rattle.std.proofs.lemmas.Int.{to_z-of_z}
 use Rattle.kq_computed.specs.Computed.{Is, Overflow}
 use Rattle.kq_computed.specs.declared.fault.EvalFault.{EvalFault}

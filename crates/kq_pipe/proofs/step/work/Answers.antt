@@ -9,7 +9,7 @@ use Rattle.kq_pipe.specs.Grouping.{all_made}
 use Rattle.kq_pipe.specs.Outcomes.{Row, rows_of}
 use Rattle.kq_pipe.specs.Reshaped.{columns_before}
 use Rattle.kq_pipe.proofs.Widths.{cells_wide, expanded_even, leaf_fits, left_wide, right_wide, summarized_wide, written_wide}
-use Rattle.kq_pipe.proofs.step.run_step.Goals as goal
+use Rattle.kq_pipe.proofs.step.work.Goals as goal
 
 pub join-requires-clause-left : goal.join-requires-clause-left
 join-requires-clause-left g c =
