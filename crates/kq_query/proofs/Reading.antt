@@ -1,5 +1,5 @@
 -- The rows of extents, as those of a world.
-use Rattle.std.proofs.Common.{◌≡◌, ℕ, List, [], All, map, Option, Some, None, Result, Ok, Err, IfOk, IsTrue, absurd, ap, is_some, refl, subst}
+use Rattle.std.proofs.Common.{◌≡◌, ℕ, List, [], All, map, Option, Some, None, Result, Ok, Err, IfOk, ap, subst}
 use Rattle.std.specs.List.Sorted.{IsPermutation}
 use Rattle.std.specs.Option.{option_map}
 use Rattle.std.proofs.lemmas.List.Sorted.{IsPermutation-map, IsPermutation-sym, All-permutation}
@@ -46,16 +46,6 @@ same_columns found cs e = ap columns_known e
 table_typed : (h : History) (o : Option Numbered) (cs : List Field) (rows : List (List Value)) → option_map known_table o ≡ Some (name.Table, cs) → TableGives h o (Is rows) → All (HasTypes cs) rows
 table_typed h (Some found) cs rows fits gives = subst (λ (fs : List Field). All (HasTypes fs) rows) (same_columns found cs fits) gives.1
 table_typed h None cs rows fits gives = absurd gives
-
--- ---- what is known is a table
-
-pub known_found : (o : Option Numbered) (cs : List Field) → option_map known_table o ≡ Some (name.Table, cs) → IsTrue (is_some o)
-known_found (Some found) cs is = refl
-known_found None cs is = absurd (cc)
-
-pub no_view : (o : Option Numbered) (cs : List Field) → option_map known_table o ≡ Some (name.View, cs) → ⊥
-no_view (Some found) cs is = cc
-no_view None cs is = cc
 
 pub world_typed : (h : History) → TypedWorld (known_in h) (MayGive h)
 world_typed h said kind.Table cs rows fits gives = table_typed h (table_found h said) cs rows fits gives
