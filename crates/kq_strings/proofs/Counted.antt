@@ -11,7 +11,7 @@ use Rattle.kq_strings.specs.declared.case.Case.TheVariants.{Exact, Ignored}
 use Rattle.kq_strings.specs.Case.{in_case}
 use Rattle.kq_strings.specs.declared.search.Occurrence.{Occurrence}
 use Rattle.kq_strings.specs.declared.search.Occurrence.TheVariants.{Any, Term}
-use Rattle.kq_strings.specs.Found.{counts, is_found}
+use Rattle.kq_strings.specs.Found.{counts, counts_at, NoneBelow, is_found}
 use Rattle.kq_strings.proofs.Occurs.{any_none, any_at, past}
 
 alphanumeric_lower : (c : ℕ) → is_ascii_alphanumeric (to_ascii_lowercase c) ≡ is_ascii_alphanumeric c
@@ -38,10 +38,6 @@ is_term_at-in_case Ignored s t i = is_term_at-map to_ascii_lowercase refl alphan
 pub counts-in_case : (which : Occurrence) (by : Case) (s t : List ℕ) (i : ℕ) → counts which (in_case by s) (in_case by t) i ≡ counts which s t i
 counts-in_case Any by s t i = refl
 counts-in_case Term by s t i = is_term_at-in_case by s t i
-
--- an occurrence at a place, if it counts
-abbrev pub counts_at : Occurrence → List ℕ → List ℕ → ℕ → Bool
-counts_at which s t i = occurs_at s t i && counts which s t i
 
 and_yes : (b : Bool) → (b && true) ≡ b
 and_yes true = refl
@@ -74,10 +70,6 @@ or_yes false = refl
 pub found-at : (which : Occurrence) (s t : List ℕ) (i : ℕ) → i ≤ length s → counts_at which s t i ≡ true → is_found which s t ≡ true
 found-at Any s t i h e = any_at (occurs_at s t) (length s + 1) i (omega arith) (sym (and_yes (occurs_at s t i)) ∙ e)
 found-at Term s t i h e = (λ j. (length t == 0) || any_at (counts_at Term s t) (length s + 1) i (omega arith) e j) ∙ or_yes (length t == 0)
-
--- no place below `from` counts
-abbrev pub NoneBelow : Occurrence → List ℕ → List ℕ → ℕ → Type 0
-NoneBelow which s t from = (k : ℕ) → k < from → counts_at which s t k ≡ false
 
 pub none_below-more : (which : Occurrence) (s t : List ℕ) (i : ℕ) → NoneBelow which s t i → counts_at which s t i ≡ false → NoneBelow which s t (i + 1)
 none_below-more which s t i below here = λ k h. ⊎_elim (λ lt. below k lt) (λ low. let at : k ≡ i = omega arith in ap (counts_at which s t) at ∙ here) (cases_lt k i)

@@ -1,17 +1,19 @@
 -- What the bytes that agreed, and the one that didn't, say of the places of a text.
-use Rattle.std.proofs.Common.{◌≡◌, ℕ, ◌+◌, ◌-◌, ◌<◌, ◌≤◌, true, List, length, max, min, sym, ap, ◌∙◌, ⊎_elim, arith}
+use Rattle.std.proofs.Common.{◌≡◌, ℕ, ◌+◌, ◌-◌, ◌<◌, ◌≤◌, true, false, List, length, take, drop, slice_index, max, min, sym, ap, subst, ◌∙◌, ⊎_elim, arith}
 use Rattle.std.proofs.lemmas.Bool.{cases_lt}
+use Rattle.std.proofs.lemmas.List.{length-drop, length-take-le}
 use Rattle.memchr.specs.Critical.{IsRepeat, IsCritical, NoPeriodBelow}
-use Rattle.memchr.specs.Find.{Nowhere}
+use Rattle.memchr.specs.Find.{Nowhere, NoneBefore}
 use Rattle.memchr.specs.TwoWay.{OccursIn}
 use Rattle.kq_written.specs.Strings.{occurs_at}
 use Rattle.kq_strings.specs.declared.case.Case.{Case}
 use Rattle.kq_strings.specs.declared.cut.Cut.{Cut}
 use Rattle.kq_strings.specs.declared.search.Occurrence.{Occurrence}
-use Rattle.kq_strings.specs.Case.{in_case, seen, StandsBetween}
+use Rattle.kq_strings.specs.Case.{in_case, folded, seen, StandsBetween, HasByte}
 use Rattle.kq_strings.specs.Cut.{IsCutOf}
-use Rattle.kq_strings.proofs.Cases.{length-in_case}
-use Rattle.kq_strings.proofs.Counted.{NoneBelow, counts-none}
+use Rattle.kq_strings.proofs.Cases.{length-in_case, seen-folded, seen-range}
+use Rattle.kq_strings.specs.Found.{NoneBelow}
+use Rattle.kq_strings.proofs.Counted.{counts-none}
 use Rattle.kq_strings.proofs.Occurs.{OccursAt-from, occurs_at-from, not_true}
 
 module _ (x : ℕ → ℕ) (m : ℕ) (h : ℕ → ℕ) (n : ℕ) where
@@ -73,3 +75,51 @@ module _ (by : Case) (text part : List ℕ) where
       (λ early. below k early)
       (λ late. counts-none which (in_case by text) (in_case by part) k (not_true _ (λ e. nowhere k late high (OccursIn-from k (omega arith) e))))
       (cases_lt k i)
+
+  -- where the byte at one place doesn't stand, the part doesn't
+  pub differs-none : (k r : ℕ) → k ≤ length text → r < length part → (seen by part r ≡ seen by text (k + r) → ⊥) → occurs_at (in_case by text) (in_case by part) k ≡ false
+  differs-none k r low inside differs = not_true _ (λ e. differs (sym ((OccursIn-from k low e).reads r inside)))
+
+  -- nor at any place between
+  pub nowhere_byte : (i j r : ℕ) → r < length part → Nowhere (HasByte by text part r) i j
+      → Nowhere (OccursIn (seen by part) (length part) (seen by text) (length text)) i j
+  nowhere_byte i j r inside nowhere k low high occurs = nowhere k low high (sym (occurs.reads r inside))
+
+-- ---- the places at which a byte of the part stands, found in the n bytes of the text from it on
+
+module _ (by : Case) (s t : List ℕ) (i j n : ℕ) (within : i + j + n ≤ length s) where
+  length-range : length (take n (drop (i + j) s)) ≡ n
+  length-range = let rest = length-drop (i + j) s in length-take-le n (drop (i + j) s) (omega arith)
+
+  -- whether the byte stands in them
+  abbrev Reads : ℕ → Type 0
+  Reads k = folded by (slice_index t j) ≡ seen by (take n (drop (i + j) s)) k
+
+  read-from : (d : ℕ) → d < n → HasByte by s t j (i + d) → Reads d
+  read-from d h has =
+      let place : i + d + j ≡ i + j + d = omega arith in
+      sym (seen-folded by t j) ∙ has ∙ ap (seen by s) place ∙ sym (seen-range by s (i + j) n d h)
+
+  has-from : (d : ℕ) → d < n → Reads d → HasByte by s t j (i + d)
+  has-from d h reads =
+      let place : i + j + d ≡ i + d + j = omega arith in
+      seen-folded by t j ∙ reads ∙ seen-range by s (i + j) n d h ∙ ap (seen by s) place
+
+  unread : (d : ℕ) → Nowhere Reads 0 d → d ≤ n → Nowhere (HasByte by s t j) i (i + d)
+  unread d nowhere fits k low high has =
+      let place : i + (k - i) ≡ k = omega arith in
+      nowhere (k - i) (omega arith) (omega arith) (read-from (k - i) (omega arith) (subst (HasByte by s t j) (sym place) has))
+
+  pub candidates-none : (end : ℕ) → i + n ≡ end → Nowhere Reads 0 (length (take n (drop (i + j) s))) → Nowhere (HasByte by s t j) i end
+  candidates-none end is nowhere =
+      let all = length-range in
+      subst (Nowhere (HasByte by s t j) i) is (unread n (λ k low high. nowhere k low (omega arith)) (omega arith))
+
+  pub candidate-some : (end d : ℕ) → i + n ≡ end → NoneBefore Reads 0 (length (take n (drop (i + j) s))) d → Reads d
+      → NoneBefore (HasByte by s t j) i end (i + d) × HasByte by s t j (i + d)
+  candidate-some end d is first here =
+      let all = length-range in
+      let high = first.high in (
+        record { low = omega arith; high = omega arith; before = unread d first.before (omega arith) },
+        has-from d (omega arith) here,
+      )
