@@ -11,8 +11,8 @@ use Rattle.kq_strings.specs.declared.cut.Cut.{Cut}
 use Rattle.kq_strings.specs.declared.search.Occurrence.{Occurrence}
 use Rattle.kq_strings.specs.Case.{in_case, folded, seen, StandsBetween, HasByte}
 use Rattle.kq_strings.specs.Cut.{IsCutOf}
-use Rattle.kq_strings.proofs.Cases.{length-in_case, seen-folded, seen-range}
 use Rattle.kq_strings.specs.Found.{NoneBelow}
+use Rattle.kq_strings.proofs.Cases.{length-in_case, seen-folded, seen-range}
 use Rattle.kq_strings.proofs.Counted.{counts-none}
 use Rattle.kq_strings.proofs.Occurs.{OccursAt-from, occurs_at-from, not_true}
 

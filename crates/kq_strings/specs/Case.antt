@@ -22,6 +22,6 @@ seen by s k = slice_index (in_case by s) k
 abbrev pub StandsBetween : Case → List ℕ → List ℕ → ℕ → ℕ → ℕ → Type 0
 StandsBetween by s t i a b = (k : ℕ) → a ≤ k → k < b → seen by t k ≡ seen by s (i + k)
 
--- where t to begin at the place i of s, its byte at j would be the one that stands there
+-- the byte of t at its place j stands in s, where t begins at the place i
 abbrev pub HasByte : Case → List ℕ → List ℕ → ℕ → ℕ → Type 0
 HasByte by s t j i = seen by t j ≡ seen by s (i + j)

@@ -82,13 +82,7 @@ pub(crate) fn is_found(occurrence: Occurrence, by: Case, text: &[u8], part: &[u8
 
 /// The same where none below `start` counts, by the method of Crochemore and Perrin, which compares each byte of the text a
 /// few times at most. Occurrences may overlap, so what is known of the next one is kept.
-fn is_found_from(
-    occurrence: Occurrence,
-    by: Case,
-    text: &[u8],
-    part: &[u8],
-    start: usize,
-) -> bool
+fn is_found_from(occurrence: Occurrence, by: Case, text: &[u8], part: &[u8], start: usize) -> bool
     requires some { 0 < length part.now }
     requires within { start ≤ length text.now }
     requires passed { NoneBelow occurrence (in_case by text.now) (in_case by part.now) start }

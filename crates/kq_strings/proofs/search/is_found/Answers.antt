@@ -1,4 +1,4 @@
-use Rattle.std.proofs.Common.{◌≡◌, ◌+◌, ◌-◌, ◌≤◌, ◌<◌, length, false, sym, ◌∙◌, arith}
+use Rattle.std.proofs.Common.{◌≡◌, ◌+◌, ◌-◌, ◌<◌, length, false, sym, ◌∙◌, arith}
 use Rattle.kq_strings.specs.Case.{in_case}
 use Rattle.kq_strings.specs.Found.{counts_at}
 use Rattle.kq_strings.proofs.Cases.{length-in_case}

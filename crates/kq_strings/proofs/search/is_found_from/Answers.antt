@@ -1,8 +1,8 @@
 use Rattle.std.proofs.Common.{◌≡◌, ◌+◌, ◌≤◌, ◌<◌, length, false, sym, ◌∙◌, arith}
 use Rattle.memchr.proofs.lemmas.SearchLemmas.{Nowhere-right}
 use Rattle.kq_strings.specs.Case.{in_case, seen, StandsBetween}
-use Rattle.kq_strings.proofs.Cases.{length-in_case}
 use Rattle.kq_strings.specs.Found.{counts_at}
+use Rattle.kq_strings.proofs.Cases.{length-in_case}
 use Rattle.kq_strings.proofs.Counted.{counts-in_case, counts-none, counts-not, counts-both, found-at, found-end, none_below-more}
 use Rattle.kq_strings.proofs.Occurs.{not_true}
 use Rattle.kq_strings.proofs.Places.{OccursIn-from, occurs_at-in, known_later, none_below-then, nowhere_between, stands_after, stands_whole}

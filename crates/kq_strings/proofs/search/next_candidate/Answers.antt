@@ -1,4 +1,4 @@
-use Rattle.std.proofs.Common.{◌≡◌, length, arith}
+use Rattle.std.proofs.Common.{arith}
 use Rattle.kq_strings.proofs.Places.{candidates-none, candidate-some}
 use Rattle.kq_strings.proofs.search.next_candidate.Goals as goal
 
