@@ -1,7 +1,8 @@
 -- The columns of a union, and what fills them.
-use Rattle.std.specs.Prelude.{◌≡◌, ◌⊎◌, ℕ, ◌<◌, ◌≤◌, List, ◌++◌, Some, codes, slice_get, decimal}
-use Rattle.kq_bind_clauses.specs.Unions.{type_word, filling, union_columns}
+use Rattle.std.specs.Prelude.{◌≡◌, ◌⊎◌, ℕ, ◌<◌, ◌≤◌, Bool, List, ◌++◌, Some, codes, slice_get, decimal}
+use Rattle.kq_bind_clauses.specs.Unions.{type_word, filling, union_columns, union_sources}
 use Rattle.kq_value.specs.declared.schema.Field.{Field}
+use Rattle.kq_fitting.specs.Different.{AreDifferent}
 use Rattle.kq_fitting.specs.Suffixes.{IsNamed}
 
 -- it stands in the list
@@ -25,6 +26,12 @@ pub record FillsOne (arm sources : List Field) (number : ℕ) (c : Field) : Type
   pub source : slice_get sources place ≡ Some c
   pub fills : slice_get (filling arm sources) place ≡ Some (Some number)
   pub only : (k : ℕ) → slice_get (filling arm sources) k ≡ Some (Some number) → k ≡ place
+
+-- where the columns of each arm have different names, a column of an arm that the union has fills exactly one of its own
+abbrev pub AllFillOne : Bool → List (List Field) → Type 0
+AllFillOne inner arms =
+    (arm : List Field) (i : ℕ) (c : Field) → ((a : List Field) → Has arms a → AreDifferent a)
+    → Has arms arm → slice_get arm i ≡ Some c → Has (union_sources inner arms) c → FillsOne arm (union_sources inner arms) i c
 
 -- no column of this name has another type
 abbrev pub IsOfOneType : List Field → Field → Type 0

@@ -8,10 +8,9 @@ ghost use Rattle.kq_grammar.specs.declared.clause.Cell.{Cell};
 ghost use Rattle.kq_grammar.specs.declared.clause.Column.{Column};
 ghost use Rattle.kq_plan.specs.declared.work.JoinKind.{JoinKind};
 ghost use Rattle.kq_value.specs.declared.schema.Field.{Field};
-ghost use Rattle.kq_fitting.specs.Different.{AreDifferent};
 ghost use Rattle.kq_fitting.specs.Paired.{IsPaired, StandsBehind};
 ghost use Rattle.kq_fitting.specs.Suffixes.{IsMadeFree};
-ghost use Rattle.kq_fitting.specs.United.{Has, IsOfAll, IsOfSome, FillsOne, StandsFor};
+ghost use Rattle.kq_fitting.specs.United.{AllFillOne, Has, IsOfAll, IsOfSome, StandsFor};
 ghost use Rattle.kq_fitting.specs.Written.{HoldsCells};
 
 /// A column without a name of its own gets the least suffix that is free, where its default name isn't.
@@ -29,7 +28,7 @@ pub fn joins_have_their_columns()
 pub fn unions_have_their_columns()
     ensures outer { (arms : List (List Field)) (f : Field) → Has (union_sources false arms) f ↔ IsOfSome arms f }
     ensures inner { (a : List Field) (arms : List (List Field)) (f : Field) → Has (union_sources true (a ∷ arms)) f ↔ IsOfAll (a ∷ arms) f }
-    ensures filled { (inner : Bool) (arms : List (List Field)) (arm : List Field) (i : ℕ) (c : Field) → ((a : List Field) → Has arms a → AreDifferent a) → Has arms arm → slice_get arm i ≡ Some c → Has (union_sources inner arms) c → FillsOne arm (union_sources inner arms) i c }
+    ensures filled { (inner : Bool) (arms : List (List Field)) → AllFillOne inner arms }
     ensures named { (sources : List Field) (place : ℕ) (f : Field) → slice_get sources place ≡ Some f → StandsFor sources place f }
 {}
 

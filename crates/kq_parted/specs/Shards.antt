@@ -1,13 +1,14 @@
 -- Groups in shards, by the hashes of their keys.
-use Rattle.std.specs.Prelude.{◌≡◌, ◌<◌, ◌≤◌, ◌+◌, ◌%◌, ℕ, min, Bool, nat_eq, List, [], ◌∷◌, ◌++◌, length, map, get_or}
+use Rattle.std.specs.Prelude.{◌≡◌, ◌<◌, ◌≤◌, ◌+◌, ◌%◌, ℕ, min, Bool, nat_eq, List, [], ◌∷◌, ◌++◌, length, map, get_or, Result}
 use Rattle.std.specs.List.{All, flat_map}
 use Rattle.kq_agg.specs.Holds.{Kept}
 use Rattle.kq_agg.specs.Tables.{Numbered}
 use Rattle.kq_computed.specs.Computed.{Computed, Is, and_then}
+use Rattle.kq_computed.specs.declared.fault.EvalFault.{EvalFault}
 use Rattle.kq_rows.specs.Chunks.{HasWidth}
 use Rattle.kq_value.specs.declared.value.Value.{Value}
 use Rattle.kq_value.specs.Same.{times}
-use Rattle.kq_group.specs.Grouped.{Aggregating, FitArgs}
+use Rattle.kq_group.specs.Grouped.{Aggregating, FitArgs, IsGrouped}
 use Rattle.kq_group.specs.Groups.{EndsWide, Grouping, IsWhole, Stands, rows_from, shape_of, state_at}
 use Rattle.kq_group.specs.Keys.{key_hash}
 use Rattle.kq_group.specs.Merges.{Keeps, NoneBeyond, Under}
@@ -74,6 +75,12 @@ pub record AreFolded (width : ℕ) (aggregates : List Aggregating) (delta : Grou
 abbrev pub rows_in : List Grouping → Computed (List (List Value))
 rows_in [] = Is []
 rows_in (g ∷ shards) = and_then (rows_from g.states g.keys 0) (λ x. and_then (rows_in shards) (λ y. Is (x ++ y)))
+
+-- the answer is that of a summarize over any rows for which the groups stand
+abbrev pub AreGrouped : Grouping → Result (List (List Value)) EvalFault → Type 0
+AreGrouped g r =
+    (keys : List (List Value)) (args : List (List (List Value))) → Stands keys args g → length args ≡ length g.states
+    → IsGrouped g.width (map shape_of g.states) keys args r
 
 -- each shard ends with rows, all of one width
 pub record AreFinishable (shards : List Grouping) : Type 0 where

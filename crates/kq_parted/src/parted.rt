@@ -2,10 +2,9 @@
 ghost use Rattle.std.specs.Prelude.{◌≡◌, ◌++◌, List, IfOk, length, map};
 ghost use Rattle.std.specs.Arc.{arc_value};
 ghost use Rattle.kq_computed.specs.Computed.{Answers};
-ghost use Rattle.kq_group.specs.Grouped.{IsGrouped};
 ghost use Rattle.kq_group.specs.Groups.{IsWhole, Stands, Starts, rows_from, shape_of};
 ghost use Rattle.kq_group.specs.Merges.{Merges};
-ghost use Rattle.kq_parted.specs.Shards.{IsOfRows};
+ghost use Rattle.kq_parted.specs.Shards.{AreGrouped, IsOfRows};
 
 use crate::shards::{empty_shards, folded_shards, rows_of, shared_shards};
 use kq_computed::EvalFault;
@@ -97,7 +96,7 @@ impl Parted {
     pub fn rows(&self, alloc: Global) -> Result<Rows, EvalFault>
         requires { IsOfRows self.now }
         ensures rows { Answers (rows_from self.now.states self.now.keys 0) result }
-        ensures grouped { (keys : List (List Value)) (args : List (List (List Value))) → Stands keys args self.now → length args ≡ length self.now.states → IsGrouped self.now.width (map shape_of self.now.states) keys args result }
+        ensures grouped { AreGrouped self.now result }
     {
         rows_of(alloc, self.shards.as_slice())
     }

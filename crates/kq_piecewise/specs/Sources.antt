@@ -1,8 +1,9 @@
 -- Rows that are made of other rows, by pieces.
-use Rattle.std.specs.Prelude.{◌≡◌, ◌+◌, ◌<◌, ℕ, false, List, [], ◌∷◌, map, Result, Ok, Err}
+use Rattle.std.specs.Prelude.{◌≡◌, ◌+◌, ◌<◌, ℕ, false, List, [], ◌∷◌, map, Result, Ok, Err, Vec}
+use Rattle.std.specs.declared.alloc.Global.{Global}
 use Rattle.kq_value.specs.declared.value.Value.{Value}
 use Rattle.kq_columnar.specs.Vectors.{cells_of}
-use Rattle.kq_computed.specs.Computed.{Computed, Is, Overflow}
+use Rattle.kq_computed.specs.Computed.{AnswersAs, Computed, Is, Overflow}
 use Rattle.kq_computed.specs.declared.fault.EvalFault.{EvalFault}
 use Rattle.kq_computed.specs.declared.fault.EvalFault.TheVariants as fault
 use Rattle.kq_expr.specs.Terms.{Term, column}
@@ -28,6 +29,10 @@ row_from xs i r = map (λ x. cell_from x i r) xs
 abbrev pub rows_from : List Source → ℕ → List (List Value) → List (List Value)
 rows_from xs i [] = []
 rows_from xs i (r ∷ rows) = row_from xs i r ∷ rows_from xs (i + 1) rows
+
+-- the sources of what came of terms over rows
+abbrev pub MakeRows : List (List Value) → Computed (List (List Value)) → Result (Vec Source Global) EvalFault → Type 0
+MakeRows rows came = AnswersAs (λ xs. rows_from xs.items 0 rows) came
 
 -- the source of a term's values: a column where the term is one, and else what came of it over the piece
 abbrev pub Sourced : Term → Computed (List Value) → Result Source EvalFault → Type 0

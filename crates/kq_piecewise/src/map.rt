@@ -7,7 +7,7 @@ ghost use Rattle.kq_rows.specs.Chunks.{HasWidth, row_at};
 ghost use Rattle.kq_scalar.specs.Val.{surroundings};
 ghost use Rattle.kq_piecewise.specs.Operators.{values_at};
 ghost use Rattle.kq_piecewise.specs.Pieces.{piece_of};
-ghost use Rattle.kq_piecewise.specs.Sources.{GiveBehind, row_from, rows_from};
+ghost use Rattle.kq_piecewise.specs.Sources.{GiveBehind, MakeRows, row_from, rows_from};
 
 use crate::columns::columns_in;
 use crate::piece::{PIECE, places_below};
@@ -52,7 +52,7 @@ fn sources_of<R: Relation>(
     now: i64,
 ) -> Result<Vec<Source>, EvalFault>
     requires { (from ≤ to) × (to ≤ length (R.rows relation.now)) }
-    ensures rows { AnswersAs (λ xs. rows_from xs.items 0 (piece_of (R.rows relation.now) from to)) (each (values_at (map term_of exprs.now) (surroundings now lets.now)) (piece_of (R.rows relation.now) from to)) result }
+    ensures rows { MakeRows (piece_of (R.rows relation.now) from to) (each (values_at (map term_of exprs.now) (surroundings now lets.now)) (piece_of (R.rows relation.now) from to)) result }
     ensures wide { IfOk result (λ xs. length xs.items ≡ length exprs.now) }
 {
     let copied = copied_of(alloc, exprs)?;

@@ -9,7 +9,7 @@ abbrev pub in_case : Case → List ℕ → List ℕ
 in_case Exact s = s
 in_case Ignored s = str_to_ascii_lowercase s
 
--- a byte
+-- a byte, as the case sees it
 abbrev pub folded : Case → ℕ → ℕ
 folded Exact c = c
 folded Ignored c = to_ascii_lowercase c
