@@ -1,0 +1,54 @@
+-- The rows of pieces, by their places.
+use Rattle.std.proofs.Common.{◌≡◌, ◌<◌, ◌≤◌, ◌+◌, ◌-◌, ℕ, zero, suc, min, List, [], ◌∷◌, length, map, get_or, drop, refl, sym, ap, ◌∙◌, arith}
+use Rattle.std.proofs.lemmas.List.{get_or-drop, get_or-map, get_or-take, length-drop, length-map, length-take}
+use Rattle.std.proofs.lemmas.List.Elements.{All-head, All-tail}
+use Rattle.std.specs.List.{All}
+use Rattle.kq_piecewise.specs.Operators.{Row}
+use Rattle.kq_piecewise.specs.Pieces.{piece_of}
+use Rattle.kq_rows.specs.Chunks.{row_at}
+
+pub piece_length : (rows : List Row) (from to : ℕ) → length (piece_of rows from to) ≡ min (to - from) (length rows - from)
+piece_length rows from to = length-take (to - from) (drop from rows) ∙ ap (λ (n : ℕ). min (to - from) n) (length-drop from rows)
+
+pub piece_within : (rows : List Row) (from to i : ℕ) → i < length (piece_of rows from to) → from + i < length rows
+piece_within rows from to i h = let n = piece_length rows from to in omega (arith, n, h)
+
+pub piece_row : (rows : List Row) (from to i : ℕ) → i < length (piece_of rows from to) → row_at rows (from + i) ≡ row_at (piece_of rows from to) i
+piece_row rows from to i h =
+    let n = piece_length rows from to in
+    sym (get_or-take (to - from) (drop from rows) i [] (omega (arith, n, h)) ∙ get_or-drop from rows i [])
+
+-- the row at a chosen place
+pub chosen_row : (rows : List Row) (places : List ℕ) (i p : ℕ) → i < length places → p ≡ get_or places i p → row_at (map (row_at rows) places) i ≡ row_at rows p
+chosen_row rows places i p h is = get_or-map (row_at rows) places i p [] h ∙ ap (row_at rows) (sym is)
+
+pub row_past : (rows : List Row) (i : ℕ) → length rows ≤ i → row_at rows i ≡ []
+row_past [] i h = refl
+row_past (r ∷ rows) zero h = absurd (omega arith)
+row_past (r ∷ rows) (suc i) h = row_past rows i (omega arith)
+
+-- the rows at places of a part, by their places in the whole
+pub part_chosen : (rows : List Row) (from to : ℕ) (ps qs : List ℕ) → All (λ p. p < length (piece_of rows from to)) ps → qs ≡ map (λ p. from + p) ps → map (row_at rows) qs ≡ map (row_at (piece_of rows from to)) ps
+part_chosen rows from to ps qs all is = ap (map (row_at rows)) is ∙ go ps all
+  where
+    go : (ps : List ℕ) → All (λ p. p < length (piece_of rows from to)) ps → map (row_at rows) (map (λ p. from + p) ps) ≡ map (row_at (piece_of rows from to)) ps
+    go [] all = refl
+    go (p ∷ ps) all =
+        let P = λ (p : ℕ). p < length (piece_of rows from to) in
+        let here = piece_row rows from to p (All-head P p ps all) in
+        let rest = go ps (All-tail P p ps all) in
+        λ j. here j ∷ rest j
+
+-- the rows at places of chosen rows
+pub chosen_again : (rows : List Row) (before ps qs : List ℕ) → All (λ p. p < length (map (row_at rows) before)) ps → qs ≡ map (λ n. get_or before n 0) ps
+    → map (row_at rows) qs ≡ map (row_at (map (row_at rows) before)) ps
+chosen_again rows before ps qs all is = ap (map (row_at rows)) is ∙ go ps all
+  where
+    go : (ps : List ℕ) → All (λ p. p < length (map (row_at rows) before)) ps → map (row_at rows) (map (λ n. get_or before n 0) ps) ≡ map (row_at (map (row_at rows) before)) ps
+    go [] all = refl
+    go (p ∷ ps) all =
+        let P = λ (p : ℕ). p < length (map (row_at rows) before) in
+        let n = length-map before (row_at rows) in
+        let here : row_at rows (get_or before p 0) ≡ row_at (map (row_at rows) before) p = sym (get_or-map (row_at rows) before p 0 [] (let h = All-head P p ps all in omega (arith, n, h))) in
+        let rest = go ps (All-tail P p ps all) in
+        λ j. here j ∷ rest j
