@@ -1,5 +1,5 @@
 -- What holds of each lawful history: its numbers are small, and no table that isn't there has records.
-use Rattle.std.proofs.Common.{◌≡◌, ◌<◌, ◌≤◌, refl, subst, Option, None, Some, ◌+◌, ◌*◌, ℕ, Bool, true, false, cond, List, [], ◌∷◌, ◌++◌, length, nat_lt, ap, sym, ◌∙◌, length-append, append_assoc, append-nil, arith}
+use Rattle.std.proofs.Common.{◌≡◌, ◌<◌, ◌≤◌, refl, subst, Option, None, Some, ◌+◌, ◌*◌, ℕ, Bool, true, false, cond, List, [], ◌∷◌, ◌++◌, length, take, filter, nat_lt, ap, sym, ◌∙◌, length-append, append_assoc, append-nil, arith}
 use Rattle.std.proofs.lemmas.Bool.{ltb-true, ltb-false, ne_eqb}
 use Rattle.std.proofs.lemmas.List.{length_push}
 use Rattle.std.proofs.lemmas.Option.{slice_get_within}
@@ -10,14 +10,15 @@ use Rattle.kq_model.specs.declared.batch.Batch.{Batch}
 use Rattle.kq_model.specs.declared.limits.Limits.{Limits}
 use Rattle.kq_model.specs.declared.table.Table.{Table}
 use Rattle.kq_model.specs.declared.event.Commit.{Commit}
-use Rattle.kq_model.specs.declared.event.Commit.TheVariants.{CreateTable, Ingest}
+use Rattle.kq_model.specs.declared.event.Commit.TheVariants.{CreateTable, AlterMerge, Ingest}
 use Rattle.kq_model.specs.declared.event.Event.{Event}
 use Rattle.kq_model.specs.declared.event.Operation.{Operation}
 use Rattle.kq_model.specs.declared.event.Operation.TheVariants as operation
-use Rattle.kq_model.specs.History.{History, Log, log, tables, table_named, commits_of}
-use Rattle.kq_model.specs.Lawful.{Lawful, LawfulOperation, LawfulCommit, AreLawful, AreLawfulAfter, bar_to_name, bar_to_table, bar_to_batch, own_rows}
+use Rattle.kq_model.specs.History.{History, Log, log, cursor, tables, table_named, widened_table, commits_of}
+use Rattle.kq_model.specs.Lawful.{IsMerge, Lawful, LawfulOperation, LawfulCommit, AreLawful, AreLawfulAfter, bar_to_name, bar_to_table, bar_to_columns, bar_to_batch, own_rows}
 use Rattle.kq_model.specs.Lawful.Bar.{TooWide, TooMany, TooLong, NoCommits}
-use Rattle.kq_model.specs.Records.{records, given, given_by, items, items_by, item_of, extents_from, made_by, made_in, ExtentItem}
+use Rattle.kq_model.specs.Records.{records_given, given, given_by, items, items_by, item_of, items_after, extents, is_small_item, made_by, made_of, made_in, merged, ExtentItem}
+use Rattle.kq_model.proofs.Changed.{length-changed}
 use Rattle.kq_model.proofs.Histories.{log-push, tables-push}
 use Rattle.kq_model.proofs.Records.{records-push, extents-push, made_in-push, given_by-one}
 
@@ -31,6 +32,11 @@ pub free_batch : (limits : Limits) (l : Log) (n : ℕ) → bar_to_batch limits l
 free_batch limits l n e =
     let tests = two_tests (nat_lt limits.batch n) (nat_lt (length l) limits.commits) TooLong NoCommits e in
     (ltb-false limits.batch n tests.0, ltb-true (length l) limits.commits tests.1)
+
+pub free_columns : (limits : Limits) (l : Log) (old new : ℕ) → bar_to_columns limits l old new ≡ None → (old + new ≤ limits.columns) × (length l < limits.commits)
+free_columns limits l old new e =
+    let tests = two_tests (nat_lt limits.columns (old + new)) (nat_lt (length l) limits.commits) TooWide NoCommits e in
+    (ltb-false limits.columns (old + new) tests.0, ltb-true (length l) limits.commits tests.1)
 
 -- the name is new, and a table and a commit more are within the limits
 pub record IsFree (limits : Limits) (l : Log) (found : Option Table) : Type 0 where
@@ -57,6 +63,7 @@ free_table limits l name schema e = by_test (nat_lt limits.columns (length schem
 -- what a lawful commit adds
 room_left : (limits : Limits) (l : Log) (c : Commit) → LawfulCommit limits l c → length l < limits.commits
 room_left limits l (CreateTable name schema) lawful = (free_table limits l name schema lawful.2).commits
+room_left limits l (AlterMerge table columns) lawful = (free_columns limits l (length lawful.table.schema) (length columns) lawful.within).1
 room_left limits l (Ingest batches failures) lawful = (free_batch limits l (own_rows batches) lawful.1).1
 
 more_tables : (limits : Limits) (l : Log) (c : Commit) → LawfulCommit limits l c → length (tables l) ≤ limits.tables → length (tables (l ++ c ∷ [])) ≤ limits.tables
@@ -64,11 +71,17 @@ more_tables limits l (CreateTable name schema) lawful before =
     let free = (free_table limits l name schema lawful.2).tables in
     let longer = ap length (tables-push l (CreateTable name schema)) ∙ length_push (tables l) _ in
     omega (arith, free, longer)
+more_tables limits l (AlterMerge table columns) lawful before =
+    let same = ap length (tables-push l (AlterMerge table columns)) ∙ length-changed (widened_table (length l + 1) columns) table (tables l) in
+    omega (arith, before, same)
 more_tables limits l (Ingest batches failures) lawful before = let same = ap length (tables-push l (Ingest batches failures)) in omega (arith, before, same)
 
 -- as many tables as before, or more
-no_fewer : (l : Log) (c : Commit) → length (tables l) ≤ length (tables (l ++ c ∷ []))
+pub no_fewer : (l : Log) (c : Commit) → length (tables l) ≤ length (tables (l ++ c ∷ []))
 no_fewer l (CreateTable name schema) = let longer = ap length (tables-push l (CreateTable name schema)) ∙ length_push (tables l) _ in omega (arith, longer)
+no_fewer l (AlterMerge table columns) =
+    let same = ap length (tables-push l (AlterMerge table columns)) ∙ length-changed (widened_table (length l + 1) columns) table (tables l) in
+    omega (arith, same)
 no_fewer l (Ingest batches failures) = let same = ap length (tables-push l (Ingest batches failures)) in omega (arith, same)
 
 own_few : (limits : Limits) (l : Log) (batches : List Batch) (failures : _) → (lawful : LawfulCommit limits l (Ingest batches failures)) → length (lawful.0.own).rows ≤ 1048576
@@ -79,16 +92,19 @@ own_few limits l batches failures lawful =
 
 few_given : (limits : Limits) (l : Log) (t n : ℕ) (c : Commit) → LawfulCommit limits l c → length (given t n c) ≤ 1048576
 few_given limits l t n (CreateTable name schema) lawful = omega arith
+few_given limits l t n (AlterMerge table columns) lawful = omega arith
 few_given limits l t n (Ingest batches failures) lawful =
     let same = ap (λ (bs : List Batch). length (given_by t n 0 bs)) lawful.0.derived.alone in
     omega (arith, same, own_few limits l batches failures lawful, given_by-one t n lawful.0.own)
 
 pub one_made : (limits : Limits) (l : Log) (c : Commit) → LawfulCommit limits l c → made_by c ≤ 1
 one_made limits l (CreateTable name schema) lawful = omega arith
+one_made limits l (AlterMerge table columns) lawful = omega arith
 one_made limits l (Ingest batches failures) lawful = let one = ap length lawful.0.derived.alone in omega (arith, one)
 
 given_past : (limits : Limits) (l : Log) (t n : ℕ) (c : Commit) → LawfulCommit limits l c → length (tables l) ≤ t → given t n c ≡ []
 given_past limits l t n (CreateTable name schema) lawful past = refl
+given_past limits l t n (AlterMerge table columns) lawful past = refl
 given_past limits l t n (Ingest batches failures) lawful past =
     let own = lawful.0.own in
     let within = slice_get_within (tables l) own.table lawful.0.table lawful.0.stands in
@@ -96,6 +112,7 @@ given_past limits l t n (Ingest batches failures) lawful past =
 
 items_past : (limits : Limits) (l : Log) (t n id : ℕ) (c : Commit) → LawfulCommit limits l c → length (tables l) ≤ t → items t n id c ≡ []
 items_past limits l t n id (CreateTable name schema) lawful past = refl
+items_past limits l t n id (AlterMerge table columns) lawful past = refl
 items_past limits l t n id (Ingest batches failures) lawful past =
     let own = lawful.0.own in
     let within = slice_get_within (tables l) own.table lawful.0.table lawful.0.stands in
@@ -112,13 +129,11 @@ AreLawful-induct limits P none one h all = go [] h none all
 pub record IsBounded (limits : Limits) (l : Log) : Type 0 where
   pub few_tables : length (tables l) ≤ limits.tables
   pub few_commits : length l ≤ limits.commits
-  pub few_records : (t : ℕ) → length (records l t) ≤ length l * 1048576
-  pub few_made : made_in l ≤ length l
-  pub no_records : (t : ℕ) → length (tables l) ≤ t → records l t ≡ []
-  pub no_items : (t : ℕ) → length (tables l) ≤ t → extents_from t 0 1 l ≡ []
+  pub few_records : (t : ℕ) → length (records_given l t) ≤ length l * 1048576
+  pub no_records : (t : ℕ) → length (tables l) ≤ t → records_given l t ≡ []
 
 bounded_none : (limits : Limits) → IsBounded limits []
-bounded_none limits = record { few_tables = omega arith; few_commits = omega arith; few_records = λ t. omega arith; few_made = omega arith; no_records = λ t past. refl; no_items = λ t past. refl }
+bounded_none limits = record { few_tables = omega arith; few_commits = omega arith; few_records = λ t. omega arith; no_records = λ t past. refl }
 
 bounded_more : (limits : Limits) (l : Log) (c : Commit) → IsBounded limits l → LawfulCommit limits l c → IsBounded limits (l ++ c ∷ [])
 bounded_more limits l c before lawful =
@@ -128,15 +143,11 @@ bounded_more limits l c before lawful =
       few_tables = more_tables limits l c lawful before.few_tables;
       few_commits = let left = room_left limits l c lawful in omega (arith, left, longer);
       few_records = λ t.
-          let more = ap length (records-push l t c) ∙ length-append (records l t) (given t (length l + 1) c) in
+          let more = ap length (records-push l t c) ∙ length-append (records_given l t) (given t (length l + 1) c) in
           omega (arith, more, before.few_records t, few_given limits l t (length l + 1) c lawful, longer);
-      few_made = let more = made_in-push l c in omega (arith, more, before.few_made, one_made limits l c lawful, longer);
       no_records = λ t past.
           let still : length (tables l) ≤ t = omega (arith, fewer, past) in
           records-push l t c ∙ ap (λ (rs : List Record). rs ++ given t (length l + 1) c) (before.no_records t still) ∙ given_past limits l t (length l + 1) c lawful still;
-      no_items = λ t past.
-          let still : length (tables l) ≤ t = omega (arith, fewer, past) in
-          extents-push l t c ∙ ap (λ (is : List ExtentItem). is ++ items t (length l + 1) (1 + made_in l) c) (before.no_items t still) ∙ items_past limits l t (length l + 1) (1 + made_in l) c lawful still;
     }
 
 event_more : (limits : Limits) (h : History) (e : Event) → IsBounded limits (log h) → Lawful limits h e → IsBounded limits (log (h ++ e ∷ []))
@@ -144,6 +155,45 @@ event_more limits h e before lawful = subst (IsBounded limits) (sym (log-push h 
   where
     by_operation : (o : Operation) → LawfulOperation limits h o → IsBounded limits (log h ++ commits_of o)
     by_operation (operation.Commit c) lawful = bounded_more limits (log h) c before lawful
+    by_operation (operation.Fold view to) lawful = subst (IsBounded limits) (sym (append-nil (log h))) before
+    by_operation (operation.Merge table old new) lawful = subst (IsBounded limits) (sym (append-nil (log h))) before
 
 pub IsBounded-lawful : (limits : Limits) (h : History) → AreLawful limits h → IsBounded limits (log h)
 IsBounded-lawful limits h all = AreLawful-induct limits (λ (g : History). IsBounded limits (log g)) (bounded_none limits) (event_more limits) h all
+
+-- what an event makes
+pub few_made : (limits : Limits) (h : History) → AreLawful limits h → made_in h ≤ length h
+few_made limits h all = AreLawful-induct limits (λ (g : History). made_in g ≤ length g) (omega arith) one_more h all
+  where
+    by_operation : (g : History) (o : Operation) → LawfulOperation limits g o → made_of o ≤ 1
+    by_operation g (operation.Commit c) lawful = one_made limits (log g) c lawful
+    by_operation g (operation.Fold view to) lawful = omega arith
+    by_operation g (operation.Merge table old new) lawful = omega arith
+
+    one_more : (g : History) (e : Event) → made_in g ≤ length g → Lawful limits g e → made_in (g ++ e ∷ []) ≤ length (g ++ e ∷ [])
+    one_more g e before lawful = omega (arith, before, made_in-push g e, by_operation g e.operation lawful.operation, length_push g e)
+
+-- a table that isn't there has no extents
+pub no_items : (limits : Limits) (h : History) → AreLawful limits h → (t : ℕ) → length (tables (log h)) ≤ t → extents h t ≡ []
+no_items limits h all = AreLawful-induct limits HasNone (λ t past. refl) one_more h all
+  where
+    HasNone : History → Type 0
+    HasNone g = (t : ℕ) → length (tables (log g)) ≤ t → extents g t ≡ []
+
+    not_merged : (g : History) (old : List ℕ) (t new : ℕ) → extents g t ≡ [] → IsMerge g t old new → ⊥
+    not_merged g old t new none is =
+        let few = ap (λ (xs : List ExtentItem). length (take 64 (filter is_small_item xs))) none in
+        absurd (omega (arith, is.some, is.within, few))
+
+    by_operation : (g : History) (o : Operation) → LawfulOperation limits g o → HasNone g → (t : ℕ) → length (tables (log g ++ commits_of o)) ≤ t → items_after t (cursor g + 1) (1 + made_in g) o (extents g t) ≡ []
+    by_operation g (operation.Commit c) lawful before t past =
+        let still : length (tables (log g)) ≤ t = omega (arith, no_fewer (log g) c, past) in
+        ap (λ (xs : List ExtentItem). xs ++ items t (cursor g + 1) (1 + made_in g) c) (before t still) ∙ items_past limits (log g) t (cursor g + 1) (1 + made_in g) c lawful still
+    by_operation g (operation.Fold view to) lawful before t past = before t (subst (λ (l : Log). length (tables l) ≤ t) (append-nil (log g)) past)
+    by_operation g (operation.Merge table old new) lawful before t past =
+        let none = before t (subst (λ (l : Log). length (tables l) ≤ t) (append-nil (log g)) past) in
+        ap (λ (b : Bool). cond b (merged old new (extents g t)) (extents g t))
+        (ne_eqb table t (λ same. not_merged g old t new none (subst (λ (n : ℕ). IsMerge g n old new) same lawful))) ∙ none
+
+    one_more : (g : History) (e : Event) → HasNone g → Lawful limits g e → HasNone (g ++ e ∷ [])
+    one_more g e before lawful t past = extents-push g t e ∙ by_operation g e.operation lawful.operation before t (subst (λ (l : Log). length (tables l) ≤ t) (log-push g e) past)

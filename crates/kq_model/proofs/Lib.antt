@@ -1,9 +1,13 @@
 pub mod Bounded
+pub mod Changed
 pub mod Extents
 pub mod Fitting
+pub mod Growing
 pub mod Histories
+pub mod Merging
 pub mod Records
 pub mod Repeats
 pub mod States
 pub mod Tables
 pub mod Tagged
+pub mod Unique

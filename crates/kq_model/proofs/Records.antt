@@ -1,12 +1,13 @@
--- The records and extents of a log with one more commit.
+-- The records of a log with one more commit, and the extents of a history with one more event.
 use Rattle.std.proofs.Common.{◌≡◌, ◌≤◌, ℕ, ◌+◌, Bool, true, false, cond, List, [], ◌∷◌, ◌++◌, length, map, nat_eq, refl, ap, sym, ◌∙◌, subst, append_assoc, append-nil, length-append, arith, add-zero, zero-add}
 use Rattle.kq_value.specs.declared.record.Record.{Record}
 use Rattle.kq_value.specs.declared.value.Value.{Value}
 use Rattle.kq_rows.specs.Numbered.{numbered}
 use Rattle.kq_model.specs.declared.batch.Batch.{Batch}
 use Rattle.kq_model.specs.declared.event.Commit.{Commit}
-use Rattle.kq_model.specs.History.{Log}
-use Rattle.kq_model.specs.Records.{given_by, given, rows_to, records_from, records, ExtentItem, items, made_by, made_in, extents_from}
+use Rattle.kq_model.specs.declared.event.Event.{Event}
+use Rattle.kq_model.specs.History.{History, Log, log, cursor, commits_of}
+use Rattle.kq_model.specs.Records.{given_by, given, rows_to, records_from, records_given, ExtentItem, items_after, made_of, made_in, extents_from, extents}
 
 records_from-push : (t n : ℕ) (l : Log) (c : Commit) → records_from t n (l ++ c ∷ []) ≡ records_from t n l ++ given t (n + length l + 1) c
 records_from-push t n [] c = rw add-zero (append-nil (given t (n + 1) c))
@@ -16,26 +17,28 @@ records_from-push t n (x ∷ l) c =
     ∙ sym (append_assoc (given t (n + 1) x) (records_from t (n + 1) l) _)
 
 -- a commit gives its rows after all that were given before
-pub records-push : (l : Log) (t : ℕ) (c : Commit) → records (l ++ c ∷ []) t ≡ records l t ++ given t (length l + 1) c
+pub records-push : (l : Log) (t : ℕ) (c : Commit) → records_given (l ++ c ∷ []) t ≡ records_given l t ++ given t (length l + 1) c
 records-push l t c = subst (λ (k : ℕ). records_from t 0 (l ++ c ∷ []) ≡ records_from t 0 l ++ given t (k + 1) c) (zero-add (length l)) (records_from-push t 0 l c)
 
-pub made_in-push : (l : Log) (c : Commit) → made_in (l ++ c ∷ []) ≡ made_in l + made_by c
-made_in-push [] c = omega arith
-made_in-push (x ∷ l) c = let more = made_in-push l c in omega (arith, more)
+pub made_in-push : (h : History) (e : Event) → made_in (h ++ e ∷ []) ≡ made_in h + made_of e.operation
+made_in-push [] e = omega arith
+made_in-push (x ∷ h) e = let more = made_in-push h e in omega (arith, more)
 
-extents_from-push : (t n id : ℕ) (l : Log) (c : Commit) → extents_from t n id (l ++ c ∷ []) ≡ extents_from t n id l ++ items t (n + length l + 1) (id + made_in l) c
-extents_from-push t n id [] c = rw (add-zero, add-zero) (append-nil (items t (n + 1) id c))
-extents_from-push t n id (x ∷ l) c =
-    let same : n + 1 + length l + 1 ≡ n + length (x ∷ l) + 1 = omega arith in
-    let next : id + made_by x + made_in l ≡ id + made_in (x ∷ l) = omega arith in
-    ap (λ (es : List ExtentItem). items t (n + 1) id x ++ es)
-    (extents_from-push t (n + 1) (id + made_by x) l c ∙ ap (λ (k : ℕ). extents_from t (n + 1) (id + made_by x) l ++ items t k (id + made_by x + made_in l) c) same
-    ∙ ap (λ (k : ℕ). extents_from t (n + 1) (id + made_by x) l ++ items t (n + length (x ∷ l) + 1) k c) next)
-    ∙ sym (append_assoc (items t (n + 1) id x) (extents_from t (n + 1) (id + made_by x) l) _)
+extents_from-push : (t n id : ℕ) (is : List ExtentItem) (h : History) (e : Event)
+    → extents_from t n id is (h ++ e ∷ []) ≡ items_after t (n + cursor h + 1) (id + made_in h) e.operation (extents_from t n id is h)
+extents_from-push t n id is [] e = rw (add-zero, add-zero) refl
+extents_from-push t n id is (x ∷ h) e =
+    let more = length-append (commits_of x.operation) (log h) in
+    let next : n + length (commits_of x.operation) + cursor h + 1 ≡ n + cursor (x ∷ h) + 1 = omega (arith, more) in
+    let later : id + made_of x.operation + made_in h ≡ id + made_in (x ∷ h) = omega arith in
+    let all = extents_from t (n + length (commits_of x.operation)) (id + made_of x.operation) (items_after t (n + 1) id x.operation is) h in
+    extents_from-push t (n + length (commits_of x.operation)) (id + made_of x.operation) (items_after t (n + 1) id x.operation is) h e
+    ∙ ap (λ (k : ℕ). items_after t k (id + made_of x.operation + made_in h) e.operation all) next
+    ∙ ap (λ (k : ℕ). items_after t (n + cursor (x ∷ h) + 1) k e.operation all) later
 
--- a commit's extents come last, under the next ids
-pub extents-push : (l : Log) (t : ℕ) (c : Commit) → extents_from t 0 1 (l ++ c ∷ []) ≡ extents_from t 0 1 l ++ items t (length l + 1) (1 + made_in l) c
-extents-push l t c = subst (λ (k : ℕ). extents_from t 0 1 (l ++ c ∷ []) ≡ extents_from t 0 1 l ++ items t (k + 1) (1 + made_in l) c) (zero-add (length l)) (extents_from-push t 0 1 l c)
+-- an event's extents come last, under the next ids
+pub extents-push : (h : History) (t : ℕ) (e : Event) → extents (h ++ e ∷ []) t ≡ items_after t (cursor h + 1) (1 + made_in h) e.operation (extents h t)
+extents-push h t e = subst (λ (k : ℕ). extents (h ++ e ∷ []) t ≡ items_after t (k + 1) (1 + made_in h) e.operation (extents h t)) (zero-add (cursor h)) (extents_from-push t 0 1 [] h e)
 
 pub rows_to-push : (t : ℕ) (bs : List Batch) (b : Batch) → rows_to t (bs ++ b ∷ []) ≡ rows_to t bs + cond (nat_eq b.table t) (length b.rows) 0
 rows_to-push t [] b = omega arith

@@ -2,32 +2,38 @@
 use Rattle.std.proofs.Common.{◌≡◌, ◌≢◌, ◌≤◌, ◌⊎◌, inl, inr, refl, ℕ, zero, suc, ◌+◌, Bool, true, false, cond, List, [], ◌∷◌, ◌++◌, length, map, nat_eq, ap, sym, ◌∙◌, append_assoc, append-nil, add-zero, zero-add, arith}
 use Rattle.std.proofs.lemmas.Bool.{eq-eqb, ne_eqb}
 use Rattle.std.proofs.lemmas.Bool.Decides.{eqb_tells}
+use Rattle.std.proofs.lemmas.List.{map-append}
 use Rattle.kq_value.specs.declared.record.Record.{Record}
+use Rattle.kq_value.specs.declared.schema.Field.{Field}
+use Rattle.kq_widened.specs.Widened.{widened_record, widened_records}
+use Rattle.kq_widened.proofs.Widened.{widened_records-twice}
 use Rattle.kq_rows.specs.Numbered.{numbered}
 use Rattle.kq_model.specs.declared.batch.Batch.{Batch}
 use Rattle.kq_model.specs.declared.limits.Limits.{Limits}
 use Rattle.kq_model.specs.declared.table.Table.{Table}
 use Rattle.kq_model.specs.declared.event.Commit.{Commit}
-use Rattle.kq_model.specs.declared.event.Commit.TheVariants.{CreateTable, Ingest}
+use Rattle.kq_model.specs.declared.event.Commit.TheVariants.{CreateTable, AlterMerge, Ingest}
 use Rattle.kq_model.specs.declared.event.Event.{Event}
 use Rattle.kq_model.specs.declared.event.Operation.{Operation}
 use Rattle.kq_model.specs.declared.event.Operation.TheVariants as operation
-use Rattle.kq_model.specs.Edits.{changed, edited_by, edits_of, item_with, new_extents, with_records}
-use Rattle.kq_model.specs.History.{History, Log, log, cursor, tables, commits_of}
+use Rattle.kq_model.specs.Edits.{edited_by, edits_of, item_with, new_extents, with_columns, with_merged, with_records}
+use Rattle.kq_model.specs.Changed.{changed}
+use Rattle.kq_model.specs.History.{History, Log, log, cursor, tables, widened_table, commits_of}
 use Rattle.kq_model.specs.Lawful.{AreLawful}
-use Rattle.kq_model.specs.Records.{records, extents_from, extents, given_by, items_by, item_of, rows_to, made_in, ExtentItem}
+use Rattle.kq_model.specs.Records.{records_given, extents, given_by, items, items_by, items_after, item_of, rows_to, made_in, merged, ExtentItem}
 use Rattle.kq_model.specs.Tables.{TableState, states_from, table_states}
-use Rattle.kq_model.proofs.Bounded.{IsBounded, IsBounded-lawful}
+use Rattle.kq_model.proofs.Bounded.{IsBounded, IsBounded-lawful, no_items}
 use Rattle.kq_model.proofs.Histories.{log-push, tables-push}
 use Rattle.kq_model.proofs.Records.{records-push, extents-push, rows_to-push}
+
+-- a table with the records that it was given, widened to its columns, and with its extents
+abbrev state_with : Table → List Record → List ExtentItem → TableState
+state_with t rs is = record { table = t; records = widened_records t.schema rs; items = is }
 
 -- the tables from a number on, with the records and items that two functions give
 abbrev states_by : ℕ → List Table → (ℕ → List Record) → (ℕ → List ExtentItem) → List TableState
 states_by n [] rs is = []
-states_by n (t ∷ ts) rs is = record { table = t; records = rs n; items = is n } ∷ states_by (n + 1) ts rs is
-
-abbrev state_with : Table → List Record → List ExtentItem → TableState
-state_with t rs is = record { table = t; records = rs; items = is }
+states_by n (t ∷ ts) rs is = state_with t (rs n) (is n) ∷ states_by (n + 1) ts rs is
 
 -- functions that agree from the first number on give the same
 states_same : (n : ℕ) (ts : List Table) (rs qs : ℕ → List Record) (is js : ℕ → List ExtentItem) → ((m : ℕ) → n ≤ m → rs m ≡ qs m) → ((m : ℕ) → n ≤ m → is m ≡ js m) → states_by n ts rs is ≡ states_by n ts qs js
@@ -38,16 +44,16 @@ states_same n (t ∷ ts) rs qs is js same_rs same_is =
     ∙ ap (λ (ss : List TableState). state_with t (qs n) (js n) ∷ ss)
     (states_same (n + 1) ts rs qs is js (λ m past. same_rs m (omega (arith, past))) (λ m past. same_is m (omega (arith, past))))
 
-states_from-by : (n : ℕ) (ts : List Table) (h : History) → states_from n ts h ≡ states_by n ts (records (log h)) (extents h)
+states_from-by : (n : ℕ) (ts : List Table) (h : History) → states_from n ts h ≡ states_by n ts (records_given (log h)) (extents h)
 states_from-by n [] h = refl
-states_from-by n (t ∷ ts) h = ap (λ (ss : List TableState). state_with t (records (log h) n) (extents h n) ∷ ss) (states_from-by (n + 1) ts h)
+states_from-by n (t ∷ ts) h = ap (λ (ss : List TableState). state_with t (records_given (log h) n) (extents h n) ∷ ss) (states_from-by (n + 1) ts h)
 
-states_by-push : (n : ℕ) (ts : List Table) (t : Table) (rs : ℕ → List Record) (is : ℕ → List ExtentItem) → states_by n (ts ++ t ∷ []) rs is ≡ states_by n ts rs is ++ state_with t (rs (n + length ts)) (is (n + length ts)) ∷ []
-states_by-push n [] t rs is = ap (λ (k : ℕ). state_with t (rs k) (is k) ∷ []) (sym (add-zero n))
-states_by-push n (x ∷ ts) t rs is =
+states_by-last : (n : ℕ) (ts : List Table) (t : Table) (rs : ℕ → List Record) (is : ℕ → List ExtentItem) → states_by n (ts ++ t ∷ []) rs is ≡ states_by n ts rs is ++ state_with t (rs (n + length ts)) (is (n + length ts)) ∷ []
+states_by-last n [] t rs is = ap (λ (k : ℕ). state_with t (rs k) (is k) ∷ []) (sym (add-zero n))
+states_by-last n (x ∷ ts) t rs is =
     let same : n + 1 + length ts ≡ n + length (x ∷ ts) = omega arith in
     ap (λ (ss : List TableState). state_with x (rs n) (is n) ∷ ss)
-    (states_by-push (n + 1) ts t rs is ∙ ap (λ (k : ℕ). states_by (n + 1) ts rs is ++ state_with t (rs k) (is k) ∷ []) same)
+    (states_by-last (n + 1) ts t rs is ∙ ap (λ (k : ℕ). states_by (n + 1) ts rs is ++ state_with t (rs k) (is k) ∷ []) same)
 
 -- what functions give when one table has more
 abbrev more_records : ℕ → List Record → (ℕ → List Record) → ℕ → List Record
@@ -64,7 +70,9 @@ one_extent n zero j (t ∷ ts) rs is id new tags at =
     let item = item_with id new tags in
     let here : nat_eq j n ≡ true = eq-eqb j n (omega (arith, at)) in
     let others : (m : ℕ) → n + 1 ≤ m → nat_eq j m ≡ false = λ m past. ne_eqb j m (λ same. absurd (omega (arith, at, past, same))) in
-    ap (λ (b : Bool). state_with t (rs n ++ cond b new []) (is n ++ cond b (item ∷ []) []) ∷ states_by (n + 1) ts rs is) (sym here)
+    let given : TableState = state_with t (rs n) (is n) in
+    ap (λ (x : List Record). (record given { records = x; items = is n ++ item ∷ [] }) ∷ states_by (n + 1) ts rs is) (sym (map-append (widened_record t.schema) (rs n) new))
+    ∙ ap (λ (b : Bool). state_with t (rs n ++ cond b new []) (is n ++ cond b (item ∷ []) []) ∷ states_by (n + 1) ts rs is) (sym here)
     ∙ ap (λ (ss : List TableState). state_with t (more_records j new rs n) (more_items j item is n) ∷ ss)
     (states_same (n + 1) ts rs (more_records j new rs) is (more_items j item is)
     (λ m past. sym (append-nil (rs m)) ∙ ap (λ (b : Bool). rs m ++ cond b new []) (sym (others m past)))
@@ -127,46 +135,100 @@ all_extents ts rs is cursor id before (b ∷ bs) =
     (λ m. more_items b.table item is m ++ items_by m cursor (rows_to m (before ++ b ∷ [])) (id + 1) bs) (λ m. is m ++ items_by m cursor (rows_to m before) id (b ∷ bs))
     (λ m past. one_given (rs m) m cursor before b bs) (λ m past. one_item (is m) m cursor id before b bs)
 
--- the extents of a table by the log alone
-abbrev items_at : Log → ℕ → List ExtentItem
-items_at l t = extents_from t 0 1 l
+abbrev states_at : History → List TableState
+states_at h = states_by 0 (tables (log h)) (records_given (log h)) (extents h)
 
-abbrev states_at : Log → List TableState
-states_at l = states_by 0 (tables l) (records l) (items_at l)
+states_of : (h : History) → table_states h ≡ states_at h
+states_of h = states_from-by 0 (tables (log h)) h
 
-commit_more : (limits : Limits) (l : Log) (c : Commit) → IsBounded limits l → states_at (l ++ c ∷ []) ≡ edited_by (states_at l) (edits_of (length l + 1) (1 + made_in l) c)
-commit_more limits l (CreateTable name schema) bounded =
+-- further columns of the table of a number
+widened_states : (n k at : ℕ) (columns : List Field) (ts : List Table) (rs : ℕ → List Record) (is : ℕ → List ExtentItem)
+    → states_by n (changed (widened_table at columns) k ts) rs is ≡ changed (with_columns at columns) k (states_by n ts rs is)
+widened_states n k at columns [] rs is = refl
+widened_states n zero at columns (t ∷ ts) rs is =
+    let state : TableState = with_columns at columns (state_with t (rs n) (is n)) in
+    ap (λ (x : List Record). (record state { records = x }) ∷ states_by (n + 1) ts rs is) (sym (widened_records-twice t.schema columns (rs n)))
+widened_states n (suc k) at columns (t ∷ ts) rs is = ap (λ (ss : List TableState). state_with t (rs n) (is n) ∷ ss) (widened_states (n + 1) k at columns ts rs is)
+
+-- the states by the extents before an event, and the log after it
+states_by-push : (h : History) (e : Event) (l : Log) → log (h ++ e ∷ []) ≡ l → states_at (h ++ e ∷ []) ≡ states_by 0 (tables l) (records_given l) (λ m. items_after m (cursor h + 1) (1 + made_in h) e.operation (extents h m))
+states_by-push h e l is =
+    ap (λ (k : Log). states_by 0 (tables k) (records_given k) (extents (h ++ e ∷ []))) is
+    ∙ states_same 0 (tables l) (records_given l) (records_given l) (extents (h ++ e ∷ [])) (λ m. items_after m (cursor h + 1) (1 + made_in h) e.operation (extents h m)) (λ m some. refl) (λ m some. extents-push h m e)
+
+commit_more : (limits : Limits) (h : History) (c : Commit) → AreLawful limits h
+    → states_by 0 (tables (log h ++ c ∷ [])) (records_given (log h ++ c ∷ [])) (λ m. extents h m ++ items m (cursor h + 1) (1 + made_in h) c) ≡ edited_by (states_at h) (edits_of (cursor h + 1) (1 + made_in h) c)
+commit_more limits h (CreateTable name schema) lawful =
+    let l = log h in
     let c = CreateTable name schema in
-    let new : Table = record { name = name; schema = schema; made = length l + 1 } in
+    let new : Table = record { name = name; schema = schema; made = length l + 1; widened = length l + 1 } in
     let n = 0 + length (tables l) in
     let past : length (tables l) ≤ n = omega arith in
-    let same_rs : (m : ℕ) → records (l ++ c ∷ []) m ≡ records l m = λ m. records-push l m c ∙ append-nil (records l m) in
-    let same_is : (m : ℕ) → items_at (l ++ c ∷ []) m ≡ items_at l m = λ m. extents-push l m c ∙ append-nil (items_at l m) in
-    ap (λ (ts : List Table). states_by 0 ts (records (l ++ c ∷ [])) (items_at (l ++ c ∷ []))) (tables-push l c)
-    ∙ states_by-push 0 (tables l) new (records (l ++ c ∷ [])) (items_at (l ++ c ∷ []))
-    ∙ ap (λ (ss : List TableState). ss ++ state_with new (records (l ++ c ∷ []) n) (items_at (l ++ c ∷ []) n) ∷ [])
-    (states_same 0 (tables l) (records (l ++ c ∷ [])) (records l) (items_at (l ++ c ∷ [])) (items_at l) (λ m some. same_rs m) (λ m some. same_is m))
-    ∙ ap (λ (x : List Record). states_at l ++ state_with new x (items_at (l ++ c ∷ []) n) ∷ []) (same_rs n ∙ bounded.no_records n past)
-    ∙ ap (λ (x : List ExtentItem). states_at l ++ state_with new [] x ∷ []) (same_is n ∙ bounded.no_items n past)
-commit_more limits l (Ingest batches failures) bounded =
+    let is : ℕ → List ExtentItem = λ m. extents h m ++ [] in
+    let same_rs : (m : ℕ) → records_given (l ++ c ∷ []) m ≡ records_given l m = λ m. records-push l m c ∙ append-nil (records_given l m) in
+    let same_is : (m : ℕ) → is m ≡ extents h m = λ m. append-nil (extents h m) in
+    ap (λ (ts : List Table). states_by 0 ts (records_given (l ++ c ∷ [])) is) (tables-push l c)
+    ∙ states_by-last 0 (tables l) new (records_given (l ++ c ∷ [])) is
+    ∙ ap (λ (ss : List TableState). ss ++ state_with new (records_given (l ++ c ∷ []) n) (is n) ∷ [])
+    (states_same 0 (tables l) (records_given (l ++ c ∷ [])) (records_given l) is (extents h) (λ m some. same_rs m) (λ m some. same_is m))
+    ∙ ap (λ (x : List Record). states_at h ++ state_with new x (is n) ∷ []) (same_rs n ∙ (IsBounded-lawful limits h lawful).no_records n past)
+    ∙ ap (λ (x : List ExtentItem). states_at h ++ state_with new [] x ∷ []) (same_is n ∙ no_items limits h lawful n past)
+commit_more limits h (AlterMerge table columns) lawful =
+    let l = log h in
+    let c = AlterMerge table columns in
+    ap (λ (ts : List Table). states_by 0 ts (records_given (l ++ c ∷ [])) (λ m. extents h m ++ [])) (tables-push l c)
+    ∙ states_same 0 (changed (widened_table (length l + 1) columns) table (tables l)) (records_given (l ++ c ∷ [])) (records_given l) (λ m. extents h m ++ []) (extents h)
+    (λ m some. records-push l m c ∙ append-nil (records_given l m)) (λ m some. append-nil (extents h m))
+    ∙ widened_states 0 table (length l + 1) columns (tables l) (records_given l) (extents h)
+commit_more limits h (Ingest batches failures) lawful =
+    let l = log h in
     let c = Ingest batches failures in
-    ap (λ (ts : List Table). states_by 0 ts (records (l ++ c ∷ [])) (items_at (l ++ c ∷ []))) (tables-push l c)
+    ap (λ (ts : List Table). states_by 0 ts (records_given (l ++ c ∷ [])) (λ m. extents h m ++ items m (cursor h + 1) (1 + made_in h) c)) (tables-push l c)
     ∙ states_same 0 (tables l)
-    (records (l ++ c ∷ [])) (λ m. records l m ++ given_by m (length l + 1) 0 batches)
-    (items_at (l ++ c ∷ [])) (λ m. items_at l m ++ items_by m (length l + 1) 0 (1 + made_in l) batches)
-    (λ m some. records-push l m c) (λ m some. extents-push l m c)
-    ∙ sym (all_extents (tables l) (records l) (items_at l) (length l + 1) (1 + made_in l) [] batches)
-
-states_of : (h : History) → table_states h ≡ states_at (log h)
-states_of h = states_from-by 0 (tables (log h)) h
+    (records_given (l ++ c ∷ [])) (λ m. records_given l m ++ given_by m (length l + 1) 0 batches)
+    (λ m. extents h m ++ items m (cursor h + 1) (1 + made_in h) c) (λ m. extents h m ++ items_by m (length l + 1) 0 (1 + made_in h) batches)
+    (λ m some. records-push l m c) (λ m some. refl)
+    ∙ sym (all_extents (tables l) (records_given l) (extents h) (length l + 1) (1 + made_in h) [] batches)
 
 -- the states after a lawful history and a commit are those before, edited by the commit's edits
 pub table_states-push : (limits : Limits) (h : History) (e : Event) (c : Commit) → AreLawful limits h → e.operation ≡ operation.Commit c
-    → table_states (h ++ e ∷ []) ≡ edited_by (table_states h) (edits_of (cursor h + 1) (1 + made_in (log h)) c)
+    → table_states (h ++ e ∷ []) ≡ edited_by (table_states h) (edits_of (cursor h + 1) (1 + made_in h) c)
 table_states-push limits h e c lawful is =
     let logged : log (h ++ e ∷ []) ≡ log h ++ c ∷ [] = log-push h e ∙ ap (λ (o : Operation). log h ++ commits_of o) is in
-    states_of (h ++ e ∷ []) ∙ ap states_at logged ∙ commit_more limits (log h) c (IsBounded-lawful limits h lawful)
-    ∙ ap (λ (ss : List TableState). edited_by ss (edits_of (cursor h + 1) (1 + made_in (log h)) c)) (sym (states_of h))
+    let l = log h ++ c ∷ [] in
+    states_of (h ++ e ∷ []) ∙ states_by-push h e l logged
+    ∙ ap (λ (o : Operation). states_by 0 (tables l) (records_given l) (λ m. items_after m (cursor h + 1) (1 + made_in h) o (extents h m))) is
+    ∙ commit_more limits h c lawful
+    ∙ ap (λ (ss : List TableState). edited_by ss (edits_of (cursor h + 1) (1 + made_in h) c)) (sym (states_of h))
+
+-- one table's extents merged
+abbrev one_merged : ℕ → List ℕ → ℕ → (ℕ → List ExtentItem) → ℕ → List ExtentItem
+one_merged k old new is m = cond (nat_eq k m) (merged old new (is m)) (is m)
+
+merged_at : (n k j : ℕ) (ts : List Table) (rs : ℕ → List Record) (is : ℕ → List ExtentItem) (old : List ℕ) (new : ℕ) → j ≡ n + k
+    → changed (with_merged old new) k (states_by n ts rs is) ≡ states_by n ts rs (one_merged j old new is)
+merged_at n k j [] rs is old new at = refl
+merged_at n zero j (t ∷ ts) rs is old new at =
+    let here : nat_eq j n ≡ true = eq-eqb j n (omega (arith, at)) in
+    let others : (m : ℕ) → n + 1 ≤ m → nat_eq j m ≡ false = λ m past. ne_eqb j m (λ same. absurd (omega (arith, at, past, same))) in
+    ap (λ (b : Bool). state_with t (rs n) (cond b (merged old new (is n)) (is n)) ∷ states_by (n + 1) ts rs is) (sym here)
+    ∙ ap (λ (ss : List TableState). state_with t (rs n) (one_merged j old new is n) ∷ ss)
+    (states_same (n + 1) ts rs rs is (one_merged j old new is) (λ m past. refl) (λ m past. ap (λ (b : Bool). cond b (merged old new (is m)) (is m)) (sym (others m past))))
+merged_at n (suc k) j (t ∷ ts) rs is old new at =
+    let there : nat_eq j n ≡ false = ne_eqb j n (λ same. absurd (omega (arith, at, same))) in
+    ap (λ (ss : List TableState). state_with t (rs n) (is n) ∷ ss) (merged_at (n + 1) k j ts rs is old new (omega (arith, at)))
+    ∙ ap (λ (b : Bool). state_with t (rs n) (cond b (merged old new (is n)) (is n)) ∷ states_by (n + 1) ts rs (one_merged j old new is)) (sym there)
+
+-- the states after a merge are those before, with one table's extents merged
+pub table_states-merge : (h : History) (e : Event) (table : ℕ) (old : List ℕ) (new : ℕ) → e.operation ≡ operation.Merge table old new
+    → table_states (h ++ e ∷ []) ≡ changed (with_merged old new) table (table_states h)
+table_states-merge h e table old new is =
+    let logged : log (h ++ e ∷ []) ≡ log h = log-push h e ∙ ap (λ (o : Operation). log h ++ commits_of o) is ∙ append-nil (log h) in
+    let l = log h in
+    states_of (h ++ e ∷ []) ∙ states_by-push h e l logged
+    ∙ ap (λ (o : Operation). states_by 0 (tables l) (records_given l) (λ m. items_after m (cursor h + 1) (1 + made_in h) o (extents h m))) is
+    ∙ sym (merged_at 0 table table (tables l) (records_given l) (extents h) old new (sym (zero-add table)))
+    ∙ ap (changed (with_merged old new) table) (sym (states_of h))
 
 -- the tables of the states are the history's
 states_by-tables : (n : ℕ) (ts : List Table) (h : History) → map (λ (s : TableState). s.table) (states_from n ts h) ≡ ts

@@ -1,27 +1,25 @@
 -- The smallest steps that commits are made of, and what each leaves of the tables.
-use Rattle.std.specs.Prelude.{◌≡◌, ◌<◌, ◌^◌, ℕ, zero, suc, ◌+◌, List, [], ◌∷◌, ◌++◌, length, map, All, Some, None}
+use Rattle.std.specs.Prelude.{◌≡◌, ◌<◌, ◌^◌, ℕ, ◌+◌, List, [], ◌∷◌, ◌++◌, length, map, All, Some, None}
 use Rattle.std.specs.List.{slice_get}
 use Rattle.kq_value.specs.declared.record.Record.{Record}
+use Rattle.kq_value.specs.declared.schema.Field.{Field}
 use Rattle.kq_value.specs.Typed.{HasTypes}
 use Rattle.kq_rows.specs.Numbered.{numbered}
 use Rattle.kq_model.specs.declared.batch.Batch.{Batch}
 use Rattle.kq_model.specs.declared.event.Commit.{Commit}
-use Rattle.kq_model.specs.declared.event.Commit.TheVariants.{CreateTable, Ingest}
+use Rattle.kq_model.specs.declared.event.Commit.TheVariants.{CreateTable, AlterMerge, Ingest}
 use Rattle.kq_model.specs.declared.table.Table.{Table}
-use Rattle.kq_model.specs.History.{table_named}
-use Rattle.kq_model.specs.Records.{ExtentItem, ids_of, rows_to}
+pub use Rattle.kq_model.specs.Changed.{changed}
+use Rattle.kq_model.specs.History.{table_named, widened_table}
+use Rattle.kq_model.specs.Records.{ExtentItem, ids_of, merged, rows_to}
 use Rattle.kq_model.specs.Tables.{TableState}
+use Rattle.kq_widened.specs.Widened.{widened_records}
 
--- a table put last, or an extent of a table put last, with its id, its records and its tags
+-- a table put last, further columns of a table at a cursor, or an extent of a table put last, with its id, its records and its tags
 pub data Edit : Type 0 where
   NewTable : Table → Edit
+  NewColumns : ℕ → ℕ → List Field → Edit
   NewExtent : ℕ → ℕ → List Record → List (List ℕ) → Edit
-
--- one item of a list changed, by its place; past the end nothing is
-abbrev pub changed : {X : Type 0} → (X → X) → ℕ → List X → List X
-changed f n [] = []
-changed f zero (x ∷ xs) = f x ∷ xs
-changed f (suc n) (x ∷ xs) = x ∷ changed f n xs
 
 -- a table before it has records
 abbrev pub empty_state : Table → TableState
@@ -30,12 +28,17 @@ empty_state table = record { table = table; records = []; items = [] }
 abbrev pub item_with : ℕ → List Record → List (List ℕ) → ExtentItem
 item_with id records tags = record { id = id; records = ids_of records; tags = tags }
 
--- a table with an extent more
+-- a table with further columns, to which its records are widened
+abbrev pub with_columns : ℕ → List Field → TableState → TableState
+with_columns cursor columns t = record t { table = widened_table cursor columns t.table; records = widened_records (t.table.schema ++ columns) t.records }
+
+-- a table with an extent more, whose records are widened to the table's columns
 abbrev pub with_records : ℕ → List Record → List (List ℕ) → TableState → TableState
-with_records id records tags t = record t { records = t.records ++ records; items = t.items ++ item_with id records tags ∷ [] }
+with_records id records tags t = record t { records = t.records ++ widened_records t.table.schema records; items = t.items ++ item_with id records tags ∷ [] }
 
 abbrev pub edited : List TableState → Edit → List TableState
 edited ts (NewTable table) = ts ++ empty_state table ∷ []
+edited ts (NewColumns n cursor columns) = changed (with_columns cursor columns) n ts
 edited ts (NewExtent n id records tags) = changed (with_records id records tags) n ts
 
 -- one edit after another
@@ -50,20 +53,27 @@ new_extents cursor id before (b ∷ bs) = NewExtent b.table id (numbered cursor 
 
 -- the edits of a commit, by its cursor and the id of the next extent
 abbrev pub edits_of : ℕ → ℕ → Commit → List Edit
-edits_of cursor id (CreateTable name schema) = NewTable (record { name = name; schema = schema; made = cursor }) ∷ []
+edits_of cursor id (CreateTable name schema) = NewTable (record { name = name; schema = schema; made = cursor; widened = cursor }) ∷ []
+edits_of cursor id (AlterMerge table columns) = NewColumns table cursor columns ∷ []
 edits_of cursor id (Ingest batches failures) = new_extents cursor id [] batches
 
--- a new table's name is new, and its number is one of 32 bits; an extent goes into a table that stands, and its rows have the table's types
+-- a new table's name is new, and its number is one of 32 bits; columns and an extent go to a table that stands, and the extent's rows have the table's types
 abbrev pub Fits : List Table → Edit → Type 0
 Fits ts (NewTable table) = (table_named table.name ts ≡ None) × (length ts < 2 ^ 32)
+Fits ts (NewColumns n cursor columns) = n < length ts
 Fits ts (NewExtent n id records tags) = (n < length ts) × ((t : Table) → slice_get ts n ≡ Some t → All (HasTypes t.schema) (map (λ (r : Record). r.row) records))
 
 -- the tables after an edit
 abbrev pub tables_after : List Table → Edit → List Table
 tables_after ts (NewTable table) = ts ++ table ∷ []
+tables_after ts (NewColumns n cursor columns) = changed (widened_table cursor columns) n ts
 tables_after ts (NewExtent n id records tags) = ts
 
 -- each of the edits fits the tables after those before it
 abbrev pub FitAll : List Table → List Edit → Type 0
 FitAll ts [] = Unit {0}
 FitAll ts (e ∷ es) = Fits ts e × FitAll (tables_after ts e) es
+
+-- a table after a merge of its extents: its records stay
+abbrev pub with_merged : List ℕ → ℕ → TableState → TableState
+with_merged old new t = record t { items = merged old new t.items }

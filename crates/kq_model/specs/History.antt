@@ -2,13 +2,15 @@
 use Rattle.std.specs.Prelude.{ℕ, ◌+◌, List, [], ◌∷◌, ◌++◌, length, map, Option, Some, None, nat_eq, if◌then◌else◌}
 use Rattle.std.specs.List.{find, flat_map}
 use Rattle.std.specs.Cmp.Lexicographic.{pointwise}
+use Rattle.kq_value.specs.declared.schema.Field.{Field}
 use Rattle.kq_model.specs.declared.table.Table.{Table}
 use Rattle.kq_model.specs.declared.event.By.{By}
 use Rattle.kq_model.specs.declared.event.Commit.{Commit}
-use Rattle.kq_model.specs.declared.event.Commit.TheVariants.{CreateTable, Ingest}
+use Rattle.kq_model.specs.declared.event.Commit.TheVariants.{CreateTable, AlterMerge, Ingest}
 use Rattle.kq_model.specs.declared.event.Operation.{Operation}
 use Rattle.kq_model.specs.declared.event.Operation.TheVariants as operation
 use Rattle.kq_model.specs.declared.event.Event.{Event}
+use Rattle.kq_model.specs.Changed.{changed}
 
 abbrev pub History : Type 0
 History = List Event
@@ -19,6 +21,8 @@ Log = List Commit
 -- the commits of an operation: one or none
 abbrev pub commits_of : Operation → Log
 commits_of (operation.Commit c) = c ∷ []
+commits_of (operation.Fold view to) = []
+commits_of (operation.Merge table old new) = []
 
 -- the commits, in order
 abbrev pub log : History → Log
@@ -28,9 +32,14 @@ log = flat_map (λ (e : Event). commits_of e.operation)
 abbrev pub cursor : History → ℕ
 cursor h = length (log h)
 
+-- a table with further columns behind its own, widened at a cursor
+abbrev pub widened_table : ℕ → List Field → Table → Table
+widened_table at columns t = record t { schema = t.schema ++ columns; widened = at }
+
 -- the tables after one more commit, whose cursor is given
 abbrev pub tables_with : ℕ → Commit → List Table → List Table
-tables_with at (CreateTable name schema) tables = tables ++ record { name = name; schema = schema; made = at } ∷ []
+tables_with at (CreateTable name schema) tables = tables ++ record { name = name; schema = schema; made = at; widened = at } ∷ []
+tables_with at (AlterMerge table columns) tables = changed (widened_table at columns) table tables
 tables_with at (Ingest batches failures) tables = tables
 
 abbrev pub tables_from : ℕ → List Table → Log → List Table
@@ -74,3 +83,7 @@ commits_from n (e ∷ h) = commit_at e (n + 1) ++ commits_from (n + 1) h
 -- the commits with their places and marks, in order
 abbrev pub commits_at : History → List CommitAt
 commits_at = commits_from 0
+
+-- the number of views: none can be made yet
+abbrev pub view_count : Log → ℕ
+view_count l = 0

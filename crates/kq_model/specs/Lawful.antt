@@ -1,5 +1,5 @@
 -- What may stand in a journal.
-use Rattle.std.specs.Prelude.{◌≡◌, ◌<◌, ℕ, List, [], ◌∷◌, ◌++◌, length, Option, Some, None, All, if◌then◌else◌, nat_lt}
+use Rattle.std.specs.Prelude.{◌≡◌, ◌<◌, ◌≤◌, ◌+◌, ℕ, false, take, List, [], ◌∷◌, ◌++◌, length, Option, Some, None, All, if◌then◌else◌, nat_lt}
 use Rattle.std.specs.List.{slice_get}
 use Rattle.kq_value.specs.declared.schema.Field.{Field}
 use Rattle.kq_value.specs.Typed.{HasTypes}
@@ -8,13 +8,14 @@ use Rattle.kq_model.specs.declared.table.Table.{Table}
 use Rattle.kq_model.specs.declared.event.Commit.{Commit}
 use Rattle.kq_model.specs.declared.batch.Batch.{Batch}
 use Rattle.kq_model.specs.declared.batch.Failure.{Failure}
-use Rattle.kq_model.specs.declared.event.Commit.TheVariants.{CreateTable, Ingest}
+use Rattle.kq_model.specs.declared.event.Commit.TheVariants.{CreateTable, AlterMerge, Ingest}
 use Rattle.kq_model.specs.declared.event.Operation.{Operation}
 use Rattle.kq_model.specs.declared.event.Operation.TheVariants as operation
 use Rattle.kq_model.specs.declared.event.Event.{Event}
 use Rattle.kq_model.specs.Derived.{IsDerived}
-use Rattle.kq_model.specs.History.{History, Log, log, tables, table_named}
-use Rattle.kq_model.specs.Names.{repeat_of, names_of}
+use Rattle.kq_model.specs.History.{History, Log, log, tables, table_named, view_count}
+use Rattle.kq_model.specs.Names.{is_among, repeat_of, names_of}
+use Rattle.kq_model.specs.Records.{picked, item_ids, made_in}
 
 -- why a table of this name and these columns, or a batch of so many rows, can't be made
 pub data Bar : Type 0 where
@@ -32,9 +33,22 @@ bar_to_name limits l None = if nat_lt (length (tables l)) limits.tables then (if
 abbrev pub bar_to_table : Limits → Log → List ℕ → List Field → Option Bar
 bar_to_table limits l name schema = if nat_lt limits.columns (length schema) then Some TooWide else bar_to_name limits l (table_named name (tables l))
 
+-- the first bar to so many further columns of a table with so many after this log, in the order of the refusals
+abbrev pub bar_to_columns : Limits → Log → ℕ → ℕ → Option Bar
+bar_to_columns limits l old new = if nat_lt limits.columns (old + new) then Some TooWide else if nat_lt (length l) limits.commits then None else Some NoCommits
+
 -- the first bar to a batch of so many rows after this log, in the order of the refusals
 abbrev pub bar_to_batch : Limits → Log → ℕ → Option Bar
 bar_to_batch limits l rows = if nat_lt limits.batch rows then Some TooLong else if nat_lt (length l) limits.commits then None else Some NoCommits
+
+-- columns of which a table has none by name, one or more and no two of one name, within the limits
+pub record IsWidening (limits : Limits) (l : Log) (number : ℕ) (columns : List Field) : Type 0 where
+  pub table : Table
+  pub stands : slice_get (tables l) number ≡ Some table
+  pub some : 0 < length columns
+  pub different : repeat_of (names_of columns) ≡ None
+  pub lacking : All (λ (f : Field). is_among f.name (names_of table.schema) ≡ false) columns
+  pub within : bar_to_columns limits l (length table.schema) (length columns) ≡ None
 
 -- an ingestion's own batch goes into a table and has rows of its types, and these are the batch's whole cascade
 pub record IsIngestion (l : Log) (batches : List Batch) (failures : List Failure) : Type 0 where
@@ -51,10 +65,22 @@ own_rows (own ∷ bs) = length own.rows
 
 abbrev pub LawfulCommit : Limits → Log → Commit → Type 0
 LawfulCommit limits l (CreateTable name schema) = (0 < length schema) × (repeat_of (names_of schema) ≡ None) × (bar_to_table limits l name schema ≡ None)
+LawfulCommit limits l (AlterMerge table columns) = IsWidening limits l table columns
 LawfulCommit limits l (Ingest batches failures) = IsIngestion l batches failures × (bar_to_batch limits l (own_rows batches) ≡ None)
 
+-- a merge's old extents are the first of those that are picked, two or more, and its new id is the next
+pub record IsMerge (h : History) (t : ℕ) (old : List ℕ) (new : ℕ) : Type 0 where
+  pub count : ℕ
+  pub some : 2 ≤ count
+  pub within : count ≤ length (picked h t)
+  pub first : old ≡ item_ids (take count (picked h t))
+  pub next : new ≡ 1 + made_in h
+
+-- a fold's view stands
 abbrev pub LawfulOperation : Limits → History → Operation → Type 0
 LawfulOperation limits h (operation.Commit c) = LawfulCommit limits (log h) c
+LawfulOperation limits h (operation.Fold view to) = view < view_count (log h)
+LawfulOperation limits h (operation.Merge table old new) = IsMerge h table old new
 
 -- the event may follow these
 pub record Lawful (limits : Limits) (h : History) (e : Event) : Type 0 where

@@ -1,3 +1,4 @@
+pub mod Changed
 pub mod Derived
 pub mod Edits
 pub mod History

@@ -1,13 +1,21 @@
 -- The records that a log gives a table, and the extents that a history leaves them in.
-use Rattle.std.specs.Prelude.{ℕ, ◌+◌, List, [], ◌∷◌, ◌++◌, length, map, nat_eq, if◌then◌else◌}
+use Rattle.std.specs.Prelude.{ℕ, ◌+◌, Bool, not, List, [], ◌∷◌, ◌++◌, length, map, take, nat_eq, nat_lt, if◌then◌else◌, option_map, unwrap_or}
+use Rattle.std.specs.List.{filter, flat_map, list_any, slice_get}
+use Rattle.std.specs.Str.{bytes_eq}
 use Rattle.kq_value.specs.declared.record_id.RecordId.{RecordId}
+use Rattle.kq_value.specs.declared.schema.Field.{Field}
 use Rattle.kq_value.specs.declared.value.Value.{Value}
 use Rattle.kq_value.specs.declared.record.Record.{Record}
 use Rattle.kq_rows.specs.Numbered.{numbered}
 use Rattle.kq_model.specs.declared.batch.Batch.{Batch}
 use Rattle.kq_model.specs.declared.event.Commit.{Commit}
-use Rattle.kq_model.specs.declared.event.Commit.TheVariants.{CreateTable, Ingest}
-use Rattle.kq_model.specs.History.{History, Log, log}
+use Rattle.kq_model.specs.declared.event.Commit.TheVariants.{CreateTable, AlterMerge, Ingest}
+use Rattle.kq_model.specs.declared.event.Operation.{Operation}
+use Rattle.kq_model.specs.declared.event.Operation.TheVariants as operation
+use Rattle.kq_model.specs.declared.event.Event.{Event}
+use Rattle.kq_model.specs.declared.table.Table.{Table}
+use Rattle.kq_model.specs.History.{History, Log, log, commits_of, tables}
+use Rattle.kq_widened.specs.Widened.{widened_records}
 
 -- the batches of one commit give a table their rows, numbered through from an ordinal on
 abbrev pub given_by : ℕ → ℕ → ℕ → List Batch → List Record
@@ -24,15 +32,24 @@ rows_to t (b ∷ bs) = (if nat_eq b.table t then length b.rows else 0) + rows_to
 -- the records that a commit at a cursor gives a table
 abbrev pub given : ℕ → ℕ → Commit → List Record
 given t cursor (CreateTable name schema) = []
+given t cursor (AlterMerge table columns) = []
 given t cursor (Ingest batches failures) = given_by t cursor 0 batches
 
 abbrev pub records_from : ℕ → ℕ → Log → List Record
 records_from t n [] = []
 records_from t n (c ∷ l) = given t (n + 1) c ++ records_from t (n + 1) l
 
--- the records of a table by its number, in the order of commits and batches
+-- the records that the commits give a table by its number, in the order of commits and batches, as they were given
+abbrev pub records_given : Log → ℕ → List Record
+records_given l t = records_from t 0 l
+
+-- the columns of a table by its number after the log; a number that no table has has none
+abbrev pub schema_of : Log → ℕ → List Field
+schema_of l t = unwrap_or (option_map (λ (x : Table). x.schema) (slice_get (tables l) t)) []
+
+-- the records of a table by its number, in the order of commits and batches, each widened to the table's columns
 abbrev pub records : Log → ℕ → List Record
-records l t = records_from t 0 l
+records l t = widened_records (schema_of l t) (records_given l t)
 
 -- the rows of a table in the world of a history
 abbrev pub rows_in : History → ℕ → List (List Value)
@@ -43,6 +60,13 @@ pub record ExtentItem : Type 0 where
   pub id : ℕ
   pub records : List RecordId
   pub tags : List (List ℕ)
+
+-- an extent of fewer records is small
+abbrev pub is_small_item : ExtentItem → Bool
+is_small_item i = nat_lt (length i.records) 4096
+
+abbrev pub item_ids : List ExtentItem → List ℕ
+item_ids = map (λ (i : ExtentItem). i.id)
 
 abbrev pub ids_of : List Record → List RecordId
 ids_of = map (λ (r : Record). r.id)
@@ -59,21 +83,65 @@ items_by t cursor ordinal id (b ∷ bs) =
 
 abbrev pub items : ℕ → ℕ → ℕ → Commit → List ExtentItem
 items t cursor id (CreateTable name schema) = []
+items t cursor id (AlterMerge table columns) = []
 items t cursor id (Ingest batches failures) = items_by t cursor 0 id batches
+
+-- each text once, in the order of first appearance
+abbrev pub each_once : List (List ℕ) → List (List ℕ)
+each_once [] = []
+each_once (text ∷ texts) = text ∷ filter (λ other. not (bytes_eq text other)) (each_once texts)
+
+-- one extent with the record ids of some, in order, and the union of their tags
+abbrev pub united : ℕ → List ExtentItem → ExtentItem
+united id is = record {
+  id = id;
+  records = flat_map (λ (i : ExtentItem). i.records) is;
+  tags = each_once (flat_map (λ (i : ExtentItem). i.tags) is);
+}
+
+-- whether an extent has one of these ids
+abbrev pub has_id_of : List ℕ → ExtentItem → Bool
+has_id_of ids i = list_any (nat_eq i.id) ids
+
+-- the old extents are gone, and one with all that they had comes last
+abbrev pub merged : List ℕ → ℕ → List ExtentItem → List ExtentItem
+merged old new is = filter (λ i. not (has_id_of old i)) is ++ united new (filter (has_id_of old) is) ∷ []
 
 -- the number of extents that a commit makes
 abbrev pub made_by : Commit → ℕ
 made_by (CreateTable name schema) = 0
+made_by (AlterMerge table columns) = 0
 made_by (Ingest batches failures) = length batches
 
-abbrev pub made_in : Log → ℕ
+-- the number of extents that an operation makes: a merge makes one
+abbrev pub made_of : Operation → ℕ
+made_of (operation.Commit c) = made_by c
+made_of (operation.Fold view to) = 0
+made_of (operation.Merge table old new) = 1
+
+-- the number of extents that were made, in any table
+abbrev pub made_in : History → ℕ
 made_in [] = 0
-made_in (c ∷ l) = made_by c + made_in l
+made_in (e ∷ h) = made_of e.operation + made_in h
 
-abbrev pub extents_from : ℕ → ℕ → ℕ → Log → List ExtentItem
-extents_from t n id [] = []
-extents_from t n id (c ∷ l) = items t (n + 1) id c ++ extents_from t (n + 1) (id + made_by c) l
+-- the extents of a table after one more operation, by its cursor if it is a commit, and the id of the next extent
+abbrev pub items_after : ℕ → ℕ → ℕ → Operation → List ExtentItem → List ExtentItem
+items_after t cursor id (operation.Commit c) is = is ++ items t cursor id c
+items_after t cursor id (operation.Fold view to) is = is
+items_after t cursor id (operation.Merge table old new) is = if nat_eq table t then merged old new is else is
 
--- the extents of a table in order, with ids from 1
+abbrev pub extents_from : ℕ → ℕ → ℕ → List ExtentItem → History → List ExtentItem
+extents_from t n id is [] = is
+extents_from t n id is (e ∷ h) = extents_from t (n + length (commits_of e.operation)) (id + made_of e.operation) (items_after t (n + 1) id e.operation is) h
+
+-- the extents of a table in order, with ids from 1 over all tables in the order of making
 abbrev pub extents : History → ℕ → List ExtentItem
-extents h t = extents_from t 0 1 (log h)
+extents h t = extents_from t 0 1 [] h
+
+-- those of fewer than 4096 records
+abbrev pub small_items : History → ℕ → List ExtentItem
+small_items h t = filter is_small_item (extents h t)
+
+-- those that a merge may replace: the first 64 small ones, or all where there are fewer
+abbrev pub picked : History → ℕ → List ExtentItem
+picked h t = take 64 (small_items h t)

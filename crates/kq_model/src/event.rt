@@ -2,6 +2,7 @@
 ghost use Rattle.std.specs.Prelude.{◌≡◌};
 
 use crate::batch::{Batches, Failures};
+use crate::ids::Ids;
 use kq_value::{Schema, Text};
 
 /// The mark of a command: who asked, and with which of its commands, counted from 1.
@@ -28,16 +29,26 @@ pub enum Commit {
         name: Text,
         schema: Schema,
     },
+    /// Further columns behind those of a table, which goes by its number.
+    AlterMerge {
+        table: u32,
+        columns: Schema,
+    },
     Ingest {
         batches: Batches,
         failures: Failures,
     },
 }
 
-/// What an event does.
+/// What an event does. Views, tables and extents go by number.
 #[derive(Drop)]
 pub enum Operation {
+    /// What a client's command changed.
     Commit(Commit),
+    /// The part of a view has the records with cursors up to `to`.
+    Fold { view: u32, to: u64 },
+    /// The extents `old` of a table became the extent `new`, which is its last.
+    Merge { table: u32, old: Ids, new: u64 },
 }
 
 /// An entry of the history: an operation with the mark of the command that made it.

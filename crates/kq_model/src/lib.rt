@@ -6,6 +6,7 @@ mod answer;
 mod batch;
 mod cause;
 mod event;
+mod ids;
 mod limits;
 mod table;
 
@@ -13,5 +14,6 @@ pub use answer::Answer;
 pub use batch::{Batch, Batches, Failure, Failures};
 pub use cause::{Cause, Why};
 pub use event::{By, Commit, Event, Operation};
+pub use ids::Ids;
 pub use limits::Limits;
 pub use table::Table;
