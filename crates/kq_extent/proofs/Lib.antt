@@ -4,3 +4,4 @@ pub mod Filters
 pub mod Named
 pub mod Sent
 pub mod Walked
+pub mod Wide

@@ -3,3 +3,4 @@ pub mod Columns
 pub mod Runs
 pub mod Seen
 pub mod Split
+pub mod Wide

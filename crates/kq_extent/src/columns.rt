@@ -6,10 +6,12 @@ ghost use Rattle.kq_rows.specs.Chunks.{row_at, same_width};
 ghost use Rattle.kq_column.specs.Bounds.{AreBounds};
 ghost use Rattle.kq_column.specs.Cells.{column_of, IsAtMost};
 ghost use Rattle.kq_extent.specs.Cells.{cells_of};
+ghost use Rattle.kq_widened.specs.Widened.{widened};
 
 use kq_column::Column;
 use kq_rows::Rows;
-use kq_value::{Memory, Schema, Value};
+use kq_value::{Field, Memory, Schema, Value};
+use kq_widened::{missing_cell, widen};
 use std::alloc::Global;
 use std::marker::Model;
 
@@ -92,6 +94,22 @@ impl Columns {
         }
     }
 
+    /// The cell of a row in a column, or what stands there under these columns where the row has none.
+    pub fn cell_under(
+        &self,
+        fields: &[Field],
+        index: usize,
+        column: usize,
+    ) -> Result<Option<Value>, Memory>
+        requires { index < length self.now }
+        ensures { IfOk result (λ cell. cell ≡ slice_get (widened fields.now (row_at self.now index)) column) }
+    {
+        match self.cell(index, column)? {
+            Some(cell) => Ok(Some(cell)),
+            None => missing_cell(*self.columns.allocator(), fields, column),
+        }
+    }
+
     // Fills a row that is empty with the cells of one row.
     fn fill(&self, index: usize, row: &mut Vec<Value>) -> Result<(), Memory>
         requires place { index < length self.now }
@@ -105,28 +123,29 @@ impl Columns {
         Ok(())
     }
 
-    // Adds all rows behind others, or some of them where memory is refused.
-    fn push_rows(&self, rows: &mut Rows) -> Result<(), Memory>
-        requires { same_width (rows.old ++ self.now) }
-        ensures ok { OnOk result (rows.new ≡ rows.old ++ self.now) }
+    // Adds all rows, widened to the columns, behind others, or some of them where memory is refused.
+    fn push_rows(&self, fields: &[Field], rows: &mut Rows) -> Result<(), Memory>
+        requires { same_width (rows.old ++ map (widened fields.now) self.now) }
+        ensures ok { OnOk result (rows.new ≡ rows.old ++ map (widened fields.now) self.now) }
         ensures kept { OnErr result (take (length rows.old) rows.new ≡ rows.old) }
     {
         let mut row = Vec::new(*self.columns.allocator());
         for index in 0..self.len() {
             self.fill(index, &mut row)?;
+            widen(fields, &mut row)?;
             rows.push_from(&mut row)?;
         }
         Ok(())
     }
 
-    /// Adds all rows behind others.
-    pub fn add_rows(&self, rows: &mut Rows) -> Result<(), Memory>
-        requires { same_width (rows.old ++ self.now) }
-        ensures ok { OnOk result (rows.new ≡ rows.old ++ self.now) }
+    /// Adds all rows, widened to the columns, behind others.
+    pub fn add_rows(&self, fields: &[Field], rows: &mut Rows) -> Result<(), Memory>
+        requires { same_width (rows.old ++ map (widened fields.now) self.now) }
+        ensures ok { OnOk result (rows.new ≡ rows.old ++ map (widened fields.now) self.now) }
         ensures err { OnErr result (rows.new ≡ rows.old) }
     {
         let before = rows.len();
-        match self.push_rows(rows) {
+        match self.push_rows(fields, rows) {
             Ok(()) => Ok(()),
             Err(memory) => {
                 rows.truncate(before);

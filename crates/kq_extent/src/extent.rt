@@ -4,11 +4,12 @@ ghost use Rattle.kq_rows.specs.Chunks.{row_at, same_width};
 ghost use Rattle.kq_column.specs.Bounds.{AreBounds};
 ghost use Rattle.kq_column.specs.Cells.{IsAtMost};
 ghost use Rattle.kq_extent.specs.Cells.{cells_at, cursors_of};
+ghost use Rattle.kq_extent.specs.Wide.{wide};
 
 use crate::columns::Columns;
 use crate::runs::Runs;
 use kq_rows::Rows;
-use kq_value::{Memory, RecordId, Tags, Value};
+use kq_value::{Field, Memory, RecordId, Tags, Value};
 use std::marker::Model;
 
 /// Records that were put in together, column by column. None of it changes.
@@ -101,13 +102,33 @@ impl Extent {
         self.columns.cell(index, column)
     }
 
-    /// Adds the rows of all records behind others.
-    pub fn add_rows(&self, rows: &mut Rows) -> Result<(), Memory>
-        requires { same_width (rows.old ++ map row_of self.now.records) }
-        ensures ok { OnOk result (rows.new ≡ rows.old ++ map row_of self.now.records) }
+    /// The cell of a record in a column, or what stands there under these columns where the record has none.
+    pub fn cell_under(
+        &self,
+        fields: &[Field],
+        index: usize,
+        column: usize,
+    ) -> Result<Option<Value>, Memory>
+        requires { index < length self.now.records }
+        ensures { IfOk result (λ cell. cell ≡ slice_get (row_at (map row_of (wide fields.now self.now).records) index) column) }
+    {
+        self.columns.cell_under(fields, index, column)
+    }
+
+    /// Adds the rows of all records, widened to the columns, behind others.
+    pub fn add_rows(&self, fields: &[Field], rows: &mut Rows) -> Result<(), Memory>
+        requires { same_width (rows.old ++ map row_of (wide fields.now self.now).records) }
+        ensures ok { OnOk result (rows.new ≡ rows.old ++ map row_of (wide fields.now self.now).records) }
         ensures err { OnErr result (rows.new ≡ rows.old) }
     {
-        self.columns.add_rows(rows)
+        self.columns.add_rows(fields, rows)
+    }
+
+    // Adds the ids of all records behind others.
+    pub(crate) fn add_ids(&self, runs: &mut Runs) -> Result<(), Memory>
+        ensures { OnOk result (runs.new ≡ runs.old ++ map id_of self.now.records) }
+    {
+        runs.extend(&self.runs)
     }
 
     /// The least and the greatest cell of a column, nulls aside. It was found as the extent was built.

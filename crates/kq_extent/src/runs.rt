@@ -1,11 +1,12 @@
 // Ids by runs.
-ghost use Rattle.std.specs.Prelude.{◌≡◌, ◌↔◌, ◌<◌, ◌≤◌, [], IfSome, IsNone, Some, length, map, slice_get};
+ghost use Rattle.std.specs.Prelude.{◌≡◌, ◌↔◌, ◌<◌, ◌≤◌, ◌++◌, [], IfSome, IsNone, OnOk, Some, length, map, slice_get};
 ghost use Rattle.std.specs.List.{All};
 ghost use Rattle.kq_column.specs.Bounds.{AreBounds};
 ghost use Rattle.kq_extent.specs.Cells.{cursor_of};
 
 use crate::run::Run;
-use kq_value::RecordId;
+use kq_value::{Memory, RecordId};
+use std::alloc::Global;
 use std::marker::Model;
 
 // The ids of records, one run after another. Contracts see the list of the ids.
@@ -34,11 +35,27 @@ impl Model for Runs {
 impl Runs {
     ghost use Rattle.kq_extent.specs.Runs.{ids_by, IsInRange};
 
+    pub fn new(alloc: Global) -> Runs
+        ensures { result ≡ [] }
+    {
+        Runs {
+            runs: Vec::new(alloc),
+        }
+    }
+
     pub fn from_vec(runs: Vec<Run>) -> Runs
         requires { All IsInRange runs.items }
         ensures { result ≡ ids_by runs.items }
     {
         Runs { runs }
+    }
+
+    /// Adds the ids of others behind these.
+    pub fn extend(&mut self, others: &Runs) -> Result<(), Memory>
+        ensures { OnOk result (self.new ≡ self.old ++ others.now) }
+    {
+        self.runs.extend_from_slice(others.runs.as_slice())?;
+        Ok(())
     }
 
     pub fn id_of(&self, index: usize) -> RecordId

@@ -4,13 +4,14 @@ ghost use Rattle.std.specs.Arc.{arc_value};
 ghost use Rattle.kq_shared.specs.Standing.{StandsAt};
 ghost use Rattle.kq_rows.specs.Chunks.{same_width};
 ghost use Rattle.kq_extent.specs.Seen.{ExtentView, held_extents, held_records, row_of};
+ghost use Rattle.kq_extent.specs.Wide.{wide_held};
 ghost use Rattle.kq_extent.specs.Split.{AreSplit, is_small, put, without, without_first};
 
 use crate::extent::Extent;
 use crate::walk::{add_rows, count_records};
 use kq_rows::Rows;
 use kq_shared::{SharedList, SharedQueue};
-use kq_value::Memory;
+use kq_value::{Field, Memory};
 use std::alloc::Global;
 use std::marker::Model;
 use std::sync::Arc;
@@ -144,17 +145,17 @@ impl TableExtents {
         count
     }
 
-    /// The rows of all records.
-    pub fn all_rows(&self, alloc: Global) -> Result<Rows, Memory>
-        requires { same_width (map row_of (held_records self.now)) }
-        ensures { IfOk result (λ rows. rows ≡ map row_of (held_records self.now)) }
+    /// The rows of all records, widened to the columns.
+    pub fn all_rows(&self, alloc: Global, fields: &[Field]) -> Result<Rows, Memory>
+        requires { same_width (map row_of (held_records (wide_held fields.now self.now))) }
+        ensures { IfOk result (λ rows. rows ≡ map row_of (held_records (wide_held fields.now self.now))) }
     {
         let len = self.len();
         let mut rows = Rows::new(alloc);
         let mut at = 0;
         while at < len {
             let part = self.part_from(at);
-            add_rows(part, &mut rows)?;
+            add_rows(part, fields, &mut rows)?;
             at += part.len();
         }
         Ok(rows)

@@ -3,10 +3,11 @@ ghost use Rattle.std.specs.Prelude.{◌≡◌, ◌<◌, ◌++◌, ◌^◌, OnOk,
 ghost use Rattle.std.specs.Arc.{arc_value};
 ghost use Rattle.kq_rows.specs.Chunks.{same_width};
 ghost use Rattle.kq_extent.specs.Seen.{records_in, row_of};
+ghost use Rattle.kq_extent.specs.Wide.{wide};
 
 use crate::extent::Extent;
 use kq_rows::Rows;
-use kq_value::Memory;
+use kq_value::{Field, Memory};
 use std::alloc::Global;
 use std::sync::Arc;
 
@@ -22,13 +23,17 @@ pub(crate) fn count_records(extents: &[Arc<Extent, Global>]) -> u64
     count
 }
 
-/// Adds the rows of these extents behind others, or some of them where memory is refused.
-pub(crate) fn add_rows(extents: &[Arc<Extent, Global>], rows: &mut Rows) -> Result<(), Memory>
-    requires { same_width (rows.old ++ map row_of (records_in (map arc_value extents.now))) }
-    ensures { OnOk result (rows.new ≡ rows.old ++ map row_of (records_in (map arc_value extents.now))) }
+/// Adds the rows of these extents, widened to the columns, behind others, or some of them where memory is refused.
+pub(crate) fn add_rows(
+    extents: &[Arc<Extent, Global>],
+    fields: &[Field],
+    rows: &mut Rows,
+) -> Result<(), Memory>
+    requires { same_width (rows.old ++ map row_of (records_in (map (wide fields.now) (map arc_value extents.now)))) }
+    ensures { OnOk result (rows.new ≡ rows.old ++ map row_of (records_in (map (wide fields.now) (map arc_value extents.now)))) }
 {
     for extent in extents {
-        extent.add_rows(rows)?;
+        extent.add_rows(fields, rows)?;
     }
     Ok(())
 }

@@ -98,7 +98,7 @@ fn records_are_read_in_the_order_in_which_they_were_added(rt: HostRuntime) -> Re
     let id = extent.id_of(2);
     assert!(rt; id.cursor == 7 && id.ordinal == 4);
     let mut rows = Rows::new(rt.alloc());
-    extent.add_rows(&mut rows)?;
+    extent.add_rows(&[], &mut rows)?;
     assert!(rt; rows.len() == 3);
     let row = rows.row(1);
     assert!(rt; row.len() == 2);

@@ -1,16 +1,23 @@
 use Rattle.std.proofs.Common.{◌≡◌, ◌++◌, map, ap, sym, subst, ◌∙◌, List}
 use Rattle.kq_value.specs.declared.value.Value.{Value}
 use Rattle.kq_rows.specs.Chunks.{same_width}
+use Rattle.kq_widened.specs.Widened.{widened}
 use Rattle.kq_extent.specs.Seen.{ExtentView, row_of}
+use Rattle.kq_extent.specs.Wide.{wide}
 use Rattle.kq_extent.proofs.Named.{rows-named}
+use Rattle.kq_extent.proofs.Wide.{wide-rows}
 use Rattle.kq_extent.proofs.extent.Extent.add_rows.Goals as goal
 
 pub add_rows-requires : goal.add_rows-requires
 add_rows-requires c =
-    let rows : map row_of c.args.self.now.records ≡ c.self.inside.columns = ap (λ (e : ExtentView). map row_of e.records) (sym c.self.view_is) ∙ rows-named c.self.inside.runs c.self.inside.columns c.self.invariant in
+    let fields = c.args.fields.now in
+    let rows : map row_of (wide fields c.args.self.now).records ≡ map (widened fields) c.self.inside.columns =
+    wide-rows fields c.args.self.now ∙ ap (λ (e : ExtentView). map (widened fields) (map row_of e.records)) (sym c.self.view_is) ∙ ap (map (widened fields)) (rows-named c.self.inside.runs c.self.inside.columns c.self.invariant) in
     subst (λ (rs : List (List Value)). same_width (c.args.rows.now ++ rs)) rows c.requires
 
 pub returns : goal.returns
 returns c =
-    let rows : map row_of c.args.self.now.records ≡ c.self.inside.columns = ap (λ (e : ExtentView). map row_of e.records) (sym c.self.view_is) ∙ rows-named c.self.inside.runs c.self.inside.columns c.self.invariant in
+    let fields = c.args.fields.now in
+    let rows : map row_of (wide fields c.args.self.now).records ≡ map (widened fields) c.self.inside.columns =
+    wide-rows fields c.args.self.now ∙ ap (λ (e : ExtentView). map (widened fields) (map row_of e.records)) (sym c.self.view_is) ∙ ap (map (widened fields)) (rows-named c.self.inside.runs c.self.inside.columns c.self.invariant) in
     record { ok = rw rows c.add_rows.ensures.ok; err = c.add_rows.ensures.err }
