@@ -1,0 +1,59 @@
+// The tags of several extents.
+ghost use Rattle.std.specs.Prelude.{◌≡◌, ◌++◌, IfOk, OnOk, map};
+ghost use Rattle.std.specs.Arc.{arc_value};
+ghost use Rattle.kq_model.specs.Records.{each_once};
+ghost use Rattle.kq_merge.specs.Merges.{tags_in};
+
+use indexmap::IndexSet;
+use kq_extent::Extent;
+use kq_value::{Memory, Tags, Text};
+use std::alloc::Global;
+use std::sync::Arc;
+
+/// The tags of these extents, each once, in the order of first appearance.
+pub(crate) fn union_of(alloc: Global, extents: &[Arc<Extent, Global>]) -> Result<Tags, Memory>
+    ensures { IfOk result (λ tags. tags ≡ each_once (tags_in (map arc_value extents.now))) }
+{
+    let texts = texts_of(alloc, extents)?;
+    distinct(alloc, texts.as_slice())
+}
+
+// The tags of one extent after another.
+fn texts_of(alloc: Global, extents: &[Arc<Extent, Global>]) -> Result<Vec<Text>, Memory>
+    ensures { IfOk result (λ texts. texts.items ≡ tags_in (map arc_value extents.now)) }
+{
+    let mut texts = Vec::new(alloc);
+    for extent in extents {
+        add_tags(&mut texts, extent.tags())?;
+    }
+    Ok(texts)
+}
+
+fn add_tags(texts: &mut Vec<Text>, tags: &Tags) -> Result<(), Memory>
+    ensures { OnOk result (texts.new.items ≡ texts.old.items ++ tags.now) }
+{
+    for tag in tags.as_slice() {
+        texts.push(tag.clone_in()?)?;
+    }
+    Ok(())
+}
+
+fn distinct(alloc: Global, texts: &[Text]) -> Result<Tags, Memory>
+    ensures { IfOk result (λ tags. tags ≡ each_once texts.now) }
+{
+    let mut seen = IndexSet::new(alloc);
+    for text in texts {
+        seen.insert(text.as_str())?;
+    }
+    owned(alloc, seen.as_slice())
+}
+
+fn owned(alloc: Global, texts: &[&str]) -> Result<Tags, Memory>
+    ensures { IfOk result (λ tags. tags ≡ map (λ text. text.now) texts.now) }
+{
+    let mut tags = Vec::with_capacity(alloc, texts.len())?;
+    for text in texts {
+        tags.push(Text::from_str(alloc, text)?)?;
+    }
+    Ok(Tags::from_vec(tags))
+}
