@@ -1,4 +1,6 @@
 mod Filled
 mod Firsts
+mod Flown
+mod Sought
 mod Walks
 mod Widths

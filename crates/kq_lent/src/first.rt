@@ -2,11 +2,10 @@
 ghost use Rattle.std.specs.Prelude.{◌≡◌, ◌<◌, ◌++◌, IfOk, OnOk, length, take};
 ghost use Rattle.std.specs.List.{range_with_len};
 ghost use Rattle.kq_rows.specs.Chunks.{same_width};
-ghost use Rattle.kq_lent.specs.Lent.{rows_held, rows_of};
+ghost use Rattle.kq_lent.specs.Lent.{extent_of, rows_held, rows_of};
 
+use crate::lending::Lending;
 use crate::records::{Records, fill_row};
-use crate::walk::records_at;
-use kq_extent::TableExtents;
 use kq_rows::Rows;
 use kq_value::Memory;
 use std::alloc::Global;
@@ -39,8 +38,8 @@ fn first_places(alloc: Global, count: u32) -> Result<Vec<u32>, Memory>
     Ok(places)
 }
 
-/// The first rows, so many or all; the others are let go.
-pub fn cut(rows: Rows, count: u64) -> Rows
+// The first rows, so many or all; the others are let go.
+fn cut(rows: Rows, count: u64) -> Rows
     ensures { result ≡ take count rows }
 {
     let mut few = rows;
@@ -51,26 +50,22 @@ pub fn cut(rows: Rows, count: u64) -> Rows
 }
 
 // The rows of the first records.
-pub(crate) fn first_records(
-    alloc: Global,
-    extents: &TableExtents,
-    count: u64,
-) -> Result<Rows, Memory>
+pub(crate) fn first_records(alloc: Global, extents: &Lending, count: u64) -> Result<Rows, Memory>
     requires { same_width (rows_held extents.now) }
     ensures { IfOk result (λ few. few ≡ take count (rows_held extents.now)) }
 {
     let mut few = Rows::new(alloc);
     for at in 0..extents.len() {
         let left = count.saturating_sub(few.len() as u64);
-        add_first(alloc, &mut few, &records_at(extents, at), left)?;
+        add_first(alloc, &mut few, &extents.records_at(at), left)?;
     }
     Ok(few)
 }
 
 // Adds the rows of the first records of an extent behind others.
 fn add_first(alloc: Global, few: &mut Rows, records: &Records, count: u64) -> Result<(), Memory>
-    requires { same_width (few.old ++ rows_of records.now.extent.now) }
-    ensures { OnOk result (few.new ≡ few.old ++ take count (rows_of records.now.extent.now)) }
+    requires { same_width (few.old ++ rows_of (extent_of records.now)) }
+    ensures { OnOk result (few.new ≡ few.old ++ take count (rows_of (extent_of records.now))) }
 {
     let end = count.min(records.extent.len() as u64) as usize;
     let mut row = Vec::new(alloc);

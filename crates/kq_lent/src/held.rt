@@ -1,36 +1,28 @@
 // The rows that a query reads.
 ghost use Rattle.std.specs.Prelude.{◌≡◌, ◌<◌, ◌^◌, IfOk, length, map, take};
-ghost use Rattle.kq_computed.specs.Computed.{Answers, AnswersAs, each};
-ghost use Rattle.kq_expr.specs.Terms.{term_of};
-ghost use Rattle.kq_scalar.specs.Val.{meaning, surroundings};
-ghost use Rattle.kq_piecewise.specs.Operators.{filtered, values_at};
+ghost use Rattle.kq_scalar.specs.Val.{surroundings};
 ghost use Rattle.kq_lent.specs.Gathered.{gathered};
+ghost use Rattle.kq_extent.specs.Wide.{wide_held};
 ghost use Rattle.kq_lent.specs.Lent.{AreLent, rows_held};
+ghost use Rattle.kq_stretch.specs.Operators.{rowwise_of};
+ghost use Rattle.kq_stretch.specs.Ran.{ran};
 
-use crate::filter::filter_extents;
 use crate::first::{first_records, first_rows};
+use crate::flow::Flow;
 use crate::gathered::Gathered;
-use crate::map::map_extents;
-use crate::values::values_in;
-use kq_computed::EvalFault;
-use kq_expr::Expr;
+use crate::lending::Lending;
+use crate::place::Place;
 use kq_extent::TableExtents;
-use kq_piecewise::{filter_rows, map_rows, values_over};
 use kq_rows::Rows;
-use kq_value::{Memory, Value};
+use kq_stretch::Operator;
+use kq_value::{Memory, Schema, Value};
 use std::alloc::Global;
 use std::marker::Model;
 
-/// Rows of its own, or the rows of the records of extents, which are lent as they stand. Contracts see the list of the rows.
+/// Rows of its own, or the rows of the records of extents, which are lent as they stand and read under the columns of their table. Contracts see the list of the rows.
 #[derive(Drop)]
 pub struct Held {
     place: Place,
-}
-
-#[derive(Drop)]
-enum Place {
-    Own(Rows),
-    Lent(TableExtents),
 }
 
 impl Model for Held {
@@ -58,12 +50,13 @@ impl Held {
         }
     }
 
-    pub fn lent(extents: TableExtents) -> Held
-        requires { AreLent extents }
-        ensures { result ≡ rows_held extents }
+    /// The rows of the records of a table with these columns.
+    pub fn lent(extents: TableExtents, schema: Schema) -> Held
+        requires { AreLent (wide_held schema extents) }
+        ensures { result ≡ rows_held (wide_held schema extents) }
     {
         Held {
-            place: Place::Lent(extents),
+            place: Place::Lent(Lending::new(extents, schema)),
         }
     }
 
@@ -78,36 +71,17 @@ impl Held {
         }
     }
 
-    /// The rows for which the condition is true, with the cells of the scalar lets and the ticks of the command's moment.
-    pub fn filter(
-        &self,
+    /// The rows on their way through row operators, with the cells of the scalar lets and the ticks of the command's moment.
+    pub fn flow<'a>(
+        &'a self,
         alloc: Global,
-        condition: &Expr,
-        lets: &[Value],
+        operators: &'a [Operator<'a>],
+        lets: &'a [Value],
         now: i64,
-    ) -> Result<Rows, EvalFault>
-        ensures { Answers (filtered (term_of condition.now) (surroundings now lets.now) self.now) result }
+    ) -> Flow<'a>
+        ensures { result.to_come ≡ ran (map rowwise_of operators.now) (surroundings now lets.now) self.now }
     {
-        match &self.place {
-            Place::Own(rows) => filter_rows(alloc, rows, condition, lets, now),
-            Place::Lent(extents) => filter_extents(alloc, extents, condition, lets, now),
-        }
-    }
-
-    /// The values of the expressions over each row.
-    pub fn map(
-        &self,
-        alloc: Global,
-        exprs: &[Expr],
-        lets: &[Value],
-        now: i64,
-    ) -> Result<Rows, EvalFault>
-        ensures { Answers (each (values_at (map term_of exprs.now) (surroundings now lets.now)) self.now) result }
-    {
-        match &self.place {
-            Place::Own(rows) => map_rows(alloc, rows, exprs, lets, now),
-            Place::Lent(extents) => map_extents(alloc, extents, exprs, lets, now),
-        }
+        Flow::new(alloc, &self.place, operators, lets, now)
     }
 
     /// Copies of the first rows, so many or all.
@@ -120,23 +94,6 @@ impl Held {
         }
     }
 
-    /// The value of an expression over each row.
-    pub fn values(
-        &self,
-        alloc: Global,
-        expr: &Expr,
-        lets: &[Value],
-        now: i64,
-    ) -> Result<Vec<Value>, EvalFault>
-        ensures values { AnswersAs (λ vs. vs.items) (each (meaning (term_of expr.now) (surroundings now lets.now)) self.now) result }
-        ensures beside { IfOk result (λ vs. length vs.items ≡ length self.now) }
-    {
-        match &self.place {
-            Place::Own(rows) => values_over(alloc, rows, expr, lets, now),
-            Place::Lent(extents) => values_in(alloc, extents, expr, lets, now),
-        }
-    }
-
     /// All rows side by side: its own are lent, and lent ones are copied.
     pub fn gather(&self, alloc: Global) -> Result<Gathered<'_>, Memory>
         ensures { IfOk result (λ rows. gathered rows ≡ self.now) }
@@ -144,16 +101,6 @@ impl Held {
         match &self.place {
             Place::Own(rows) => Ok(Gathered::Own(rows)),
             Place::Lent(extents) => Ok(Gathered::Copied(extents.all_rows(alloc)?)),
-        }
-    }
-
-    /// Copies of all rows.
-    pub fn to_rows(&self, alloc: Global) -> Result<Rows, Memory>
-        ensures { IfOk result (λ rows. rows ≡ self.now) }
-    {
-        match &self.place {
-            Place::Own(rows) => rows.clone_in(),
-            Place::Lent(extents) => extents.all_rows(alloc),
         }
     }
 

@@ -1,17 +1,20 @@
-//! The rows that a query reads: rows of its own, or the records of extents, which are lent as they stand. So a count makes no row, and what is kept or made of lent records is made of those of their columns that an expression reads, an extent at a time.
+//! The rows that a query reads: rows of its own, or the records of extents, which are lent as they stand. So a count makes no row, and what row operators make of lent records is made of those of their columns that an expression reads, a part of an extent at a time.
 //!
-//! What an expression gives of rows is left to `kq_piecewise`, and which extents a query reads to the crates above.
+//! What operators make of a part is left to `kq_stretch`, and which extents a query reads to the crates above.
 #![tactic(auto)]
 
-mod filter;
 mod first;
+mod flow;
 mod gathered;
 mod held;
-mod map;
+mod lending;
+mod place;
 mod records;
-mod values;
-mod walk;
+mod source;
+mod unread;
 
-pub use first::cut;
+pub use flow::{Flow, Next};
 pub use gathered::Gathered;
 pub use held::Held;
+pub use records::Records;
+pub use source::Source;

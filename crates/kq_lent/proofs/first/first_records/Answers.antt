@@ -3,7 +3,7 @@ use Rattle.std.proofs.lemmas.List.{take_all}
 use Rattle.kq_value.specs.declared.value.Value.{Value}
 use Rattle.kq_extent.specs.Seen.{held_extents}
 use Rattle.kq_extent.proofs.Walked.{rows_by}
-use Rattle.kq_lent.specs.Lent.{rows_of}
+use Rattle.kq_lent.specs.Lent.{extent_of, rows_of}
 use Rattle.kq_lent.proofs.Firsts.{take_both}
 use Rattle.kq_lent.proofs.Walks.{rows_by-held, rows_next}
 use Rattle.kq_lent.proofs.Widths.{first_even}
@@ -11,13 +11,13 @@ use Rattle.kq_lent.proofs.first.first_records.Goals as goal
 
 pub add_first-requires : goal.add_first-requires
 add_first-requires c =
-    first_even c.args.extents.now c.loop-at.at c.records_at.result.extent.now c.args.count c.loop-at.few c.records_at.ensures c.requires c.loop-at.invariant
+    first_even c.args.extents.now c.loop-at.at (extent_of c.records_at.result) c.args.count c.loop-at.few c.records_at.ensures c.requires c.loop-at.invariant
 
 pub loop-at-preserved : goal.loop-at-preserved
 loop-at-preserved c =
     let es = held_extents c.args.extents.now in
     let at = c.loop-at.at in
-    let e = c.records_at.result.extent.now in
+    let e = (extent_of c.records_at.result) in
     let count = c.args.count in
     let before = rows_by (take at es) in
     let few = ap length c.loop-at.invariant in

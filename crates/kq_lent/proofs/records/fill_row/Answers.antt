@@ -1,12 +1,12 @@
 use Rattle.std.proofs.Common.{◌≡◌, ℕ, Some, length, slice_get, ap, sym, ◌∙◌, arith}
 use Rattle.kq_rows.specs.Chunks.{row_at}
-use Rattle.kq_lent.specs.Lent.{rows_of}
+use Rattle.kq_lent.specs.Lent.{extent_of, rows_of}
 use Rattle.kq_lent.proofs.Filled.{cell_next, cells_end}
 use Rattle.kq_lent.proofs.records.fill_row.Goals as goal
 
 pub loop-cell-preserved : goal.loop-cell-preserved
 loop-cell-preserved c =
-    let r = row_at (rows_of c.args.records.now.extent.now) c.args.i in
+    let r = row_at (rows_of (extent_of c.args.records.now)) c.args.i in
     let row = c.loop-cell.row.items in
     let n : c.len.result ≡ length row = omega (arith, c.len.ensures) in
     let got : slice_get r (length row) ≡ Some c.in-Some.cell = ap (λ (k : ℕ). slice_get r k) (sym n) ∙ sym c.in_ok-cell.ensures ∙ c.in-Some.is in
@@ -14,7 +14,7 @@ loop-cell-preserved c =
 
 pub returns : goal.returns
 returns c =
-    let r = row_at (rows_of c.args.records.now.extent.now) c.args.i in
+    let r = row_at (rows_of (extent_of c.args.records.now)) c.args.i in
     let row = c.loop-cell.row.items in
     let n : c.len.result ≡ length row = omega (arith, c.len.ensures) in
     let is : c.in_ok-cell.field-0 ≡ slice_get r (length row) = c.in_ok-cell.ensures ∙ ap (λ (k : ℕ). slice_get r k) n in

@@ -1,0 +1,52 @@
+-- What comes through row operators of rows that are read in parts.
+use Rattle.std.proofs.Common.{◌≡◌, ◌<◌, ℕ, min, List, [], length, take, refl, sym, ap, ◌∙◌, arith, length-append}
+use Rattle.std.proofs.lemmas.List.{length-take}
+use Rattle.kq_piecewise.specs.Operators.{Row}
+use Rattle.kq_scalar.specs.Val.{Surroundings}
+use Rattle.kq_stretch.specs.Operators.{Rowwise}
+use Rattle.kq_stretch.specs.Ran.{Ran, came, failed, failure_of, joined, ran, width_in_end}
+use Rattle.kq_stretch.proofs.Laws.{joined_assoc, ran_append, ran_failed, ran_none, ran_take, ran_wide}
+use Rattle.kq_lent.specs.Flowing.{Flows, flowing}
+use Rattle.kq_lent.specs.Unread.{UnreadView, IsRead}
+
+-- rows that have come change no failure
+pub failure_later : (rows : List Row) (r : Ran) → failure_of (joined (came rows) r) ≡ failure_of r
+failure_later rows (came others) = refl
+failure_later rows (failed n) = refl
+
+module _ (os : List Rowwise) (s : Surroundings) where
+  pub none_left : (rows : List Row) → rows ≡ [] → ran os s rows ≡ came []
+  none_left rows none = ap (ran os s) none ∙ ran_none os s
+
+  in_parts : (old new : UnreadView) (part : List Row) → IsRead old part new → ran os s old.rows ≡ joined (ran os s part) (ran os s new.rows)
+  in_parts old new part read = ap (ran os s) read.rows ∙ ran_append os s part new.rows
+
+  -- what came of a part
+  pub part_came : (old new : UnreadView) (part out : List Row) → IsRead old part new → came out ≡ ran os s part → Flows (flowing os s old) out (flowing os s new)
+  part_came old new part out read is = record {
+    to_come = in_parts old new part read ∙ ap (λ (r : Ran). joined r (ran os s new.rows)) (sym is);
+    fewer = let n = ap length read.rows in omega (arith, n, length-append part new.rows, read.some);
+    wide = ran_wide os s old.width part out read.wide (sym is);
+    width = ap (width_in_end os) read.width;
+  }
+
+  -- an operator fails on a part
+  pub part_failed : (old new : UnreadView) (part : List Row) (n m : ℕ) → IsRead old part new → failed n ≡ ran os s part → joined (failed n) (ran os s new.rows) ≡ failed m → ran os s old.rows ≡ failed m
+  part_failed old new part n m read is rest = in_parts old new part read ∙ ap (λ (r : Ran). joined r (ran os s new.rows)) (sym is) ∙ rest
+
+  -- the least number behind one part more
+  pub least_next : (old new : UnreadView) (part : List Row) (n m : ℕ) → IsRead old part new → joined (failed n) (ran os s part) ≡ failed m → joined (failed n) (ran os s old.rows) ≡ joined (failed m) (ran os s new.rows)
+  least_next old new part n m read is =
+      ap (λ (r : Ran). joined (failed n) r) (in_parts old new part read) ∙ sym (joined_assoc (failed n) (ran os s part) (ran os s new.rows)) ∙ ap (λ (r : Ran). joined r (ran os s new.rows)) is
+
+  pub least_came : (first : ℕ) (part out : List Row) → came out ≡ ran (take first os) s part → joined (failed first) (ran os s part) ≡ failed first
+  least_came first part out is = ran_take os s first part ∙ ap (λ (r : Ran). joined (failed first) r) (sym is)
+
+  pub less : (first : ℕ) (part : List Row) (n : ℕ) → failed n ≡ ran (take first os) s part → n < first
+  less first part n is = let b = ran_failed (take first os) s part n (sym is) in omega (arith, b, length-take first os)
+
+  pub least_failed : (first : ℕ) (part : List Row) (n : ℕ) → failed n ≡ ran (take first os) s part → joined (failed first) (ran os s part) ≡ failed n
+  least_failed first part n is =
+      let b = less first part n is in
+      let least : min first n ≡ n = omega (arith, b) in
+      ran_take os s first part ∙ ap (λ (r : Ran). joined (failed first) r) (sym is) ∙ ap failed least

@@ -1,0 +1,86 @@
+-- Rows of sources, from a place on.
+use Rattle.std.proofs.Common.{◌≡◌, ◌<◌, ◌≤◌, ◌+◌, ◌-◌, ◌++◌, ℕ, zero, suc, List, [], ◌∷◌, Some, length, map, take, drop, get_or, refl, sym, ap, subst, ◌∙◌, arith, add-one, append-nil, append_assoc, length-drop}
+use Rattle.std.specs.List.{All, slice_get}
+use Rattle.std.proofs.lemmas.List.{drop-drop, drop_all, get_or_past, length-take-le, map-append, take-append-drop}
+use Rattle.std.proofs.lemmas.List.Elements.{All-drop, All-take}
+use Rattle.std.proofs.lemmas.Option.{get_or_from_slice_get, none-some, same_Some}
+use Rattle.kq_extent.specs.Seen.{ExtentView, held_extents, records_in, row_of}
+use Rattle.kq_extent.proofs.Walked.{rows_by}
+use Rattle.kq_piecewise.specs.Operators.{Row}
+use Rattle.kq_rows.specs.Chunks.{HasWidth}
+use Rattle.kq_piecewise.specs.Pieces.{piece_of}
+use Rattle.kq_lent.specs.Held.{rows_in, sources_in}
+use Rattle.kq_lent.specs.Lent.{rows_of}
+use Rattle.kq_lent.specs.Unread.{Begins, IsRead, UnreadView, rows_among, rows_from, width_of}
+use Rattle.kq_lent.specs.declared.place.Place.{Place}
+use Rattle.kq_lent.specs.declared.place.Place.TheVariants.{Own, Lent}
+use Rattle.kq_lent.proofs.Walks.{rows_by-held}
+use Rattle.kq_lent.proofs.Widths.{first_all, other_all}
+
+pub from_start : (sources : List (List Row)) (i : ℕ) → rows_from sources i 0 ≡ rows_among (drop i sources)
+from_start [] zero = refl
+from_start [] (suc i) = refl
+from_start (x ∷ xs) zero = refl
+from_start (x ∷ xs) (suc i) = from_start xs i
+
+-- a source without rows that are left
+pub passed : (sources : List (List Row)) (i j : ℕ) → length (get_or sources i []) ≤ j → rows_from sources i j ≡ rows_from sources (i + 1) 0
+passed sources i j past =
+    ap (λ (rs : List Row). rs ++ rows_among (drop (suc i) sources)) (drop_all j (get_or sources i []) past)
+    ∙ sym (from_start sources (suc i)) ∙ ap (λ (k : ℕ). rows_from sources k 0) (sym (add-one i))
+
+pub ended : (sources : List (List Row)) (i j : ℕ) → length sources ≤ i → rows_from sources i j ≡ []
+ended sources i j past =
+    (λ t. drop j (get_or_past sources i [] past t) ++ rows_among (drop_all (suc i) sources (omega arith) t))
+    ∙ ap (λ (rs : List Row). rs ++ []) (drop_all j [] (omega arith))
+
+-- a part of a source, and what is left behind it
+pub taken : (sources : List (List Row)) (i j k : ℕ) (rows : List Row) → slice_get sources i ≡ Some rows → j ≤ k → rows_from sources i j ≡ piece_of rows j k ++ rows_from sources i k
+taken sources i j k rows got up =
+    let is : get_or sources i [] ≡ rows = get_or_from_slice_get sources i rows [] got in
+    let far : j + (k - j) ≡ k = omega (arith, up) in
+    let rest = rows_among (drop (suc i) sources) in
+    let split : drop j rows ≡ piece_of rows j k ++ drop k rows =
+    sym (take-append-drop (k - j) (drop j rows)) ∙ ap (λ (rs : List Row). take (k - j) (drop j rows) ++ rs) (drop-drop (k - j) j rows ∙ ap (λ (n : ℕ). drop n rows) far) in
+    ap (λ (rs : List Row). drop j rs ++ rest) is ∙ ap (λ (rs : List Row). rs ++ rest) split ∙ append_assoc (piece_of rows j k) (drop k rows) rest
+    ∙ ap (λ (rs : List Row). piece_of rows j k ++ (drop k rs ++ rest)) (sym is)
+
+pub some_taken : (rows : List Row) (j k : ℕ) → j < k → k ≤ length rows → 0 < length (piece_of rows j k)
+some_taken rows j k less within =
+    let n = length-take-le (k - j) (drop j rows) (let m = length-drop j rows in omega (arith, m, within)) in
+    omega (arith, n, less)
+
+-- what all rows of all sources are, those of one are
+all_of : (P : Row → Type 0) (sources : List (List Row)) (i : ℕ) (rows : List Row) → slice_get sources i ≡ Some rows → All P (rows_among sources) → All P rows
+all_of P [] i rows got all = absurd (none-some rows got)
+all_of P (x ∷ xs) zero rows got all = subst (λ (rs : List Row). All P rs) (same_Some x rows got) (first_all P x (rows_among xs) all)
+all_of P (x ∷ xs) (suc i) rows got all = all_of P xs i rows got (other_all P x (rows_among xs) all)
+
+by_extent : (es : List ExtentView) → rows_by es ≡ rows_among (map rows_of es)
+by_extent [] = refl
+by_extent (e ∷ es) = map-append row_of e.records (records_in es) ∙ ap (λ (rs : List Row). rows_of e ++ rs) (by_extent es)
+
+pub all_among : (place : Place) → rows_in place ≡ rows_among (sources_in place)
+all_among (Own rows) = sym (append-nil rows)
+all_among (Lent extents) = sym (rows_by-held extents) ∙ by_extent (held_extents extents)
+
+-- the rows of a part are what all rows are
+pub all_taken : (P : Row → Type 0) (place : Place) (i j k : ℕ) (rows : List Row) → slice_get (sources_in place) i ≡ Some rows → All P (rows_in place) → All P (piece_of rows j k)
+all_taken P place i j k rows got all =
+    All-take P (k - j) (drop j rows) (All-drop P j rows (all_of P (sources_in place) i rows got (subst (λ (rs : List Row). All P rs) (all_among place) all)))
+
+-- what is left before and behind a part
+abbrev pub left_at : Place → ℕ → ℕ → UnreadView
+left_at place i j = record { rows = rows_from (sources_in place) i j; width = width_of (rows_in place) }
+
+pub part_read : (place : Place) (a b i j k : ℕ) (rows : List Row) → Begins (sources_in place) i j (rows_from (sources_in place) a b) → slice_get (sources_in place) i ≡ Some rows → (j < length rows → j < k) → k ≤ length rows
+    → All (HasWidth (width_of (rows_in place))) (rows_in place) → IsRead (left_at place a b) (piece_of rows j k) (left_at place i k)
+part_read place a b i j k rows begins got more within wide =
+    let sources = sources_in place in
+    let up : j < k = more (subst (λ (rs : List Row). j < length rs) (get_or_from_slice_get sources i rows [] got) begins.row) in
+    record {
+      rows = begins.rows ∙ taken sources i j k rows got (omega (arith, up));
+      some = some_taken rows j k up within;
+      wide = all_taken (HasWidth (width_of (rows_in place))) place i j k rows got wide;
+      width = refl;
+    }

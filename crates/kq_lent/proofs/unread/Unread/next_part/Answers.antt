@@ -1,0 +1,16 @@
+use Rattle.std.proofs.Common.{◌≤◌, length, subst, arith}
+use Rattle.kq_piecewise.specs.Pieces.{piece_of}
+use Rattle.kq_lent.specs.Sources.{source_rows}
+use Rattle.kq_lent.specs.Unread.{IsRead, UnreadView}
+use Rattle.kq_lent.proofs.Sought.{left_at, part_read}
+use Rattle.kq_lent.proofs.unread.Unread.next_part.Goals as goal
+
+pub returns-in-Some : goal.returns-in-Some
+returns-in-Some c =
+    let place = c.self.inside.place.now in
+    let rows = source_rows c.source-source.result in
+    let at = c.in-Some.spot in
+    let to = c.min-to.result in
+    let within : to ≤ length rows = omega (arith, c.min-to.ensures, c.len.ensures.count) in
+    subst (λ (u : UnreadView). IsRead u (piece_of rows at.row to) (left_at place at.source to)) c.self.view_is
+    (part_read place c.self.inside.spot.source c.self.inside.spot.row at.source at.row to rows c.in-Some.ensures.some c.source-source.ensures (λ here. omega (arith, c.min-to.ensures, c.len.ensures.count, here)) within c.in_ok-check_width.ensures)

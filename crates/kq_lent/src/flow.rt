@@ -1,0 +1,152 @@
+// Rows as they come through row operators, a piece at a time.
+ghost use Rattle.std.specs.Prelude.{◌≡◌, ◌<◌, ◌≤◌, IfOk, length, map};
+ghost use Rattle.kq_rows.specs.Chunks.{same_width};
+ghost use Rattle.kq_scalar.specs.Val.{surroundings};
+ghost use Rattle.kq_stretch.specs.Operators.{rowwise_of};
+ghost use Rattle.kq_stretch.specs.Pieces.{rows_in as piece_rows};
+ghost use Rattle.kq_stretch.specs.Ran.{failed, failure_of, joined, ran};
+ghost use Rattle.kq_lent.specs.Held.{IsReadable, rows_in};
+ghost use Rattle.kq_lent.specs.Sources.{source_rows};
+ghost use Rattle.kq_lent.specs.Yielded.{Yields};
+
+use crate::place::Place;
+use crate::source::Source;
+use crate::unread::Unread;
+use kq_stretch::{Operator, Passed, Piece, pass};
+use kq_value::{Memory, Value};
+use std::alloc::Global;
+use std::marker::Model;
+
+/// Rows on their way through row operators. Contracts see what is still to come.
+#[derive(Drop)]
+pub struct Flow<'a> {
+    alloc: Global,
+    unread: Unread<'a>,
+    operators: &'a [Operator<'a>],
+    lets: &'a [Value],
+    now: i64,
+}
+
+impl<'a> Model for Flow<'a> {
+    ghost use Rattle.std.specs.Prelude.{map};
+    ghost use Rattle.std.specs.Coded.{codes};
+    ghost use Rattle.kq_value.specs.contracts.value.Value as cell;
+    ghost use Rattle.kq_scalar.specs.Val.{surroundings};
+    ghost use Rattle.kq_stretch.specs.Operators.{rowwise_of};
+    ghost use Rattle.kq_lent.specs.Flowing.{Flowing, flowing};
+
+    ghost Value = { Flowing };
+
+    ghost coded = { Prim.hlevel (codes, cell.the_row.coded) };
+
+    ghost view = { λ f. flowing (map rowwise_of f.operators.now) (surroundings f.now f.lets.now) f.unread };
+}
+
+/// A piece of what comes, or the end, or the number of the first operator, from 0, that overflows on one of the rows.
+#[derive(Drop)]
+pub enum Next<'a> {
+    Piece(Piece<Source<'a>>),
+    End,
+    Failed(usize),
+}
+
+impl<'a> Flow<'a> {
+    pub(crate) fn new(
+        alloc: Global,
+        place: &'a Place,
+        operators: &'a [Operator<'a>],
+        lets: &'a [Value],
+        now: i64,
+    ) -> Flow<'a>
+        requires { IsReadable place.now }
+        ensures { result.to_come ≡ ran (map rowwise_of operators.now) (surroundings now lets.now) (rows_in place.now) }
+    {
+        Flow {
+            alloc,
+            unread: Unread::new(place),
+            operators,
+            lets,
+            now,
+        }
+    }
+
+    /// The next piece, of a few thousand rows at most before operators.
+    pub fn next(&mut self) -> Result<Next<'a>, Memory>
+        ensures { IfOk result (Yields self.old self.new) }
+    {
+        match self.unread.next_part()? {
+            Some(part) => match pass(self.alloc, self.operators, part, self.lets, self.now)? {
+                Passed::Rows(piece) => Ok(Next::Piece(piece)),
+                Passed::Failed(n) => {
+                    let unread = &mut self.unread;
+                    let least = least_of_rest(
+                        self.alloc,
+                        self.operators,
+                        unread,
+                        n,
+                        self.lets,
+                        self.now,
+                    )?;
+                    Ok(Next::Failed(least))
+                }
+            },
+            None => Ok(Next::End),
+        }
+    }
+
+    /// Lets all that is still to come go, and gives the number of the first operator that overflows on one of its rows, if one does.
+    pub fn drain(&mut self) -> Result<Option<usize>, Memory>
+        ensures { IfOk result (λ failure. failure ≡ failure_of self.old.to_come) }
+    {
+        loop {
+            match self.next()? {
+                Next::Piece(_piece) => {}
+                Next::End => return Ok(None),
+                Next::Failed(n) => return Ok(Some(n)),
+            }
+        }
+    }
+}
+
+// The least number of an operator that fails on rows, where the one with this number fails on a row before those that are left.
+fn least_of_rest(
+    alloc: Global,
+    operators: &[Operator],
+    unread: &mut Unread,
+    first: usize,
+    lets: &[Value],
+    now: i64,
+) -> Result<usize, Memory>
+    requires { first ≤ length operators.now }
+    ensures { IfOk result (λ n. joined (failed first) (ran (map rowwise_of operators.now) (surroundings now lets.now) unread.old.rows) ≡ failed n) }
+{
+    let mut least = first;
+    while least > 0 {
+        match unread.next_part()? {
+            Some(part) => least = least_of_part(alloc, operators, part, least, lets, now)?,
+            None => return Ok(least),
+        }
+    }
+    Ok(least)
+}
+
+// The same of the rows of a part. Operators from that of the number on aren't asked.
+fn least_of_part(
+    alloc: Global,
+    operators: &[Operator],
+    part: Piece<Source>,
+    first: usize,
+    lets: &[Value],
+    now: i64,
+) -> Result<usize, Memory>
+    requires first { first ≤ length operators.now }
+    requires wide { same_width (piece_rows source_rows part) }
+    ensures least { IfOk result (λ n. joined (failed first) (ran (map rowwise_of operators.now) (surroundings now lets.now) (piece_rows source_rows part.entry)) ≡ failed n) }
+    ensures less { IfOk result (λ n. n ≤ first) }
+{
+    let passed = pass(alloc, &operators[..first], part, lets, now)?;
+    match passed {
+        Passed::Rows(_rows) => Ok(first),
+        Passed::Failed(n) => Ok(n),
+    }
+}

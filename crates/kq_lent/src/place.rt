@@ -1,0 +1,83 @@
+// Where the rows that a query reads stand, source by source.
+ghost use Rattle.std.specs.Prelude.{◌≡◌, ◌<◌, IfOk, IfNone, IfSome, IsTrue, [], Some, length, slice_get};
+ghost use Rattle.std.specs.List.{All};
+ghost use Rattle.kq_rows.specs.Chunks.{HasWidth};
+ghost use Rattle.kq_lent.specs.Held.{IsReadable, rows_in, sources_in};
+ghost use Rattle.kq_lent.specs.Sources.{source_rows};
+ghost use Rattle.kq_lent.specs.Unread.{Begins, rows_from, width_of};
+
+use crate::lending::Lending;
+use crate::source::Source;
+use kq_piecewise::Relation;
+use kq_rows::Rows;
+use kq_value::Memory;
+use std::alloc::AllocError;
+
+/// Rows are one source, and each extent is one.
+#[derive(Drop)]
+pub(crate) enum Place {
+    Own(Rows),
+    Lent(Lending),
+}
+
+/// The place of a row: the number of its source, and how many rows of that stand before it.
+#[derive(Clone, Copy)]
+pub(crate) struct Spot {
+    pub source: usize,
+    pub row: usize,
+}
+
+impl Place {
+    /// The number of sources.
+    pub fn len(&self) -> usize
+        ensures { result ≡ length (sources_in self.now) }
+    {
+        match self {
+            Place::Own(_) => 1,
+            Place::Lent(extents) => extents.len(),
+        }
+    }
+
+    pub fn source(&self, at: usize) -> Source<'_>
+        requires { at < length (sources_in self.now) }
+        ensures { slice_get (sources_in self.now) at ≡ Some (source_rows result) }
+    {
+        match self {
+            Place::Own(rows) => Source::Rows(rows),
+            Place::Lent(extents) => Source::Extent(extents.records_at(at)),
+        }
+    }
+
+    /// The first row from a spot on: sources without any that are left are passed over.
+    pub fn seek(&self, spot: Spot) -> Option<Spot>
+        ensures some { IfSome result (λ s. Begins (sources_in self.now) s.source s.row (rows_from (sources_in self.now) spot.source spot.row)) }
+        ensures none { IfNone result (rows_from (sources_in self.now) spot.source spot.row ≡ []) }
+    {
+        let mut row = spot.row;
+        for source in spot.source..self.len() {
+            if row < self.source(source).len() {
+                return Some(Spot { source, row });
+            }
+            row = 0;
+        }
+        None
+    }
+
+    /// Refuses rows of several widths. There are none, but the contracts of `Rows` don't say so.
+    pub fn check_width(&self) -> Result<(), Memory>
+        requires { IsReadable self.now }
+        ensures { IfOk result (λ _. All (HasWidth (width_of (rows_in self.now))) (rows_in self.now)) }
+    {
+        match self {
+            Place::Own(rows) if !is_even(rows) => Err(AllocError),
+            _ => Ok(()),
+        }
+    }
+}
+
+// Whether the rows are of one width.
+fn is_even(rows: &Rows) -> bool
+    ensures { IsTrue result → All (HasWidth (width_of rows.now)) rows.now }
+{
+    rows.is_empty() || rows.has_width(rows.row(0).len())
+}

@@ -1,0 +1,70 @@
+// Rows that are yet to be read.
+ghost use Rattle.std.specs.Prelude.{◌≡◌, IfOk};
+ghost use Rattle.kq_lent.specs.Held.{IsReadable, rows_in};
+ghost use Rattle.kq_lent.specs.Reads.{Reads};
+ghost use Rattle.kq_lent.specs.Unread.{width_of};
+
+use crate::place::{Place, Spot};
+use crate::source::Source;
+use kq_piecewise::Relation;
+use kq_stretch::Piece;
+use kq_value::Memory;
+use std::marker::Model;
+
+/// The most rows of a part.
+const PART: usize = 4096;
+
+/// Rows as they are read in parts. Contracts see those that are left, and how many cells each row has.
+#[derive(Drop)]
+pub(crate) struct Unread<'a> {
+    place: &'a Place,
+    spot: Spot,
+}
+
+impl<'a> Model for Unread<'a> {
+    ghost use Rattle.std.specs.Coded.{codes};
+    ghost use Rattle.kq_value.specs.contracts.value.Value as cell;
+    ghost use Rattle.kq_lent.specs.Unread.{UnreadView};
+
+    ghost Value = { UnreadView };
+
+    ghost coded = { Prim.hlevel (codes, cell.the_row.coded) };
+
+    ghost use Rattle.kq_lent.specs.Held.{rows_in, sources_in, IsReadable};
+    ghost use Rattle.kq_lent.specs.Unread.{rows_from, width_of};
+
+    ghost view = { λ u. record { rows = rows_from (sources_in u.place.now) u.spot.source u.spot.row; width = width_of (rows_in u.place.now) } };
+
+    ghost invariant = { λ u. IsReadable u.place.now };
+}
+
+impl<'a> Unread<'a> {
+    pub fn new(place: &'a Place) -> Unread<'a>
+        requires { IsReadable place.now }
+        ensures rows { result.rows ≡ rows_in place.now }
+    {
+        Unread {
+            place,
+            spot: Spot { source: 0, row: 0 },
+        }
+    }
+
+    /// The next rows, of one source and at most a few thousand, or none where all have been read.
+    pub fn next_part(&mut self) -> Result<Option<Piece<Source<'a>>>, Memory>
+        ensures { IfOk result (Reads self.old self.new) }
+    {
+        self.place.check_width()?;
+        match self.place.seek(self.spot) {
+            Some(spot) => {
+                let source = self.place.source(spot.source);
+                let to = source.len().min(spot.row + PART);
+                self.spot = Spot {
+                    source: spot.source,
+                    row: to,
+                };
+                Ok(Some(Piece::Part(source, spot.row, to)))
+            }
+            None => Ok(None),
+        }
+    }
+}
