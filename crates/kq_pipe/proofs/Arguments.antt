@@ -1,15 +1,16 @@
 -- The arguments of aggregates over rows.
-use Rattle.std.proofs.Common.{◌≡◌, ◌<◌, ◌+◌, ◌-◌, ℕ, suc, List, [], ◌∷◌, ◌++◌, drop, get_or, length, map, take, Result, Ok, Err, refl, sym, ap, ◌∙◌, subst, arith, append-nil, length-append}
+use Rattle.std.proofs.Common.{◌≡◌, ◌<◌, ◌+◌, ◌-◌, ℕ, suc, List, [], ◌∷◌, ◌++◌, drop, get_or, length, inl, inr, map, take, Option, Some, None, Err, refl, sym, ap, ◌∙◌, subst, arith, append-nil, length-append}
 use Rattle.std.proofs.Math.Seq.{drop-cons}
-use Rattle.std.specs.List.{All}
-use Rattle.std.proofs.lemmas.List.{length-drop, length-map, length-take, take_all}
+use Rattle.std.specs.List.{All, slice_get}
+use Rattle.std.proofs.lemmas.List.{get_or_past, length-drop, length-map, length-take, take_all}
+use Rattle.std.proofs.lemmas.Option.{slice_get_cases}
 use Rattle.std.proofs.lemmas.List.Elements.{All-cons, All-nil}
 use Rattle.kq_agg.specs.Aggregates.{aggregate_kind}
 use Rattle.kq_computed.specs.Computed.{Answers, AnswersAs, Computed, Is, Overflow, and_then, each}
 use Rattle.kq_computed.specs.declared.fault.EvalFault.{EvalFault}
 use Rattle.kq_computed.specs.declared.fault.EvalFault.TheVariants as fault
 use Rattle.kq_expr.specs.Terms.{Term}
-use Rattle.kq_group.specs.Grouped.{Aggregating as Aggregated, FitArgs, FitsArgs, Grouped, IsGrouped}
+use Rattle.kq_group.specs.Grouped.{FitArgs, FitsArgs}
 use Rattle.kq_plan.specs.Fits.{ty_of}
 use Rattle.kq_plan.specs.Plans.{Aggregating, rows_counted, summed, least_of, greatest_of, at_greatest, at_least, any_of, set_of}
 use Rattle.kq_reshape.specs.Cells.{cell_at}
@@ -18,10 +19,24 @@ use Rattle.kq_rows.specs.Chunks.{HasWidth}
 use Rattle.kq_scalar.specs.Val.{Surroundings, meaning}
 use Rattle.kq_value.specs.declared.schema.Field.{Field}
 use Rattle.kq_value.specs.declared.ty.Ty.{Ty}
-use Rattle.kq_pipe.specs.Grouping.{Comes, Summarized, all_made, arguments_at, arguments_over, beside, columns_made, columns_taken, terms_taken, under}
+use Rattle.kq_value.specs.declared.ty.Ty.TheVariants as ty
+use Rattle.kq_value.specs.declared.value.Value.{Value}
+use Rattle.kq_value.specs.declared.value.Value.TheVariants.{Null}
+use Rattle.kq_pipe.specs.Grouping.{all_made, arguments_at, arguments_over, beside, columns_made, columns_taken, terms_taken, under}
 use Rattle.kq_piecewise.specs.Operators.{values_at}
-use Rattle.kq_pipe.specs.Operators.{AnswersOne}
 use Rattle.kq_pipe.specs.Outcomes.{Row}
+
+-- ---- cells
+
+no_cell : (v : Value) → None ≡ Some v → ⊥
+no_cell v e = absurd cc
+
+pub null_past : (row : Row) (i : ℕ) (o : Option Value) → o ≡ slice_get row i → o ≡ None → Null ty.Long ≡ cell_at row i
+null_past row i o at none =
+    elim (slice_get_cases row i).1 [
+      | inl got ↦ absurd (no_cell got.0 (sym none ∙ at ∙ got.2))
+      | inr past ↦ sym (get_or_past row i (Null ty.Long) past.0)
+    ]
 
 -- ---- what comes one by one
 
@@ -138,39 +153,6 @@ each_stops {X} {A} {B} {C} see h f xs i x made met within at whole over =
     let rest : drop i xs ≡ x ∷ drop (suc i) xs = drop-cons xs i x within ∙ (λ j. sym at j ∷ drop (suc i) xs) in
     each_fails see f (map h xs) made (h x) (map h (drop (suc i) xs)) met (whole ∙ ap (λ (l : List X). and_then (each f (map h l)) (λ others. Is (made ++ others))) rest) over
 
--- what fails first, fails all
-pub Comes-fails : {A B C : Type 0} (see : C → A) (c : Computed A) (these : A → Computed B → Type 0) (met : EvalFault) → AnswersAs see c (Err met) → AnswersOne (Comes c these) (Err met)
-Comes-fails {A} {B} {C} see c these fault.Overflow is = subst (λ (d : Computed A). Comes d these Overflow) (sym is) refl
-Comes-fails {A} {B} {C} see c these fault.Memory is = tt
-
-pub Comes-is : {A B : Type 0} (c : Computed A) (x : A) (these : A → Computed B → Type 0) (r : Result B EvalFault) → c ≡ Is x → AnswersOne (these x) r → AnswersOne (Comes c these) r
-Comes-is {A} {B} c x these (Ok y) is so = subst (λ (d : Computed A). Comes d these (Is y)) (sym is) so
-Comes-is {A} {B} c x these (Err fault.Overflow) is so = subst (λ (d : Computed A). Comes d these Overflow) (sym is) so
-Comes-is {A} {B} c x these (Err fault.Memory) is so = tt
-
-pub Grouped-answers : (width : ℕ) (aggregates : List Aggregated) (keys : List Row) (args : List (List Row)) (r : Result (List Row) EvalFault) → IsGrouped width aggregates keys args r → AnswersOne (Grouped width aggregates keys args) r
-Grouped-answers width aggregates keys args (Ok rows) so = so
-Grouped-answers width aggregates keys args (Err fault.Overflow) so = so
-Grouped-answers width aggregates keys args (Err fault.Memory) so = tt
-
--- ---- the rows of groups
-
-pub summarized_is : (es : List Term) (gs : List Aggregating) (cs : List Field) (s : Surroundings) (rows keys : List Row) (args : List (List Row)) (r : Result (List Row) EvalFault) → each (values_at es s) rows ≡ Is keys
-    → each (arguments_over s rows) gs ≡ Is args → IsGrouped (length es) (under gs (map ty_of (drop (length es) cs))) keys args r → AnswersOne (Summarized es gs cs s rows) r
-summarized_is es gs cs s rows keys args r one more so =
-    Comes-is (each (values_at es s) rows) keys _ r one (Comes-is (each (arguments_over s rows) gs) args _ r more (Grouped-answers (length es) (under gs (map ty_of (drop (length es) cs))) keys args r so))
-
-pub keys_fail : (es : List Term) (gs : List Aggregating) (cs : List Field) (s : Surroundings) (rows : List Row) (met : EvalFault) → Answers (each (values_at es s) rows) (Err met) → AnswersOne (Summarized es gs cs s rows) (Err met)
-keys_fail es gs cs s rows met over = Comes-fails (λ (those : List Row). those) (each (values_at es s) rows) _ met (Answers-as met over)
-  where
-    Answers-as : (f : EvalFault) → Answers (each (values_at es s) rows) (Err f) → AnswersAs (λ (those : List Row). those) (each (values_at es s) rows) (Err f)
-    Answers-as fault.Overflow is = is
-    Answers-as fault.Memory is = tt
-
-pub args_fail : {C : Type 0} (see : C → List (List Row)) (es : List Term) (gs : List Aggregating) (cs : List Field) (s : Surroundings) (rows keys : List Row) (met : EvalFault) → each (values_at es s) rows ≡ Is keys
-    → AnswersAs see (each (arguments_over s rows) gs) (Err met) → AnswersOne (Summarized es gs cs s rows) (Err met)
-args_fail {C} see es gs cs s rows keys met one over = Comes-is (each (values_at es s) rows) keys _ (Err met) one (Comes-fails see (each (arguments_over s rows) gs) _ met over)
-
 -- ---- what the groups ask of the rows
 
 pub keys_wide : (es : List Term) (s : Surroundings) (rows keys : List Row) → each (values_at es s) rows ≡ Is keys → All (HasWidth (length es)) keys
@@ -187,12 +169,3 @@ types_left cs n m long = let a = length-map (drop n cs) ty_of in let b = length-
 -- the columns behind a place
 pub columns_behind : (cs : List Field) (n : ℕ) → take (length cs - n) (drop n cs) ≡ drop n cs
 columns_behind cs n = take_all (length cs - n) (drop n cs) (let a = length-drop n cs in omega (arith, a))
-
--- the same as the code has them
-pub summarized_by : (es : List Term) (gs : List Aggregating) (cs : List Field) (s : Surroundings) (rows keys : List Row) (args those : List (List Row)) (n : ℕ) (aggregates : List Aggregated) (r : Result (List Row) EvalFault)
-    → each (values_at es s) rows ≡ Is keys → each (arguments_over s rows) gs ≡ Is args → n ≡ length es → aggregates ≡ under gs (map ty_of (drop n cs)) → those ≡ args → IsGrouped n aggregates keys those r
-    → AnswersOne (Summarized es gs cs s rows) r
-summarized_by es gs cs s rows keys args those n aggregates r one more width made same so =
-    summarized_is es gs cs s rows keys args r one more
-    (subst (λ (m : ℕ). IsGrouped m (under gs (map ty_of (drop m cs))) keys args r) width
-    (subst (λ (as_made : List Aggregated). IsGrouped n as_made keys args r) made (subst (λ (as_given : List (List Row)). IsGrouped n aggregates keys as_given r) same so)))

@@ -7,7 +7,14 @@ pub mod TypedRows
 pub mod TypedOutcomes
 pub mod TypedReshaped
 pub mod Arguments
+pub mod Arriving
+pub mod Regrouped
 pub mod TypedGroups
 pub mod TypedSteps
 pub mod Widths
 pub mod Typed
+pub mod Stretched
+pub mod Agreed
+pub mod Midway
+pub mod Links
+pub mod Sharing

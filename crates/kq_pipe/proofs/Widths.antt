@@ -1,23 +1,21 @@
 -- The widths of the rows that a fitting step takes.
-use Rattle.std.proofs.Common.{◌≡◌, ◌<◌, ◌+◌, ℕ, List, [], Option, Vec, Global, length, map, subst, sym, ap, ◌∙◌, arith, length-append}
+use Rattle.std.proofs.Common.{◌≡◌, ◌<◌, ◌+◌, ℕ, List, [], ◌∷◌, ◌++◌, Option, Vec, Global, length, map, subst, sym, ap, ◌∙◌, arith, length-append}
 use Rattle.std.specs.List.{All}
 use Rattle.std.proofs.lemmas.List.{get_or-map, length-map}
-use Rattle.kq_expr.specs.Terms.{Term}
 use Rattle.kq_plan.specs.declared.work.JoinKind.{JoinKind}
 use Rattle.kq_plan.specs.declared.work.LeafKind.{LeafKind}
-use Rattle.kq_plan.specs.Fits.{FitsLeaf, FitsStep, GivesColumns, lets_of}
+use Rattle.kq_plan.specs.Fits.{FitAfter, FitsLeaf, FitsStep, GivesColumns, lets_of}
 use Rattle.kq_plan.specs.Names.{Known}
-use Rattle.kq_plan.specs.Plans.{Aggregating, Doing, Stepping, cells_seen, expanded, joined, summarized, written, leaf}
-use Rattle.kq_rows.proofs.Typed.{same_width-typed, typed_width}
-use Rattle.kq_rows.specs.Chunks.{HasWidth, same_width}
+use Rattle.kq_plan.specs.Plans.{Doing, Stepping, cells_seen, leaf, written, summarized, joined}
+use Rattle.kq_rows.proofs.Typed.{typed_width}
+use Rattle.kq_rows.specs.Chunks.{HasWidth}
 use Rattle.kq_value.specs.declared.schema.Field.{Field}
-use Rattle.kq_value.specs.declared.ty.Ty.{Ty}
 use Rattle.kq_value.specs.declared.value.Value.{Value}
 use Rattle.kq_pipe.specs.declared.outcome.Outcome.{Outcome}
 use Rattle.kq_pipe.specs.Gives.{World}
-use Rattle.kq_pipe.specs.Grouping.{all_made}
 use Rattle.kq_pipe.specs.Outcomes.{Row, rows_of}
 use Rattle.kq_pipe.specs.Reshaped.{columns_before}
+use Rattle.kq_pipe.specs.Stretches.{HasColumns, last_of}
 use Rattle.kq_pipe.specs.Typed.{IsNext, Stood}
 use Rattle.kq_pipe.proofs.TypedGroups.{all_made_by, length-AreTyped}
 use Rattle.kq_pipe.proofs.TypedOutcomes.{columns_before-given, rows_typed}
@@ -43,13 +41,6 @@ right_wide known w before done s kind i j on next is =
     let fits = joined_fits known w before done s kind i j on next is in
     rows_wide before done j fits.1 next.stood fits.3
 
--- rows whose dynamics are expanded are of one width
-pub expanded_even : (known : List ℕ → Option Known) (w : World) (before : List Stepping) (done : List Outcome) (s : Stepping) (i : ℕ) (e : Term) (at : ℕ) (t : Option Ty) → IsNext known w before done s → s.doing ≡ expanded i e at t
-    → same_width (rows_of done i)
-expanded_even known w before done s i e at t next is =
-    let fits = subst (λ (d : Doing). FitsStep known before d s.columns) is next.fits in
-    same_width-typed fits.0 (rows_of done i) (rows_typed before done i fits.0 next.stood fits.1)
-
 -- the rows of a datatable are as wide as its columns
 pub written_wide : (known : List ℕ → Option Known) (w : World) (before : List Stepping) (done : List Outcome) (s : Stepping) (rows : List Row) → IsNext known w before done s → s.doing ≡ written rows → All (HasWidth (length s.columns)) rows
 written_wide known w before done s rows next is = typed_width s.columns rows (subst (λ (d : Doing). FitsStep known before d s.columns) is next.fits)
@@ -61,14 +52,18 @@ cells_wide rows width wide k d within =
     ap length (sym (get_or-map cells_seen rows k d [] within)) ∙ wide k [] inside
 
 -- a summarize has a column for each key, and those of its aggregates
-pub summarized_wide : (known : List ℕ → Option Known) (w : World) (before : List Stepping) (done : List Outcome) (s : Stepping) (i : ℕ) (es : List Term) (gs : List Aggregating) → IsNext known w before done s → s.doing ≡ summarized i es gs
-    → length s.columns ≡ length es + all_made gs
-summarized_wide known w before done s i es gs next doing =
-    let (from, gives, ks, made, is, are, plain, fit) = subst (λ (d : Doing). FitsStep known before d s.columns) doing next.fits in
+has_columns : (known : List ℕ → Option Known) (before : List Stepping) (d : Doing) (cs : List Field) → FitsStep known before d cs → HasColumns d cs
+has_columns known before (summarized i es gs) cs (from, gives, ks, made, is, are, plain, fit) =
     let a = length-AreTyped (lets_of before) from es ks are in
     let b = all_made_by (lets_of before) from gs made fit in
-    let c : length s.columns ≡ length ks + length made = ap length is ∙ length-append ks made in
+    let c : length cs ≡ length ks + length made = ap length is ∙ length-append ks made in
     omega (arith, a, b, c)
+has_columns known before d cs fits = tt
+
+pub last_columns : (known : List ℕ → Option Known) (before ss : List Stepping) → FitAfter known before ss → HasColumns (last_of ss).doing (last_of ss).columns
+last_columns known before [] fits = tt
+last_columns known before (s ∷ []) fits = has_columns known before s.doing s.columns fits.0
+last_columns known before (s ∷ t ∷ ss) fits = last_columns known (before ++ s ∷ []) (t ∷ ss) fits.1
 
 -- a leaf is known as it is asked for
 pub leaf_fits : (known : List ℕ → Option Known) (w : World) (before : List Stepping) (done : List Outcome) (s : Stepping) (kind : LeafKind) (name : List ℕ) → IsNext known w before done s → s.doing ≡ leaf kind name

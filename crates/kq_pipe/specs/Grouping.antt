@@ -1,9 +1,12 @@
 -- What a summarize gives of rows.
-use Rattle.std.specs.Prelude.{◌≡◌, false, ℕ, suc, ◌+◌, List, [], ◌∷◌, ◌++◌, drop, length, map, take}
+use Rattle.std.specs.Prelude.{◌≡◌, false, ℕ, suc, ◌+◌, List, [], ◌∷◌, ◌++◌, drop, length, map, take, Result, Ok, Err}
 use Rattle.kq_agg.specs.Aggregates.{aggregate_kind}
 use Rattle.kq_computed.specs.Computed.{Computed, Is, Overflow, and_then, each}
+use Rattle.kq_computed.specs.declared.fault.EvalFault.{EvalFault}
+use Rattle.kq_computed.specs.declared.fault.EvalFault.TheVariants as fault
 use Rattle.kq_expr.specs.Terms.{Term}
 use Rattle.kq_group.specs.Grouped.{Aggregating as Aggregated, Grouped}
+use Rattle.kq_group.specs.Groups.{Adds, Grouping}
 use Rattle.kq_plan.specs.Fits.{ty_of}
 use Rattle.kq_plan.specs.Plans.{Aggregating, rows_counted, summed, least_of, greatest_of, at_greatest, at_least, any_of, set_of}
 use Rattle.kq_reshape.specs.Distinct.{chosen}
@@ -82,3 +85,15 @@ pub record GroupsTo (es : List Term) (gs : List Aggregating) (cs : List Field) (
   pub came : Computed (List Row)
   pub grouped_so : Summarized es gs cs s rows came
   pub is : o ≡ in_stage stage false came
+
+-- ---- pieces of rows
+
+-- the keys of rows, and for each aggregate its arguments, or an overflow where one of them overflows
+abbrev pub keyed : List Term → List Aggregating → Surroundings → List Row → Computed (List Row × List (List Row))
+keyed es gs s rows = and_then (each (values_at es s) rows) (λ keys. and_then (each (arguments_over s rows) gs) (λ args. Is (keys, args)))
+
+-- the rows came to groups, or a key or an argument overflows on one of them
+abbrev pub ComeTo : List Term → List Aggregating → Surroundings → List Row → Grouping → Grouping → Result (Unit {0}) EvalFault → Type 0
+ComeTo es gs s rows old new (Ok done) = (keys : List Row) × (args : List (List Row)) × (keyed es gs s rows ≡ Is (keys, args)) × Adds keys args old new
+ComeTo es gs s rows old new (Err fault.Overflow) = keyed es gs s rows ≡ Overflow
+ComeTo es gs s rows old new (Err fault.Memory) = Unit {0}

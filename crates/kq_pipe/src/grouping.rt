@@ -1,74 +1,49 @@
 // Groups of rows, and what aggregates make of them.
-ghost use Rattle.std.specs.Prelude.{◌≡◌, ◌<◌, ◌≤◌, ◌+◌, ◌++◌, ◌∷◌, [], IfOk, OnOk, drop, length, map, slice_index_or};
+ghost use Rattle.std.specs.Prelude.{◌≡◌, ◌<◌, ◌≤◌, ◌+◌, ◌++◌, ◌∷◌, [], IfOk, OnOk, drop, length, map};
 ghost use Rattle.std.specs.List.{All};
 ghost use Rattle.kq_computed.specs.Computed.{Answers, AnswersAs, each};
 ghost use Rattle.kq_expr.specs.Terms.{term_of};
-ghost use Rattle.kq_group.specs.Grouped.{FitArgs, Grouped};
+ghost use Rattle.kq_group.specs.Groups.{IsWhole};
 ghost use Rattle.kq_plan.specs.Fits.{ty_of};
 ghost use Rattle.kq_plan.specs.Plans.{aggregating_of};
 ghost use Rattle.kq_reshape.specs.Cells.{cell_at};
 ghost use Rattle.kq_reshape.specs.Distinct.{chosen};
-ghost use Rattle.kq_rows.specs.Chunks.{HasWidth};
+ghost use Rattle.kq_rows.specs.Chunks.{HasWidth, row_at};
 ghost use Rattle.kq_scalar.specs.Val.{surroundings};
-ghost use Rattle.kq_pipe.specs.Grouping.{GroupsTo, Summarized, all_made, arguments_over, beside, columns_made, columns_taken, terms_taken, under};
-ghost use Rattle.kq_piecewise.specs.Operators.{values_at};
-ghost use Rattle.kq_pipe.specs.Operators.{AnswersOne};
+ghost use Rattle.kq_pipe.specs.Grouping.{ComeTo, all_made, arguments_over, beside, columns_made, columns_taken, terms_taken, under};
 
-use crate::outcome::Outcome;
 use crate::places::row_in;
 use kq_agg::Kind;
 use kq_computed::EvalFault;
 use kq_expr::Expr;
-use kq_group::{Aggregated, group_rows};
-use kq_lent::Held;
-use kq_piecewise::map_rows;
+use kq_group::{Aggregated, Groups};
+use kq_piecewise::{Relation, map_rows};
 use kq_plan::Aggregate;
 use kq_rows::Rows;
 use kq_value::{Field, Memory, Ty, Value};
-use std::alloc::{AllocError, Global};
+use std::alloc::Global;
 use std::slice::from_ref;
 
-// A row for each group of the rows, by the values of the keys.
-pub(crate) fn summarize(
-    alloc: Global,
-    stage: u32,
-    rows: &Held,
-    keys: &[Expr],
-    aggregates: &[Aggregate],
-    columns: &[Field],
-    lets: &[Value],
-    now: i64,
-) -> Result<Outcome, Memory>
-    requires { length columns.now ≡ length keys.now + all_made (map aggregating_of aggregates.now) }
-    ensures { IfOk result (GroupsTo (map term_of keys.now) (map aggregating_of aggregates.now) columns.now (surroundings now lets.now) rows.now stage) }
-{
-    let gathered = rows.gather(alloc)?;
-    match summarized(alloc, gathered.rows(), keys, aggregates, columns, lets, now) {
-        Ok(rows) => Ok(Outcome::Table {
-            ordered: false,
-            rows: Held::own(rows),
-        }),
-        Err(EvalFault::Overflow) => Ok(Outcome::Overflow { stage }),
-        Err(EvalFault::Memory) => Err(AllocError),
-    }
-}
+// ---- a piece of rows
 
-fn summarized(
+// Takes in a piece of rows, where no key and no argument overflows on one of them. After a refusal the groups are to be dropped.
+pub(crate) fn add_piece<R: Relation>(
     alloc: Global,
-    rows: &Rows,
+    groups: &mut Groups,
+    piece: &R,
     keys: &[Expr],
     aggregates: &[Aggregate],
-    columns: &[Field],
     lets: &[Value],
     now: i64,
-) -> Result<Rows, EvalFault>
-    requires { length columns.now ≡ length keys.now + all_made (map aggregating_of aggregates.now) }
-    ensures { AnswersOne (Summarized (map term_of keys.now) (map aggregating_of aggregates.now) columns.now (surroundings now lets.now) rows.now) result }
+) -> Result<(), EvalFault>
+    requires whole { IsWhole groups.old }
+    requires width { groups.old.width ≡ length keys.now }
+    requires each { length groups.old.states ≡ length aggregates.now }
+    ensures { ComeTo (map term_of keys.now) (map aggregating_of aggregates.now) (surroundings now lets.now) (R.rows piece.now) groups.old groups.new result }
 {
-    let made = typed(alloc, aggregates, &columns[keys.len()..])?;
-    match map_rows(alloc, rows, keys, lets, now) {
-        Ok(values) => match all_arguments(alloc, rows, aggregates, lets, now) {
-            Ok(args) => group_rows(alloc, keys.len(), &values, args.as_slice(), made.as_slice()),
+    match map_rows(alloc, piece, keys, lets, now) {
+        Ok(values) => match all_arguments(alloc, piece, aggregates, lets, now) {
+            Ok(args) => Ok(groups.add(alloc, &values, args.as_slice())?),
             Err(fault) => Err(fault),
         },
         Err(fault) => Err(fault),
@@ -78,14 +53,14 @@ fn summarized(
 // ---- the arguments of aggregates
 
 // For each aggregate its arguments over the rows.
-fn all_arguments(
+fn all_arguments<R: Relation>(
     alloc: Global,
-    rows: &Rows,
+    rows: &R,
     aggregates: &[Aggregate],
     lets: &[Value],
     now: i64,
 ) -> Result<Vec<Rows>, EvalFault>
-    ensures { AnswersAs (λ args. args.items) (each (arguments_over (surroundings now lets.now) rows.now) (map aggregating_of aggregates.now)) result }
+    ensures { AnswersAs (λ args. args.items) (each (arguments_over (surroundings now lets.now) (R.rows rows.now)) (map aggregating_of aggregates.now)) result }
 {
     let mut args = Vec::with_capacity(alloc, aggregates.len())?;
     for aggregate in aggregates {
@@ -94,14 +69,14 @@ fn all_arguments(
     Ok(args)
 }
 
-fn arguments(
+fn arguments<R: Relation>(
     alloc: Global,
-    rows: &Rows,
+    rows: &R,
     aggregate: &Aggregate,
     lets: &[Value],
     now: i64,
 ) -> Result<Rows, EvalFault>
-    ensures { Answers (arguments_over (surroundings now lets.now) rows.now (aggregating_of aggregate.now)) result }
+    ensures { Answers (arguments_over (surroundings now lets.now) (R.rows rows.now) (aggregating_of aggregate.now)) result }
 {
     let exprs = exprs_in(aggregate);
     match map_rows(alloc, rows, exprs, lets, now) {
@@ -142,16 +117,16 @@ fn columns_in(aggregate: &Aggregate) -> &[usize]
 }
 
 // The values of rows, each with the cells of these columns of its row behind it.
-fn with_cells(
+fn with_cells<R: Relation>(
     alloc: Global,
     values: Rows,
     width: usize,
-    rows: &Rows,
+    rows: &R,
     columns: &[usize],
 ) -> Result<Rows, Memory>
-    requires along { length values ≡ length rows.now }
+    requires along { length values ≡ length (R.rows rows.now) }
     requires wide { All (HasWidth width) values }
-    ensures { IfOk result (λ both. both ≡ beside columns.now values rows.now) }
+    ensures { IfOk result (λ both. both ≡ beside columns.now values (R.rows rows.now)) }
 {
     match columns {
         [] => Ok(values),
@@ -159,72 +134,83 @@ fn with_cells(
     }
 }
 
-fn append_cells(
+fn append_cells<R: Relation>(
     alloc: Global,
     values: &Rows,
     width: usize,
-    rows: &Rows,
+    rows: &R,
     columns: &[usize],
 ) -> Result<Rows, Memory>
-    requires along { length values.now ≡ length rows.now }
+    requires along { length values.now ≡ length (R.rows rows.now) }
     requires wide { All (HasWidth width) values.now }
-    ensures { IfOk result (λ both. both ≡ beside columns.now values.now rows.now) }
+    ensures { IfOk result (λ both. both ≡ beside columns.now values.now (R.rows rows.now)) }
 {
     let mut both = Rows::new(alloc);
+    let mut row = Vec::new(alloc);
     for i in 0..rows.len() {
-        let cells = row_with(alloc, row_in(values, i), row_in(rows, i), columns)?;
-        push_cells(&mut both, cells, width, columns)?;
+        fill_row(&mut row, row_in(values, i), rows, i, columns)?;
+        push_row(&mut both, &mut row, width, columns)?;
     }
     Ok(both)
 }
 
-// Values, and behind them the cells of these columns of a row.
-fn row_with(
-    alloc: Global,
+// Puts values into the row, which is empty, and behind them the cells of these columns of the row at a place.
+fn fill_row<R: Relation>(
+    row: &mut Vec<Value>,
     values: &[Value],
-    row: &[Value],
+    rows: &R,
+    i: usize,
     columns: &[usize],
-) -> Result<Vec<Value>, Memory>
-    ensures { IfOk result (λ cells. cells.items ≡ values.now ++ chosen columns.now row.now) }
+) -> Result<(), Memory>
+    requires place { i < length (R.rows rows.now) }
+    requires empty { row.old.items ≡ [] }
+    ensures { OnOk result (row.new.items ≡ values.now ++ chosen columns.now (row_at (R.rows rows.now) i)) }
 {
-    let mut cells = Vec::from_clones(alloc, values)?;
+    put_copies(row, values)?;
     for column in columns {
-        cells.push(cell_in(row, *column)?)?;
+        row.push(cell_in(rows, i, *column)?)?;
     }
-    Ok(cells)
+    Ok(())
 }
 
-// A copy of the cell of a column, and a null past the end.
-fn cell_in(row: &[Value], column: usize) -> Result<Value, Memory>
-    ensures { IfOk result (λ v. v ≡ cell_at row.now column) }
+// Copies of these values, after those that are there.
+fn put_copies(row: &mut Vec<Value>, values: &[Value]) -> Result<(), Memory>
+    ensures { OnOk result (row.new.items ≡ row.old.items ++ values.now) }
 {
-    if column < row.len() {
-        row[column].clone_in()
-    } else {
-        Ok(Value::Null(Ty::Long))
+    row.extend_from_slice(values)
+}
+
+// A copy of the cell of a row in a column, and a null past the end.
+fn cell_in<R: Relation>(rows: &R, i: usize, column: usize) -> Result<Value, Memory>
+    requires { i < length (R.rows rows.now) }
+    ensures { IfOk result (λ v. v ≡ cell_at (row_at (R.rows rows.now) i) column) }
+{
+    match rows.cell(i, column)? {
+        Some(cell) => Ok(cell),
+        None => Ok(Value::Null(Ty::Long)),
     }
 }
 
-// Puts a row last, of so many cells and those of these columns.
-fn push_cells(
+// Puts a row last, of so many cells and those of these columns. The row is empty then.
+fn push_row(
     rows: &mut Rows,
-    cells: Vec<Value>,
+    row: &mut Vec<Value>,
     width: usize,
     columns: &[usize],
 ) -> Result<(), Memory>
     requires rows { All (HasWidth (width + length columns.now)) rows.old }
-    requires row { length cells.items ≡ width + length columns.now }
-    ensures ok { OnOk result (rows.new ≡ rows.old ++ cells.items ∷ []) }
+    requires row { length row.old.items ≡ width + length columns.now }
+    ensures ok { OnOk result (rows.new ≡ rows.old ++ row.old.items ∷ []) }
     ensures wide { OnOk result (All (HasWidth (width + length columns.now)) rows.new) }
+    ensures left { OnOk result (row.new.items ≡ []) }
 {
-    let mut cells = cells;
-    rows.push_from(&mut cells)
+    rows.push_from(row)
 }
 
 // ---- the columns of aggregates
 
 // The aggregates beside the types of their columns.
-fn typed(
+pub(crate) fn typed(
     alloc: Global,
     aggregates: &[Aggregate],
     columns: &[Field],

@@ -1,4 +1,4 @@
-//! What a plan gives over a world: its steps run one after another. How a query becomes a plan is left to the crates beside it, and where the rows of a name come from to those above.
+//! What a plan gives over a world: its steps run one after another, and rows that only the next step takes flow into it by pieces. How a query becomes a plan is left to the crates beside it, and where the rows of a name come from to those above.
 #![tactic(auto)]
 
 mod grouping;
@@ -8,9 +8,12 @@ mod outcome;
 mod places;
 mod reshaped;
 mod run;
+mod shared;
 mod single;
+mod sinks;
 mod sort;
 mod step;
+mod stretch;
 mod terms;
 
 pub use leaves::Leaves;

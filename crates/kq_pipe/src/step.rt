@@ -1,23 +1,21 @@
 // One step of a plan.
-ghost use Rattle.std.specs.Prelude.{◌≡◌, [], IfOk, false, length, map};
+ghost use Rattle.std.specs.Prelude.{◌≡◌, [], IfOk, None, false, length, map};
 ghost use Rattle.std.specs.List.{All};
-ghost use Rattle.kq_computed.specs.Computed.{each};
 ghost use Rattle.kq_expr.specs.Terms.{term_of};
 ghost use Rattle.kq_plan.specs.Fits.{FitsLeaf};
-ghost use Rattle.kq_plan.specs.Plans.{cells_seen, sorting_of, stepping_of};
+ghost use Rattle.kq_plan.specs.Plans.{cells_seen, doing_of, sorting_of, stepping_of};
 ghost use Rattle.kq_scalar.specs.Val.{meaning, surroundings};
 ghost use Rattle.kq_pipe.specs.Gives.{Case, Handed, SortsTo, TopsTo};
 ghost use Rattle.kq_pipe.specs.Outcomes.{cells_of};
+ghost use Rattle.kq_pipe.specs.Stretches.{flows_from};
 ghost use Rattle.kq_pipe.specs.Typed.{IsNext};
-ghost use Rattle.kq_piecewise.specs.Operators.{filtered, values_at};
-ghost use Rattle.kq_pipe.specs.Operators.{AnswersOne, Taken, cell_in_stage, in_stage, single, tally};
+ghost use Rattle.kq_pipe.specs.Operators.{Taken, cell_in_stage, in_stage, single};
 
-use crate::grouping::summarize;
 use crate::joined::{fields_at, join};
 use crate::leaves::Leaves;
 use crate::outcome::{Outcome, cells, order_at, rows_at};
-use crate::reshaped::{distinct, expand, range, union};
-use crate::single::{single_row, tally_row, written_rows};
+use crate::reshaped::{distinct, range, union};
+use crate::single::{single_row, written_rows};
 use crate::sort::{sort_rows, top_rows};
 use crate::terms::value_of;
 use kq_computed::EvalFault;
@@ -28,7 +26,7 @@ use kq_rows::Rows;
 use kq_value::{Field, Memory, Text, Value};
 use std::alloc::{AllocError, Global};
 
-// What a step gives behind these steps, which gave these outcomes.
+// What a step gives behind these steps, which gave these outcomes: one that takes its rows as a whole, if any.
 pub(crate) fn run_step<L: Leaves>(
     alloc: Global,
     before: &[Step],
@@ -38,6 +36,7 @@ pub(crate) fn run_step<L: Leaves>(
     now: i64,
 ) -> Result<Outcome, Memory>
     requires next { IsNext (L.known leaves.now) (L.may_give leaves.now) (map stepping_of before.now) done.now (stepping_of step.now) }
+    requires whole { flows_from (doing_of step.now.work) ≡ None }
     ensures { IfOk result (Case (L.may_give leaves.now) now (map stepping_of before.now) done.now (stepping_of step.now)) }
 {
     let none = Held::own(Rows::new(alloc));
@@ -66,6 +65,7 @@ fn work<L: Leaves>(
     now: i64,
 ) -> Result<Outcome, Memory>
     requires next { IsNext (L.known leaves.now) (L.may_give leaves.now) (map stepping_of before.now) done.now (stepping_of step.now) }
+    requires whole { flows_from (doing_of step.now.work) ≡ None }
     requires none { none.now ≡ [] }
     requires lets { lets.now ≡ cells_of done.now }
     ensures { IfOk result (Case (L.may_give leaves.now) now (map stepping_of before.now) done.now (stepping_of step.now)) }
@@ -76,18 +76,7 @@ fn work<L: Leaves>(
         Work::Row(exprs) => print(alloc, stage, exprs.as_slice(), lets, now),
         Work::Table(rows) => datatable(alloc, rows.as_slice(), step.columns.len()),
         Work::Scalar(expr) => scalar(alloc, stage, expr, lets, now),
-        Work::Where(i, condition) => {
-            let ordered = order_at(done, *i);
-            let rows = rows_at(done, *i, none);
-            filter(alloc, stage, ordered, rows, condition, lets, now)
-        }
-        Work::Project(i, exprs) => {
-            let ordered = order_at(done, *i);
-            let rows = rows_at(done, *i, none);
-            project(alloc, stage, ordered, rows, exprs.as_slice(), lets, now)
-        }
         Work::Take(i, count) => take(alloc, order_at(done, *i), rows_at(done, *i, none), *count),
-        Work::Count(i) => count(alloc, rows_at(done, *i, none)),
         Work::Sort(i, keys) => {
             let rows = rows_at(done, *i, none);
             sort(alloc, stage, rows, keys.as_slice(), lets, now)
@@ -108,20 +97,8 @@ fn work<L: Leaves>(
             on.as_slice(),
         ),
         Work::Union(arms) => union(alloc, done, arms.as_slice(), step.columns.as_slice()),
-        Work::Expand(i, expr, at, ty) => {
-            let rows = rows_at(done, *i, none);
-            expand(alloc, stage, rows, expr, *at, *ty, lets, now)
-        }
-        Work::Summarize(i, keys, aggregates) => summarize(
-            alloc,
-            stage,
-            rows_at(done, *i, none),
-            keys.as_slice(),
-            aggregates.as_slice(),
-            step.columns.as_slice(),
-            lets,
-            now,
-        ),
+        Work::Where(..) | Work::Project(..) | Work::Expand(..) => unreachable!(),
+        Work::Count(..) | Work::Summarize(..) => unreachable!(),
     }
 }
 
@@ -192,48 +169,6 @@ fn scalar(
     }
 }
 
-fn filter(
-    alloc: Global,
-    stage: u32,
-    ordered: bool,
-    rows: &Held,
-    condition: &Expr,
-    lets: &[Value],
-    now: i64,
-) -> Result<Outcome, Memory>
-    ensures { IfOk result (λ o. o ≡ in_stage stage ordered (filtered (term_of condition.now) (surroundings now lets.now) rows.now)) }
-{
-    match rows.filter(alloc, condition, lets, now) {
-        Ok(rows) => Ok(Outcome::Table {
-            ordered,
-            rows: Held::own(rows),
-        }),
-        Err(EvalFault::Overflow) => Ok(Outcome::Overflow { stage }),
-        Err(EvalFault::Memory) => Err(AllocError),
-    }
-}
-
-fn project(
-    alloc: Global,
-    stage: u32,
-    ordered: bool,
-    rows: &Held,
-    exprs: &[Expr],
-    lets: &[Value],
-    now: i64,
-) -> Result<Outcome, Memory>
-    ensures { IfOk result (λ o. o ≡ in_stage stage ordered (each (values_at (map term_of exprs.now) (surroundings now lets.now)) rows.now)) }
-{
-    match rows.map(alloc, exprs, lets, now) {
-        Ok(rows) => Ok(Outcome::Table {
-            ordered,
-            rows: Held::own(rows),
-        }),
-        Err(EvalFault::Overflow) => Ok(Outcome::Overflow { stage }),
-        Err(EvalFault::Memory) => Err(AllocError),
-    }
-}
-
 fn sort(
     alloc: Global,
     stage: u32,
@@ -293,14 +228,4 @@ fn take(alloc: Global, ordered: bool, rows: &Held, count: u64) -> Result<Outcome
             rows,
         })
     }
-}
-
-fn count(alloc: Global, rows: &Held) -> Result<Outcome, Memory>
-    ensures { IfOk result (λ o. o ≡ Outcome.Table false (tally rows.now)) }
-{
-    let rows = tally_row(alloc, rows)?;
-    Ok(Outcome::Table {
-        ordered: false,
-        rows: Held::own(rows),
-    })
 }

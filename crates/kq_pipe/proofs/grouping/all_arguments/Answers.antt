@@ -10,10 +10,10 @@ use Rattle.kq_pipe.proofs.Arguments.{each_stops}
 use Rattle.kq_pipe.proofs.grouping.all_arguments.Goals as goal
 
 pub returns-in_err-arguments : goal.returns-in_err-arguments
-returns-in_err-arguments c =
+returns-in_err-arguments g c =
     let same : to_z w64 (of_z w64 c.args.now) ≡ c.args.now = search (rules, to_z-of_z) in
     let lets = c.args.lets.now in
-    let rows = c.args.rows.now in
+    let rows = (g.R.Relation.rows c.args.rows.now) in
     let all = c.args.aggregates.now in
     let i = c.loop-aggregate.aggregate-index in
     let made = c.loop-aggregate.args.items in

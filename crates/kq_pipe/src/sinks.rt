@@ -1,0 +1,147 @@
+// What takes the rows that come through row operators.
+ghost use Rattle.std.specs.Prelude.{◌≡◌, ◌<◌, ◌+◌, ◌^◌, ◌∷◌, [], IfOk, false, length, map, pos};
+ghost use Rattle.std.specs.List.{All};
+ghost use Rattle.kq_expr.specs.Terms.{term_of};
+ghost use Rattle.kq_group.specs.Groups.{EndsWide, IsWhole, rows_from};
+ghost use Rattle.kq_plan.specs.Plans.{aggregating_of};
+ghost use Rattle.kq_scalar.specs.Val.{surroundings};
+ghost use Rattle.kq_value.specs.declared.value.Value.TheVariants.{Long};
+ghost use Rattle.kq_pipe.specs.declared.outcome.Outcome.TheVariants as outcome;
+ghost use Rattle.kq_pipe.specs.Ended.{EndsAs};
+ghost use Rattle.kq_pipe.specs.Grouping.{GroupsTo, all_made};
+ghost use Rattle.kq_pipe.specs.Operators.{in_stage, tally};
+
+use crate::grouping::{add_piece, typed};
+use crate::outcome::Outcome;
+use kq_computed::EvalFault;
+use kq_expr::Expr;
+use kq_group::Groups;
+use kq_lent::{Flow, Held, Next};
+use kq_piecewise::Relation;
+use kq_plan::Aggregate;
+use kq_rows::Rows;
+use kq_value::{Field, Memory, Value};
+use std::alloc::{AllocError, Global};
+
+/// What became of rows that came, or the number of the operator that failed, from 0.
+#[derive(Drop)]
+pub(crate) enum Ended {
+    Gave(Outcome),
+    Failed(usize),
+}
+
+// The rows themselves.
+pub(crate) fn keep_all(alloc: Global, flow: &mut Flow, ordered: bool) -> Result<Ended, Memory>
+    ensures { IfOk result (EndsAs (λ rows o. o ≡ outcome.Table ordered rows) flow.old.to_come) }
+{
+    let mut rows = Rows::new(alloc);
+    loop {
+        match flow.next()? {
+            Next::Piece(piece) => rows.append(piece.into_rows(alloc)?)?,
+            Next::End => {
+                let rows = Held::own(rows);
+                return Ok(Ended::Gave(Outcome::Table { ordered, rows }));
+            }
+            Next::Failed(n) => return Ok(Ended::Failed(n)),
+        }
+    }
+}
+
+// How many there are.
+pub(crate) fn count_all(alloc: Global, flow: &mut Flow) -> Result<Ended, Memory>
+    ensures { IfOk result (EndsAs (λ rows o. o ≡ outcome.Table false (tally rows)) flow.old.to_come) }
+{
+    let mut count = 0;
+    loop {
+        match flow.next()? {
+            Next::Piece(piece) => count = counted_with(count, piece.len())?,
+            Next::End => return Ok(Ended::Gave(tally_of(alloc, count)?)),
+            Next::Failed(n) => return Ok(Ended::Failed(n)),
+        }
+    }
+}
+
+// The sum of two counts. Expansions make more rows than they take, so that no bound is known. More than 2^63 - 1 rows, which no
+// cell could count, don't come up: at 10^9 a second they take 292 years. They count as a want of memory.
+fn counted_with(count: u64, more: usize) -> Result<u64, Memory>
+    requires before { count < 2 ^ 63 }
+    requires more { more < 2 ^ 63 }
+    ensures sum { IfOk result (λ sum. sum ≡ count + more) }
+    ensures small { IfOk result (λ sum. sum < 2 ^ 63) }
+{
+    let sum = count + more as u64;
+    if sum > i64::MAX as u64 {
+        return Err(AllocError);
+    }
+    Ok(sum)
+}
+
+fn tally_of(alloc: Global, count: u64) -> Result<Outcome, Memory>
+    requires { count < 2 ^ 63 }
+    ensures { IfOk result (λ o. o ≡ outcome.Table false ((Long (pos count) ∷ []) ∷ [])) }
+{
+    let mut row = Vec::new(alloc);
+    row.push(Value::Long(count as i64))?;
+    let mut one = Rows::new(alloc);
+    one.push_from(&mut row)?;
+    Ok(Outcome::Table {
+        ordered: false,
+        rows: Held::own(one),
+    })
+}
+
+// A row for each group of them, or an overflow at this stage.
+pub(crate) fn group_all(
+    alloc: Global,
+    flow: &mut Flow,
+    stage: u32,
+    keys: &[Expr],
+    aggregates: &[Aggregate],
+    columns: &[Field],
+    lets: &[Value],
+    now: i64,
+) -> Result<Ended, Memory>
+    requires { length columns.now ≡ length keys.now + all_made (map aggregating_of aggregates.now) }
+    ensures { IfOk result (EndsAs (λ rows. GroupsTo (map term_of keys.now) (map aggregating_of aggregates.now) columns.now (surroundings now lets.now) rows stage) flow.old.to_come) }
+{
+    let made = typed(alloc, aggregates, &columns[keys.len()..])?;
+    let mut groups = Groups::new(alloc, keys.len(), made.as_slice())?;
+    loop {
+        match flow.next()? {
+            Next::Piece(piece) => {
+                match add_piece(alloc, &mut groups, &piece, keys, aggregates, lets, now) {
+                    Ok(()) => {}
+                    Err(EvalFault::Overflow) => return overflow(flow, stage),
+                    Err(EvalFault::Memory) => return Err(AllocError),
+                }
+            }
+            Next::End => return Ok(Ended::Gave(rows_of(alloc, stage, &groups)?)),
+            Next::Failed(n) => return Ok(Ended::Failed(n)),
+        }
+    }
+}
+
+// An overflow at this stage, unless an operator fails on rows that are still to come: its failure goes first.
+fn overflow(flow: &mut Flow, stage: u32) -> Result<Ended, Memory>
+    ensures { IfOk result (EndsAs (λ rows o. o ≡ outcome.Overflow stage) flow.old.to_come) }
+{
+    match flow.drain()? {
+        Some(n) => Ok(Ended::Failed(n)),
+        None => Ok(Ended::Gave(Outcome::Overflow { stage })),
+    }
+}
+
+fn rows_of(alloc: Global, stage: u32, groups: &Groups) -> Result<Outcome, Memory>
+    requires whole { IsWhole groups.now }
+    requires wide { All EndsWide groups.now.states }
+    ensures { IfOk result (λ o. o ≡ in_stage stage false (rows_from groups.now.states groups.now.keys 0)) }
+{
+    match groups.rows(alloc) {
+        Ok(rows) => Ok(Outcome::Table {
+            ordered: false,
+            rows: Held::own(rows),
+        }),
+        Err(EvalFault::Overflow) => Ok(Outcome::Overflow { stage }),
+        Err(EvalFault::Memory) => Err(AllocError),
+    }
+}

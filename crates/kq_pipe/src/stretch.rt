@@ -1,0 +1,240 @@
+// Stretches: steps in a row that take rows of one another, and run as one.
+ghost use Rattle.std.specs.Prelude.{◌≡◌, ◌+◌, ◌-◌, ◌<◌, ℕ, IfOk, Some, false, true, length, map};
+ghost use Rattle.kq_plan.specs.Plans.{counted, doing_of, stepping_of};
+ghost use Rattle.kq_scalar.specs.Val.{surroundings};
+ghost use Rattle.kq_stretch.specs.Operators.{rowwise_of};
+ghost use Rattle.kq_stretch.specs.Ran.{ran};
+ghost use Rattle.kq_pipe.specs.declared.outcome.Outcome.TheVariants as outcome;
+ghost use Rattle.kq_pipe.specs.Ended.{EndsAs};
+ghost use Rattle.kq_pipe.specs.Gives.{Follows, around};
+ghost use Rattle.kq_pipe.specs.Operators.{tally};
+ghost use Rattle.kq_pipe.specs.Outcomes.{order_of, rows_of};
+ghost use Rattle.kq_pipe.specs.Stretches.{AreNext, Closes, ComesTo, GoesOn, HasColumns, IsStretch, Linked, flows_from, is_rowwise, last_of, operators_of, order_after, stage_at};
+
+use crate::leaves::Leaves;
+use crate::outcome::{Outcome, cells, order_at, rows_at};
+use crate::single::tally_row;
+use crate::sinks::{Ended, count_all, group_all, keep_all};
+use crate::step::run_step;
+use kq_lent::{Flow, Held};
+use kq_plan::{Step, Work};
+use kq_rows::Rows;
+use kq_stretch::Operator;
+use kq_value::{Memory, Value};
+use std::alloc::Global;
+
+fn makes_by_row(step: &Step) -> bool
+    ensures { result ≡ is_rowwise (doing_of step.now.work) }
+{
+    matches!(
+        step.work,
+        Work::Where(..) | Work::Project(..) | Work::Expand(..)
+    )
+}
+
+// The number of the step whose rows may flow into this one.
+fn input(step: &Step) -> Option<usize>
+    ensures { result ≡ flows_from (doing_of step.now.work) }
+{
+    match &step.work {
+        Work::Where(i, ..) | Work::Project(i, ..) | Work::Expand(i, ..) => Some(*i),
+        Work::Count(i) | Work::Summarize(i, ..) => Some(*i),
+        _ => None,
+    }
+}
+
+fn takes(step: &Step, i: usize) -> bool
+    ensures { result ≡ true → flows_from (doing_of step.now.work) ≡ Some i }
+{
+    match input(step) {
+        Some(j) => i == j,
+        None => false,
+    }
+}
+
+// Where the stretch that begins here ends.
+pub(crate) fn stretch_end(steps: &[Step], unshared: &[bool], at: usize) -> usize
+    requires some { at < length steps.now }
+    requires marks { length unshared.now ≡ length steps.now }
+    ensures { IsStretch (map stepping_of steps.now) unshared.now at result }
+{
+    for end in at + 1..steps.len() {
+        if !goes_on(steps, unshared, end) {
+            return end;
+        }
+    }
+    steps.len()
+}
+
+// Whether the rows of the step before this one flow into it, and are unshared.
+fn goes_on(steps: &[Step], unshared: &[bool], end: usize) -> bool
+    requires some { 0 < end }
+    requires within { end < length steps.now }
+    requires marks { length unshared.now ≡ length steps.now }
+    ensures { result ≡ true → GoesOn (map stepping_of steps.now) unshared.now (end - 1) }
+{
+    let m = end - 1;
+    unshared[m] && makes_by_row(&steps[m]) && takes(&steps[end], m)
+}
+
+// What a stretch gives behind these steps, which gave these outcomes: what its last step gives, or the first fault.
+pub(crate) fn run_stretch<L: Leaves>(
+    alloc: Global,
+    before: &[Step],
+    stretch: &[Step],
+    done: &[Outcome],
+    leaves: &L,
+    now: i64,
+) -> Result<Outcome, Memory>
+    requires next { AreNext (L.known leaves.now) (L.may_give leaves.now) (map stepping_of before.now) done.now (map stepping_of stretch.now) }
+    requires linked { Linked (length done.now) (map stepping_of stretch.now) }
+    ensures { IfOk result (Follows (L.may_give leaves.now) now (map stepping_of before.now) done.now (map stepping_of stretch.now) (length done.now + (length stretch.now - 1))) }
+{
+    let first = &stretch[0];
+    match input(first) {
+        Some(i) => flow_from(alloc, stretch, i, done, now),
+        None => run_step(alloc, before, first, done, leaves, now),
+    }
+}
+
+// The same where rows of the step i flow into it.
+fn flow_from(
+    alloc: Global,
+    stretch: &[Step],
+    i: usize,
+    done: &[Outcome],
+    now: i64,
+) -> Result<Outcome, Memory>
+    requires linked { Linked (length done.now) (map stepping_of stretch.now) }
+    requires columns { HasColumns (last_of (map stepping_of stretch.now)).doing (last_of (map stepping_of stretch.now)).columns }
+    ensures { IfOk result (ComesTo (map stepping_of stretch.now) (around now done.now) (order_of done.now i) (ran (operators_of (map stepping_of stretch.now)) (around now done.now) (rows_of done.now i))) }
+{
+    let none = Held::own(Rows::new(alloc));
+    let rows = rows_at(done, i, &none);
+    if is_count(&stretch[0]) {
+        return count(alloc, rows);
+    }
+    let lets = cells(alloc, done)?;
+    flow(
+        alloc,
+        stretch,
+        rows,
+        order_at(done, i),
+        lets.as_slice(),
+        now,
+    )
+}
+
+fn is_count(step: &Step) -> bool
+    ensures { result ≡ true → (i : ℕ) × (doing_of step.now.work ≡ counted i) }
+{
+    matches!(step.work, Work::Count(..))
+}
+
+// How many rows there are, of which none is read.
+fn count(alloc: Global, rows: &Held) -> Result<Outcome, Memory>
+    ensures { IfOk result (λ o. o ≡ outcome.Table false (tally rows.now)) }
+{
+    let rows = tally_row(alloc, rows)?;
+    Ok(Outcome::Table {
+        ordered: false,
+        rows: Held::own(rows),
+    })
+}
+
+// The rows flow by pieces through the row-wise steps, and what comes out into the last.
+fn flow(
+    alloc: Global,
+    stretch: &[Step],
+    rows: &Held,
+    ordered: bool,
+    lets: &[Value],
+    now: i64,
+) -> Result<Outcome, Memory>
+    requires some { 0 < length stretch.now }
+    requires columns { HasColumns (last_of (map stepping_of stretch.now)).doing (last_of (map stepping_of stretch.now)).columns }
+    ensures { IfOk result (ComesTo (map stepping_of stretch.now) (surroundings now lets.now) ordered (ran (operators_of (map stepping_of stretch.now)) (surroundings now lets.now) rows.now)) }
+{
+    let operators = operators(alloc, stretch)?;
+    let mut flow = rows.flow(alloc, operators.as_slice(), lets, now);
+    let last = &stretch[stretch.len() - 1];
+    let ended = close(
+        alloc,
+        &mut flow,
+        last,
+        keeps_order(stretch, ordered),
+        lets,
+        now,
+    )?;
+    match ended {
+        Ended::Gave(outcome) => Ok(outcome),
+        Ended::Failed(n) => Ok(Outcome::Overflow {
+            stage: stage_in(stretch, n),
+        }),
+    }
+}
+
+// The stage of the step of this number.
+#[tactic(auto, using(crate::proofs::Stretched::stage_is))]
+fn stage_in(steps: &[Step], n: usize) -> u32
+    requires { n < length steps.now }
+    ensures { result ≡ stage_at (map stepping_of steps.now) n }
+{
+    steps[n].stage
+}
+
+// The operators of the row-wise steps.
+fn operators<'a>(alloc: Global, stretch: &'a [Step]) -> Result<Vec<Operator<'a>>, Memory>
+    ensures { IfOk result (λ os. map rowwise_of os.items ≡ operators_of (map stepping_of stretch.now)) }
+{
+    let mut operators = Vec::new(alloc);
+    for step in stretch {
+        match &step.work {
+            Work::Where(_, condition) => operators.push(Operator::Keep(condition))?,
+            Work::Project(_, exprs) => operators.push(Operator::Make(exprs.as_slice()))?,
+            Work::Expand(_, expr, at, ty) => operators.push(Operator::Spread(expr, *at, *ty))?,
+            _ => {}
+        }
+    }
+    Ok(operators)
+}
+
+fn keeps_order(stretch: &[Step], ordered: bool) -> bool
+    ensures { result ≡ order_after (map stepping_of stretch.now) ordered }
+{
+    let mut ordered = ordered;
+    for step in stretch {
+        if matches!(step.work, Work::Expand(..)) {
+            ordered = false;
+        }
+    }
+    ordered
+}
+
+// What the last step makes of the rows that come to it.
+fn close(
+    alloc: Global,
+    flow: &mut Flow,
+    last: &Step,
+    ordered: bool,
+    lets: &[Value],
+    now: i64,
+) -> Result<Ended, Memory>
+    requires columns { HasColumns (doing_of last.now.work) last.now.columns.items }
+    ensures { IfOk result (EndsAs (Closes (doing_of last.now.work) last.now.stage last.now.columns.items (surroundings now lets.now) ordered) flow.old.to_come) }
+{
+    match &last.work {
+        Work::Count(..) => count_all(alloc, flow),
+        Work::Summarize(_, keys, aggregates) => group_all(
+            alloc,
+            flow,
+            last.stage,
+            keys.as_slice(),
+            aggregates.as_slice(),
+            last.columns.as_slice(),
+            lets,
+            now,
+        ),
+        _ => keep_all(alloc, flow, ordered),
+    }
+}
