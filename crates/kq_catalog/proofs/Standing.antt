@@ -1,9 +1,10 @@
 -- What a sound catalogue holds of each table, and a catalogue with one event more.
-use Rattle.std.proofs.Common.{◌≡◌, ◌<◌, ◌+◌, refl, subst, ℕ, zero, suc, List, [], ◌∷◌, ◌++◌, All, length, map, Some, ap, sym, ◌∙◌, arith, add-zero, zero-add}
+use Rattle.std.proofs.Common.{◌≡◌, ◌<◌, ◌≤◌, ◌+◌, refl, subst, ℕ, zero, suc, List, [], ◌∷◌, ◌++◌, All, length, map, Some, ap, sym, ◌∙◌, arith, add-zero, zero-add, Option}
 use Rattle.std.specs.List.{AllZip, slice_get}
-use Rattle.std.specs.Option.{option_map}
+use Rattle.std.specs.Option.{option_map, unwrap_or}
 use Rattle.std.proofs.lemmas.List.{length-map, length_push}
 use Rattle.std.proofs.lemmas.Option.{slice_get-map, slice_get_within}
+use Rattle.kq_value.specs.declared.schema.Field.{Field}
 use Rattle.kq_value.specs.Typed.{HasTypes}
 use Rattle.kq_model.specs.declared.event.Commit.{Commit}
 use Rattle.kq_model.specs.declared.event.Event.{Event}
@@ -13,9 +14,10 @@ use Rattle.kq_model.specs.declared.table.Table.{Table}
 use Rattle.kq_model.specs.Edits.{FitAll, edited_by, edits_of}
 use Rattle.kq_model.specs.History.{History, log, cursor as cursor_of, tables, commits_of}
 use Rattle.kq_model.specs.Lawful.{LawfulCommit, LawfulOperation}
-use Rattle.kq_model.specs.Records.{records, rows_in, extents, made_by, made_in}
+use Rattle.kq_model.specs.Records.{records, rows_in, extents, made_by, made_in, made_of, records_given, schema_of}
+use Rattle.kq_widened.specs.Widened.{widened_record, widened_records}
 use Rattle.kq_model.specs.Tables.{TableState, states_from, table_states}
-use Rattle.kq_model.proofs.Bounded.{IsBounded, IsBounded-lawful}
+use Rattle.kq_model.proofs.Bounded.{IsBounded, IsBounded-lawful, few_made}
 use Rattle.kq_model.proofs.Histories.{log-push, AreLawful-push}
 use Rattle.kq_model.proofs.Records.{made_in-push}
 use Rattle.kq_model.proofs.States.{table_states-push, table_states-tables}
@@ -44,21 +46,31 @@ tables_held c sound = same_tables c.held (table_states (hist c)) sound.tables �
 pub count_held : (c : CatalogView) → Sound c → length c.held ≡ length (tables (log (hist c)))
 count_held c sound = sym (length-map c.held (λ (h : HeldTable). h.table)) ∙ ap length (tables_held c sound)
 
+-- a table as a history leaves it, under a number
+abbrev state_at : History → ℕ → Table → TableState
+state_at h n t = record { table = t; records = widened_records t.schema (records_given (log h) n); items = extents h n }
+
 -- what is held of the table of a number
-held_from : (h : History) (n i m : ℕ) (ts : List Table) (hs : List HeldTable) (x : HeldTable) → m ≡ n + i → AllZip IsHeld hs (states_from n ts h) → slice_get hs i ≡ Some x
-    → IsHeld x (record { table = x.table; records = records (log h) m; items = extents h m })
+held_from : (h : History) (n i m : ℕ) (ts : List Table) (hs : List HeldTable) (x : HeldTable) → m ≡ n + i → AllZip IsHeld hs (states_from n ts h) → slice_get hs i ≡ Some x → IsHeld x (state_at h m x.table)
 held_from h n i m ts [] x at all is = let within = slice_get_within [] i x is in absurd (omega (arith, within))
 held_from h n i m [] (y ∷ hs) x at all is = absurd all
 held_from h n zero m (t ∷ ts) (y ∷ hs) x at all is =
     let same : y ≡ x = cc in
     let here : m ≡ n = at ∙ add-zero n in
-    subst (λ (k : ℕ). IsHeld x (record { table = x.table; records = records (log h) k; items = extents h k })) (sym here)
-    (subst (λ (v : HeldTable). IsHeld v (record { table = v.table; records = records (log h) n; items = extents h n })) same
-    (subst (λ (u : Table). IsHeld y (record { table = u; records = records (log h) n; items = extents h n })) (sym all.0.table) all.0))
+    subst (λ (k : ℕ). IsHeld x (state_at h k x.table)) (sym here)
+    (subst (λ (v : HeldTable). IsHeld v (state_at h n v.table)) same (subst (λ (u : Table). IsHeld y (state_at h n u)) (sym all.0.table) all.0))
 held_from h n (suc i) m (t ∷ ts) (y ∷ hs) x at all is = held_from h (n + 1) i m ts hs x (omega (arith, at)) all.1 is
 
+-- the columns of the history's table are those of the one that is held
+pub schema_held : (c : CatalogView) (n : ℕ) (x : HeldTable) → Sound c → slice_get c.held n ≡ Some x → schema_of (log (hist c)) n ≡ x.table.schema
+schema_held c n x sound is =
+    let at : slice_get (tables_in c.held) n ≡ Some x.table = slice_get-map (λ (h : HeldTable). h.table) c.held n ∙ ap (option_map (λ (h : HeldTable). h.table)) is in
+    ap (λ (o : Option Table). unwrap_or (option_map (λ (t : Table). t.schema) o) []) (ap (λ (ts : List Table). slice_get ts n) (sym (tables_held c sound)) ∙ at)
+
 pub held_at : (c : CatalogView) (n : ℕ) (x : HeldTable) → Sound c → slice_get c.held n ≡ Some x → IsHeld x (record { table = x.table; records = records (log (hist c)) n; items = extents (hist c) n })
-held_at c n x sound is = held_from (hist c) 0 n n (tables (log (hist c))) c.held x (sym (zero-add n)) sound.tables is
+held_at c n x sound is =
+    subst (λ (fields : List Field). IsHeld x (record { table = x.table; records = widened_records fields (records_given (log (hist c)) n); items = extents (hist c) n })) (sym (schema_held c n x sound is))
+    (held_from (hist c) 0 n n (tables (log (hist c))) c.held x (sym (zero-add n)) sound.tables is)
 
 some_same : {X : Type 0} {x z : X} → Some x ≡ Some z → x ≡ z
 some_same h = cc
@@ -74,8 +86,15 @@ typed_at c n x t sound is at =
 pub bounded : (c : CatalogView) → Sound c → IsBounded c.limits (log (hist c))
 bounded c sound = IsBounded-lawful c.limits (hist c) sound.lawful
 
+-- no more extents were made than there were events
+pub made_few : (c : CatalogView) → Sound c → made_in (hist c) ≤ length (hist c)
+made_few c sound = few_made c.limits (hist c) sound.lawful
+
 pub few_records : (c : CatalogView) (n : ℕ) → Sound c → length (records (log (hist c)) n) < 9223372036854775808
-few_records c n sound = let b = bounded c sound in omega (arith, b.few_records n, b.few_commits, c.limits.few_commits)
+few_records c n sound =
+    let b = bounded c sound in
+    let same = length-map (records_given (log (hist c)) n) (widened_record (schema_of (log (hist c)) n)) in
+    omega (arith, same, b.few_records n, b.few_commits, c.limits.few_commits)
 
 -- the edits of a lawful commit fit what is held
 pub changes_fit : (c : CatalogView) (cursor id : ℕ) (commit : Commit) (cs : List Change) → Sound c → LawfulCommit c.limits (log (hist c)) commit → edits_by cs ≡ edits_of cursor id commit → FitAll (tables_in c.held) (edits_by cs)
@@ -85,7 +104,7 @@ changes_fit c cursor id commit cs sound lawful are =
 
 -- a catalogue with one event more
 pub Holds-push : (c : CatalogView) (cursor made more : ℕ) (event : Event) (commit : Commit) (cs : List Change) (index tags : List Entry) → Holds c cursor made index → LawfulCommit c.limits (log (hist c)) commit → event.operation ≡ operation.Commit commit
-    → edits_by cs ≡ edits_of (cursor_of (hist c) + 1) (1 + made_in (log (hist c))) commit → more ≡ made_by commit
+    → edits_by cs ≡ edits_of (cursor_of (hist c) + 1) (1 + made_in (hist c)) commit → more ≡ made_by commit
     → Adds index (λ t tag. is_tagged_by t tag commit) (cursor + 1) tags
     → Holds (record { limits = c.limits; history = hist c ++ event ∷ []; held = put_all c.held cs }) (cursor + 1) (made + more) tags
 Holds-push c cursor made more event commit cs index tags holds lawful is are count adds =
@@ -93,14 +112,14 @@ Holds-push c cursor made more event commit cs index tags holds lawful is are cou
     let logged : log (h ++ event ∷ []) ≡ log h ++ commit ∷ [] = log-push h event ∙ ap (λ (o : Operation). log h ++ commits_of o) is in
     let next : table_states (h ++ event ∷ []) ≡ edited_by (table_states h) (edits_by cs) =
     table_states-push c.limits h event commit holds.sound.lawful is ∙ ap (edited_by (table_states h)) (sym are) in
-    let fits = changes_fit c (cursor_of h + 1) (1 + made_in (log h)) commit cs holds.sound lawful are in
+    let fits = changes_fit c (cursor_of h + 1) (1 + made_in h) commit cs holds.sound lawful are in
     record {
       sound = record {
         tables = subst (AllZip IsHeld (put_all c.held cs)) (sym next) (all_changes cs c.held (table_states h) holds.sound.tables fits);
         lawful = AreLawful-push c.limits h event holds.sound.lawful (record { operation = subst (LawfulOperation c.limits h) (sym is) lawful });
       };
       count = ap (λ (n : ℕ). n + 1) holds.count ∙ sym (ap length logged ∙ length_push (log h) commit);
-      made_count = ap (λ (n : ℕ). n + more) holds.made_count ∙ ap (λ (n : ℕ). made_in (log h) + n) count ∙ sym (made_in-push (log h) commit) ∙ ap made_in (sym logged);
+      made_count = ap (λ (n : ℕ). n + more) holds.made_count ∙ ap (λ (n : ℕ). made_in h + n) (count ∙ sym (ap made_of is)) ∙ sym (made_in-push h event);
       tags = subst (TellsTags tags) (sym logged)
           (TellsTags-push index tags (log h) commit holds.tags (subst (λ (n : ℕ). Adds index (λ t tag. is_tagged_by t tag commit) (n + 1) tags) holds.count adds));
     }

@@ -3,16 +3,18 @@ use Rattle.std.specs.Prelude.{◌≡◌, ℕ, nat_eq, List, [], ◌∷◌, ◌++
 use Rattle.std.specs.Arc.{arc_value}
 use Rattle.std.specs.HashMap.{get, HashMap}
 use Rattle.std.specs.Option.{unwrap_or}
+use Rattle.kq_value.specs.declared.schema.Field.{Field}
 use Rattle.kq_extent.specs.Seen.{ExtentView}
-use Rattle.kq_extent.specs.Split.{put}
+use Rattle.kq_extent.specs.Split.{put, without_first}
 use Rattle.kq_model.specs.declared.batch.Batch.{Batch}
 use Rattle.kq_model.specs.declared.event.Commit.{Commit}
 use Rattle.kq_model.specs.declared.table.Table.{Table}
 use Rattle.kq_model.specs.Edits.{Edit, edits_of, changed}
-use Rattle.kq_model.specs.Edits.Edit.{NewTable, NewExtent}
+use Rattle.kq_model.specs.Edits.Edit.{NewTable, NewColumns, NewExtent}
+use Rattle.kq_model.specs.History.{widened_table}
 use Rattle.kq_model.specs.Records.{made_by}
 use Rattle.kq_catalog.specs.declared.edit.Change.{Change}
-use Rattle.kq_catalog.specs.declared.edit.Change.TheVariants.{PutTable, PutExtent}
+use Rattle.kq_catalog.specs.declared.edit.Change.TheVariants.{PutTable, PutColumns, PutExtent}
 use Rattle.kq_catalog.specs.declared.plan.Plan.{Plan}
 use Rattle.kq_catalog.specs.Held.{HeldTable}
 
@@ -22,6 +24,7 @@ edit_with n e = NewExtent n e.id e.records e.tags
 -- the edit of the history that a change makes
 abbrev pub edit_of : Change → Edit
 edit_of (PutTable table) = NewTable (arc_value table)
+edit_of (PutColumns n cursor columns) = NewColumns n cursor columns
 edit_of (PutExtent n extent) = edit_with n (arc_value extent)
 
 abbrev pub edits_by : List Change → List Edit
@@ -31,12 +34,21 @@ edits_by = map edit_of
 abbrev pub empty_table : Table → HeldTable
 empty_table table = record { table = table; extents = record { small = []; big = [] } }
 
+-- a table with further columns; its extents stay as they are
+abbrev pub wider_table : ℕ → List Field → HeldTable → HeldTable
+wider_table cursor columns h = record h { table = widened_table cursor columns h.table }
+
 -- a table with an extent more
 abbrev pub with_extent : ExtentView → HeldTable → HeldTable
 with_extent e h = record h { extents = put h.extents e }
 
+-- a table with the first of its small extents replaced by one
+abbrev pub with_merged : ℕ → ExtentView → HeldTable → HeldTable
+with_merged count e h = record h { extents = put (without_first count h.extents) e }
+
 abbrev pub put_in : List HeldTable → Change → List HeldTable
 put_in hs (PutTable table) = hs ++ empty_table (arc_value table) ∷ []
+put_in hs (PutColumns n cursor columns) = changed (wider_table cursor columns) n hs
 put_in hs (PutExtent n extent) = changed (with_extent (arc_value extent)) n hs
 
 -- one change after another

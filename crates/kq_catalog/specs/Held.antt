@@ -1,13 +1,14 @@
 -- What is held of a table, and when it is what a history says of the table.
-use Rattle.std.specs.Prelude.{◌≡◌, ℕ, Bool, not, List, length, map, All, nat_lt, Option, MatchOption, None, Some}
+use Rattle.std.specs.Prelude.{◌≡◌, ℕ, not, List, map, All, Option, MatchOption, None, Some}
 use Rattle.std.specs.Borrow.{Bor}
 use Rattle.std.specs.List.{filter}
 use Rattle.std.specs.List.Sorted.{IsPermutation}
 use Rattle.kq_value.specs.Typed.{HasTypes}
 use Rattle.kq_extent.specs.Seen.{ExtentView, HeldExtents, held_records, row_of}
+use Rattle.kq_extent.specs.Wide.{wide_held}
 use Rattle.kq_model.specs.declared.table.Table.{Table}
 use Rattle.kq_model.specs.History.{table_numbered}
-use Rattle.kq_model.specs.Records.{ExtentItem, ids_of}
+use Rattle.kq_model.specs.Records.{ExtentItem, ids_of, is_small_item}
 use Rattle.kq_model.specs.Tables.{TableState}
 
 -- a table, and its extents
@@ -22,19 +23,15 @@ tables_in = map (λ (h : HeldTable). h.table)
 abbrev pub item_by : ExtentView → ExtentItem
 item_by e = record { id = e.id; records = ids_of e.records; tags = e.tags }
 
--- an extent of fewer records is small
-abbrev pub is_small_item : ExtentItem → Bool
-is_small_item i = nat_lt (length i.records) 4096
-
 -- the extents of a history are those that are held: the small ones in order, and the others in order
 pub record AreItems (items : List ExtentItem) (held : HeldExtents) : Type 0 where
   pub small : map item_by held.small ≡ filter is_small_item items
   pub big : map item_by held.big ≡ filter (λ i. not (is_small_item i)) items
 
--- what is held of a table is what the history says of it: each of its records stands once in the extents and nothing else does, the extents are those of the history, and the rows have the table's types
+-- what is held of a table is what the history says of it: each of its records stands once in the extents, widened to the table's columns, and nothing else does, the extents are those of the history, and the rows have the table's types
 pub record IsHeld (held : HeldTable) (state : TableState) : Type 0 where
   pub table : held.table ≡ state.table
-  pub once : IsPermutation (held_records held.extents) state.records
+  pub once : IsPermutation (held_records (wide_held held.table.schema held.extents)) state.records
   pub in_order : AreItems state.items held.extents
   pub typed : All (HasTypes state.table.schema) (map row_of state.records)
 

@@ -35,9 +35,9 @@ pub record Sound (c : CatalogView) : Type 0 where
   pub tables : AllZip IsHeld c.held (table_states (hist c))
   pub lawful : AreLawful c.limits (hist c)
 
--- a sound catalogue, with the number of its commits, that of the extents which they made, and an index of their tags
+-- a sound catalogue, with the number of its commits, that of the extents that were made, and an index of their tags
 pub record Holds (c : CatalogView) (cursor made : ℕ) (index : List Entry) : Type 0 where
   pub sound : Sound c
   pub count : cursor ≡ cursor_of (hist c)
-  pub made_count : made ≡ made_in (log (hist c))
+  pub made_count : made ≡ made_in (hist c)
   pub tags : TellsTags index (log (hist c))

@@ -1,12 +1,15 @@
 // The catalogue.
-ghost use Rattle.std.specs.Prelude.{◌≡◌, [], IfOk, length};
+ghost use Rattle.std.specs.Prelude.{◌≡◌, ◌+◌, [], IfErr, IfOk, length};
 ghost use Rattle.kq_model.specs.History.{log, cursor as cursor_of};
 ghost use Rattle.kq_model.specs.Lawful.{LawfulCommit};
+ghost use Rattle.kq_model.specs.Records.{made_in};
 ghost use Rattle.kq_catalog.specs.Intents.{commit_of, event_by};
+ghost use Rattle.kq_catalog.specs.Merges.{Moves, WasPicked, merge_event};
 ghost use Rattle.kq_catalog.specs.Seen.{hist, Sound};
 ghost use Rattle.kq_catalog.specs.Staged.{IsNext, IsStaged};
 
 use crate::intent::Intent;
+use crate::merging::{MergeFault, Merging};
 use crate::snapshot::Snapshot;
 use crate::state::State;
 use kq_model::{By, Limits};
@@ -114,6 +117,23 @@ impl Catalog {
     {
         let present = &self.present;
         let next = present.state.with_event(by, intent)?;
+        let state = Arc::new(present.allocator(), next)?;
+        Ok(Staged {
+            next: Snapshot { state },
+        })
+    }
+
+    /// Makes the state in which extents of a table became one, unless the first of them is gone. The one gets the next id.
+    pub fn stage_merge(&self, by: By, merging: Merging) -> Result<Staged, MergeFault>
+        requires { WasPicked (hist self.now) merging }
+        ensures staged { IfOk result (IsStaged self.now (merge_event by (1 + made_in (hist self.now)) merging)) }
+        ensures moved { IfErr result (Moves (hist self.now) merging) }
+    {
+        let present = &self.present;
+        if let Some(id) = present.state.gone(&merging) {
+            return Err(MergeFault::Moved { id });
+        }
+        let next = present.state.with_merge(by, merging)?;
         let state = Arc::new(present.allocator(), next)?;
         Ok(Staged {
             next: Snapshot { state },

@@ -1,11 +1,12 @@
 // Tables with their extents.
-ghost use Rattle.std.specs.Prelude.{◌≡◌, IfOk};
+ghost use Rattle.std.specs.Prelude.{◌≡◌, ◌≤◌, IfOk, length};
 ghost use Rattle.std.specs.Arc.{arc_value};
-ghost use Rattle.kq_catalog.specs.Edits.{empty_table, with_extent};
+ghost use Rattle.kq_catalog.specs.Edits.{empty_table, with_extent, with_merged, wider_table};
 
 use kq_extent::{Extent, TableExtents};
 use kq_model::Table;
-use kq_value::Memory;
+use kq_value::{Memory, Schema};
+use kq_widened::with_columns;
 use std::alloc::Global;
 use std::marker::Model;
 use std::sync::Arc;
@@ -52,12 +53,48 @@ impl HeldTable {
         &self.extents
     }
 
+    /// The table with further columns, set at a cursor. Its extents stay as they are.
+    pub(crate) fn with_columns(
+        &self,
+        alloc: Global,
+        cursor: u64,
+        columns: Schema,
+    ) -> Result<HeldTable, Memory>
+        ensures { IfOk result (λ h. h ≡ wider_table cursor columns self.now) }
+    {
+        let table = Table {
+            name: self.table.name.clone_in()?,
+            schema: with_columns(&self.table.schema, columns)?,
+            made: self.table.made,
+            widened: cursor,
+        };
+        Ok(HeldTable {
+            table: Arc::new(alloc, table)?,
+            extents: self.extents.share()?,
+        })
+    }
+
     /// The table with an extent more.
     pub(crate) fn with_extent(&self, extent: Arc<Extent, Global>) -> Result<HeldTable, Memory>
         ensures { IfOk result (λ h. h ≡ with_extent (arc_value extent) self.now) }
     {
         let mut extents = self.extents.share()?;
         extents.push(extent)?;
+        let table = Arc::try_clone(&self.table)?;
+        Ok(HeldTable { table, extents })
+    }
+
+    /// The table with so many of its first small extents replaced by one.
+    pub(crate) fn with_merged(
+        &self,
+        count: usize,
+        extent: Arc<Extent, Global>,
+    ) -> Result<HeldTable, Memory>
+        requires { count ≤ length self.now.extents.small }
+        ensures { IfOk result (λ h. h ≡ with_merged count (arc_value extent) self.now) }
+    {
+        let mut extents = self.extents.share()?;
+        extents.merge(count, extent)?;
         let table = Arc::try_clone(&self.table)?;
         Ok(HeldTable { table, extents })
     }

@@ -10,6 +10,11 @@ pub enum Intent {
         name: Text,
         schema: Schema,
     },
+    /// Further columns of a table, which goes by its number.
+    AlterMerge {
+        table: u32,
+        columns: Schema,
+    },
     /// A part for each batch, in the order of the cascade, the source's first.
     Ingest {
         parts: Vec<Part>,

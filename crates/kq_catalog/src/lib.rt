@@ -11,6 +11,7 @@ mod edit;
 mod grows;
 mod held;
 mod intent;
+mod merging;
 mod ordinals;
 mod plan;
 mod snapshot;
@@ -20,4 +21,5 @@ mod tagging;
 
 pub use catalog::{Catalog, Staged};
 pub use intent::{Intent, Part};
+pub use merging::{MergeFault, Merging};
 pub use snapshot::Snapshot;

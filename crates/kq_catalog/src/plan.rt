@@ -1,6 +1,6 @@
 // Commits with their edits.
 ghost use Rattle.std.specs.Prelude.{ℕ, ◌≡◌, ◌<◌, ◌+◌, ◌^◌, IfOk, length, map};
-ghost use Rattle.kq_model.specs.declared.event.Commit.TheVariants.{CreateTable, Ingest};
+ghost use Rattle.kq_model.specs.declared.event.Commit.TheVariants.{CreateTable, AlterMerge, Ingest};
 ghost use Rattle.kq_catalog.specs.Edits.{IsPlan, total_rows};
 ghost use Rattle.kq_catalog.specs.Intents.{batch_of};
 
@@ -34,11 +34,34 @@ pub(crate) fn plan_table(
         name: name.clone_in()?,
         schema: schema.clone_in()?,
         made: cursor,
+        widened: cursor,
     };
     let mut changes = Vec::with_capacity(alloc, 1)?;
     changes.push(Change::PutTable(Arc::new(alloc, table)?))?;
     Ok(Plan {
         commit: Commit::CreateTable { name, schema },
+        changes,
+        made: 0,
+    })
+}
+
+/// The plan of further columns of a table.
+pub(crate) fn plan_columns(
+    alloc: Global,
+    cursor: u64,
+    table: u32,
+    columns: Schema,
+) -> Result<Plan, Memory>
+    ensures { (id : ℕ) → IfOk result (IsPlan cursor id (AlterMerge table columns)) }
+{
+    let mut changes = Vec::with_capacity(alloc, 1)?;
+    changes.push(Change::PutColumns {
+        table,
+        cursor,
+        columns: columns.clone_in()?,
+    })?;
+    Ok(Plan {
+        commit: Commit::AlterMerge { table, columns },
         changes,
         made: 0,
     })
@@ -53,7 +76,7 @@ pub(crate) fn plan_parts(
     failures: Failures,
 ) -> Result<Plan, Memory>
     requires rows { total_rows (map batch_of parts.items) < 2 ^ 63 }
-    requires ids { id + length parts.items < 2 ^ 63 }
+    requires ids { id + length parts.items < 2 ^ 64 }
     ensures { IfOk result (IsPlan cursor id (Ingest (map batch_of parts.items) failures)) }
 {
     let mut batches = Batches::new(alloc);

@@ -5,9 +5,10 @@ ghost use Rattle.std.specs.Arc.{arc_value};
 ghost use Rattle.kq_value.specs.Typed.{HasTypes};
 ghost use Rattle.kq_shared.specs.Standing.{StandsAt};
 ghost use Rattle.kq_extent.specs.Seen.{held_records};
+ghost use Rattle.kq_extent.specs.Wide.{wide_held};
 ghost use Rattle.kq_model.specs.declared.table.Table.{Table as Described};
 ghost use Rattle.kq_model.specs.History.{log, cursor as cursor_of, tables};
-ghost use Rattle.kq_model.specs.Records.{records, rows_in, extents};
+ghost use Rattle.kq_model.specs.Records.{records, rows_in, extents, schema_of};
 ghost use Rattle.kq_model.specs.Tagged.{first_tagged};
 ghost use Rattle.kq_catalog.specs.Held.{AreItems, FindsTable};
 
@@ -101,10 +102,11 @@ impl Snapshot {
         self.state.events_from(at)
     }
 
-    /// The extents of a table by its number: each record of the table stands once in them, and nothing else does.
+    /// The extents of a table by its number: each record of the table stands once in them, widened to the table's columns, and
+    /// nothing else does.
     pub fn extents(&self, table: u32) -> &TableExtents
         requires { table < length (tables (log self.now.history)) }
-        ensures records { IsPermutation (held_records result.now) (records (log self.now.history) table) }
+        ensures records { IsPermutation (held_records (wide_held (schema_of (log self.now.history) table) result.now)) (records (log self.now.history) table) }
         ensures items { AreItems (extents self.now.history table) result.now }
         ensures typed { (t : Described) → slice_get (tables (log self.now.history)) table ≡ Some t → All (HasTypes t.schema) (rows_in self.now.history table) }
         ensures small { length (records (log self.now.history) table) < 2 ^ 63 }

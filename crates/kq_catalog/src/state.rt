@@ -1,27 +1,29 @@
 // The states of a catalogue.
-ghost use Rattle.std.specs.Prelude.{◌≡◌, ◌<◌, ◌+◌, ◌^◌, ◌++◌, ◌∷◌, [], All, IfOk, Some, length, map, option_map, slice_get};
+ghost use Rattle.std.specs.Prelude.{◌≡◌, ◌<◌, ◌+◌, ◌^◌, ◌++◌, ◌∷◌, [], All, IfOk, IfSome, IsNone, Some, length, map, option_map, slice_get};
 ghost use Rattle.std.specs.List.Sorted.{IsPermutation};
 ghost use Rattle.std.specs.Arc.{arc_value};
 ghost use Rattle.kq_value.specs.Typed.{HasTypes};
 ghost use Rattle.kq_shared.specs.Standing.{StandsAt};
 ghost use Rattle.kq_extent.specs.Seen.{held_records};
+ghost use Rattle.kq_extent.specs.Wide.{wide_held};
 ghost use Rattle.kq_model.specs.declared.table.Table.{Table as Described};
-ghost use Rattle.kq_model.specs.declared.event.Operation.TheVariants as operation;
 ghost use Rattle.kq_model.specs.History.{log, cursor as cursor_of, tables};
 ghost use Rattle.kq_model.specs.Lawful.{LawfulCommit};
-ghost use Rattle.kq_model.specs.Records.{records, rows_in, extents, made_in};
+ghost use Rattle.kq_model.specs.Records.{records, rows_in, extents, made_in, small_items, schema_of};
 ghost use Rattle.kq_model.specs.Tagged.{first_tagged};
 ghost use Rattle.kq_catalog.specs.Edits.{IsPlan};
 ghost use Rattle.kq_catalog.specs.Held.{AreItems, FindsTable};
 ghost use Rattle.kq_catalog.specs.Intents.{commit_of, event_by};
+ghost use Rattle.kq_catalog.specs.Merges.{IsGone, IsInFront, WasPicked, comes_first, merge_event};
 ghost use Rattle.kq_catalog.specs.Seen.{Sound};
 
 use crate::intent::Intent;
-use crate::plan::{Plan, plan_parts, plan_table};
+use crate::merging::Merging;
+use crate::plan::{Plan, plan_columns, plan_parts, plan_table};
 use crate::tables::Tables;
 use crate::tagging::with_commit;
 use kq_extent::TableExtents;
-use kq_model::{By, Commit, Event, Limits, Operation, Table};
+use kq_model::{By, Event, Limits, Operation, Table};
 use kq_shared::SharedList;
 use kq_tagged::TagIndex;
 use kq_value::{Memory, Text};
@@ -73,6 +75,7 @@ impl State {
 
     pub(crate) fn place(&self) -> u64
         ensures place { result ≡ length self.now.history }
+        ensures small { result < 2 ^ 63 }
         ensures sound { Sound self.now }
     {
         self.journal.len() as u64
@@ -133,7 +136,7 @@ impl State {
 
     pub(crate) fn extents(&self, table: u32) -> &TableExtents
         requires { table < length (tables (log self.now.history)) }
-        ensures records { IsPermutation (held_records result.now) (records (log self.now.history) table) }
+        ensures records { IsPermutation (held_records (wide_held (schema_of (log self.now.history) table) result.now)) (records (log self.now.history) table) }
         ensures items { AreItems (extents self.now.history table) result.now }
         ensures typed { (t : Described) → slice_get (tables (log self.now.history)) table ≡ Some t → All (HasTypes t.schema) (rows_in self.now.history table) }
         ensures small { length (records (log self.now.history) table) < 2 ^ 63 }
@@ -144,11 +147,15 @@ impl State {
     // The commit with its edits, under the next cursor and the next ids of extents.
     fn plan(&self, intent: Intent) -> Result<Plan, Memory>
         requires { LawfulCommit self.now.limits (log self.now.history) (commit_of intent) }
-        ensures { IfOk result (IsPlan (cursor_of self.now.history + 1) (1 + made_in (log self.now.history)) (commit_of intent)) }
+        ensures { IfOk result (IsPlan (cursor_of self.now.history + 1) (1 + made_in self.now.history) (commit_of intent)) }
     {
         let cursor = self.cursor + 1;
+        let _place = self.place();
         match intent {
             Intent::CreateTable { name, schema } => plan_table(self.alloc, cursor, name, schema),
+            Intent::AlterMerge { table, columns } => {
+                plan_columns(self.alloc, cursor, table, columns)
+            }
             Intent::Ingest { parts, failures } => {
                 plan_parts(self.alloc, cursor, self.made + 1, parts, failures)
             }
@@ -161,6 +168,7 @@ impl State {
         ensures limits { IfOk result (λ s. s.limits ≡ self.now.limits) }
         ensures history { IfOk result (λ s. s.history ≡ self.now.history ++ event_by by intent ∷ []) }
     {
+        let _place = self.place();
         let Plan {
             commit,
             changes,
@@ -168,7 +176,7 @@ impl State {
         } = self.plan(intent)?;
         let tables = self.tables.with_all(self.alloc, changes)?;
         let tags = with_commit(&self.tags, &commit, self.cursor + 1)?;
-        let journal = self.journal_with(by, commit)?;
+        let journal = self.journal_with(by, Operation::Commit(commit))?;
         Ok(State {
             alloc: self.alloc,
             limits: self.limits,
@@ -180,11 +188,60 @@ impl State {
         })
     }
 
-    // The journal with the event of a commit.
-    fn journal_with(&self, by: By, commit: Commit) -> Result<SharedList<Event>, Memory>
-        ensures { IfOk result (λ events. events ≡ self.now.history ++ record { by = by; operation = operation.Commit commit } ∷ []) }
+    /// The id of the first of a merge's old extents, where it isn't that of the table's first small extent.
+    pub(crate) fn gone(&self, merging: &Merging) -> Option<u64>
+        requires { WasPicked self.now.history merging.now }
+        ensures gone { IfSome result (IsGone self.now.history merging.now) }
+        ensures stands { IsNone result → IsInFront (small_items self.now.history merging.now.table) merging.now.old }
     {
-        let operation = Operation::Commit(commit);
+        let _place = self.place();
+        let id = merging.old.as_slice()[0];
+        if self.comes_first(merging.table, id) {
+            None
+        } else {
+            Some(id)
+        }
+    }
+
+    // Whether the first small extent of a table has this id.
+    fn comes_first(&self, table: u32, id: u64) -> bool
+        requires { table < length (tables (log self.now.history)) }
+        ensures { result ≡ comes_first id (small_items self.now.history table) }
+    {
+        let small = self.extents(table).small();
+        !small.is_empty() && small.get(0).id() == id
+    }
+
+    /// The state after a merge whose old extents still come first among the small ones. The new extent has the next id.
+    pub(crate) fn with_merge(&self, by: By, merging: Merging) -> Result<State, Memory>
+        requires picked { WasPicked self.now.history merging }
+        requires front { IsInFront (small_items self.now.history merging.table) merging.old }
+        ensures limits { IfOk result (λ s. s.limits ≡ self.now.limits) }
+        ensures history { IfOk result (λ s. s.history ≡ self.now.history ++ merge_event by (1 + made_in self.now.history) merging ∷ []) }
+    {
+        let _place = self.place();
+        let Merging { table, old, extent } = merging;
+        let new = self.made + 1;
+        let extent = Arc::new(self.alloc, extent.with_id(new))?;
+        let tables = self
+            .tables
+            .with_merged(self.alloc, table, old.len(), extent)?;
+        let journal = self.journal_with(by, Operation::Merge { table, old, new })?;
+        Ok(State {
+            alloc: self.alloc,
+            limits: self.limits,
+            journal,
+            tables,
+            tags: self.tags.share()?,
+            cursor: self.cursor,
+            made: new,
+        })
+    }
+
+    // The journal with one event more.
+    fn journal_with(&self, by: By, operation: Operation) -> Result<SharedList<Event>, Memory>
+        ensures { IfOk result (λ events. events ≡ self.now.history ++ record { by = by; operation = operation } ∷ []) }
+    {
         let mut journal = self.journal.share()?;
         journal.push(Arc::new(self.alloc, Event { by, operation })?)?;
         Ok(journal)

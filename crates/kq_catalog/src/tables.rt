@@ -1,10 +1,10 @@
 // The tables by number and by name.
-ghost use Rattle.std.specs.Prelude.{◌≡◌, ◌<◌, ◌++◌, ◌∷◌, [], IfOk, OnOk, Some, length, slice_get};
+ghost use Rattle.std.specs.Prelude.{◌≡◌, ◌<◌, ◌≤◌, ◌++◌, ◌∷◌, [], IfOk, OnOk, Some, length, slice_get};
 ghost use Rattle.std.specs.Arc.{arc_value};
 ghost use Rattle.kq_model.specs.Edits.{Fits, FitAll, changed};
 ghost use Rattle.kq_model.specs.Edits.Edit.{NewTable};
-ghost use Rattle.kq_catalog.specs.Edits.{edit_of, edits_by, empty_table, with_extent, put_in, put_all};
-ghost use Rattle.kq_catalog.specs.Held.{FindsTable, tables_in};
+ghost use Rattle.kq_catalog.specs.Edits.{edit_of, edits_by, empty_table, with_extent, with_merged, put_in, put_all, wider_table};
+ghost use Rattle.kq_catalog.specs.Held.{FindsTable, HeldTable as Held, tables_in};
 
 use crate::edit::Change;
 use crate::held::HeldTable;
@@ -12,7 +12,7 @@ use kq_extent::Extent;
 use kq_model::Table;
 use kq_names::Names;
 use kq_shared::SharedList;
-use kq_value::{Memory, Text};
+use kq_value::{Memory, Schema, Text};
 use std::alloc::Global;
 use std::marker::Model;
 use std::sync::Arc;
@@ -86,6 +86,22 @@ impl Tables {
         Ok(())
     }
 
+    fn put_columns(
+        &mut self,
+        alloc: Global,
+        table: u32,
+        cursor: u64,
+        columns: Schema,
+    ) -> Result<(), Memory>
+        requires { table < length self.old }
+        ensures { OnOk result (self.new ≡ changed (wider_table cursor columns) table self.old) }
+    {
+        let number = table as usize;
+        let held = self.held.get(number).with_columns(alloc, cursor, columns)?;
+        self.held.set(number, Arc::new(alloc, held)?)?;
+        Ok(())
+    }
+
     fn put_extent(
         &mut self,
         alloc: Global,
@@ -101,6 +117,40 @@ impl Tables {
         Ok(())
     }
 
+    fn put_merged(
+        &mut self,
+        alloc: Global,
+        table: u32,
+        count: usize,
+        extent: Arc<Extent, Global>,
+    ) -> Result<(), Memory>
+        requires stands { table < length self.old }
+        requires some { (h : Held) → slice_get self.old table ≡ Some h → count ≤ length h.extents.small }
+        ensures { OnOk result (self.new ≡ changed (with_merged count (arc_value extent)) table self.old) }
+    {
+        let number = table as usize;
+        let held = self.held.get(number).with_merged(count, extent)?;
+        self.held.set(number, Arc::new(alloc, held)?)?;
+        Ok(())
+    }
+
+    /// The tables after so many of the first small extents of one became another.
+    pub(crate) fn with_merged(
+        &self,
+        alloc: Global,
+        table: u32,
+        count: usize,
+        extent: Arc<Extent, Global>,
+    ) -> Result<Tables, Memory>
+        requires stands { table < length self.now }
+        requires some { (h : Held) → slice_get self.now table ≡ Some h → count ≤ length h.extents.small }
+        ensures { IfOk result (λ tables. tables ≡ changed (with_merged count (arc_value extent)) table self.now) }
+    {
+        let mut tables = self.share()?;
+        tables.put_merged(alloc, table, count, extent)?;
+        Ok(tables)
+    }
+
     /// Makes one change.
     pub(crate) fn put(&mut self, alloc: Global, change: Change) -> Result<(), Memory>
         requires { Fits (tables_in self.old) (edit_of change) }
@@ -108,6 +158,11 @@ impl Tables {
     {
         match change {
             Change::PutTable(table) => self.put_table(alloc, table),
+            Change::PutColumns {
+                table,
+                cursor,
+                columns,
+            } => self.put_columns(alloc, table, cursor, columns),
             Change::PutExtent { table, extent } => self.put_extent(alloc, table, extent),
         }
     }

@@ -16,8 +16,8 @@ use Rattle.kq_value.specs.declared.value.Value.{Value}
 use Rattle.kq_value.specs.declared.value.Value.TheVariants.{Null, Long}
 use Rattle.kq_value.proofs.SameLemmas.{Same-from_permutation}
 use Rattle.kq_extent.specs.Seen.{ExtentView, HeldExtents, held_extents}
-use Rattle.kq_model.specs.Records.{ExtentItem}
-use Rattle.kq_catalog.specs.Held.{AreItems, is_small_item, item_by}
+use Rattle.kq_model.specs.Records.{ExtentItem, is_small_item}
+use Rattle.kq_catalog.specs.Held.{AreItems, item_by}
 use Rattle.kq_show.specs.Cells.{number_cell, number_or_null}
 use Rattle.kq_show.specs.ExtentRows.{cursors, extent_columns, extent_row, greatest, held_row, least, strings}
 

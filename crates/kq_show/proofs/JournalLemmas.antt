@@ -6,12 +6,12 @@ use Rattle.kq_value.specs.declared.value.Value.{Value}
 use Rattle.kq_model.specs.declared.event.Event.{Event}
 use Rattle.kq_model.specs.declared.table.Table.{Table}
 use Rattle.kq_model.specs.History.{History, commits_of, log}
-use Rattle.kq_show.specs.JournalRows.{cursor_after, event_row, journal_columns, rows_behind}
+use Rattle.kq_show.specs.JournalRows.{cursor_after, cursor_of, event_row, journal_columns, rows_behind}
 use Rattle.kq_show.proofs.ExtentLemmas.{number_cell-typed}
 
 pub event_row-typed : (tables : List Table) (place cursor : ℕ) (e : Event) → HasTypes journal_columns (event_row tables place cursor e)
 event_row-typed tables place cursor e =
-    (number_cell-typed place, ((refl, tt), (number_cell-typed cursor, (number_cell-typed e.by.actor, (number_cell-typed e.by.number, ((refl, tt), tt))))))
+    (number_cell-typed place, ((refl, tt), (number_cell-typed (cursor_of cursor e.operation), (number_cell-typed e.by.actor, (number_cell-typed e.by.number, ((refl, tt), tt))))))
 
 -- the rows of some events, and then those of the others
 pub rows_behind-append : (tables : List Table) (place cursor : ℕ) (h g : History)

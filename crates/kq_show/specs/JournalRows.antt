@@ -6,7 +6,7 @@ use Rattle.kq_value.specs.declared.ty.Ty.TheVariants as ty
 use Rattle.kq_value.specs.declared.value.Value.{Value}
 use Rattle.kq_value.specs.declared.value.Value.TheVariants.{Text}
 use Rattle.kq_model.specs.declared.table.Table.{Table}
-use Rattle.kq_model.specs.declared.event.Commit.TheVariants.{CreateTable, Ingest}
+use Rattle.kq_model.specs.declared.event.Commit.TheVariants.{CreateTable, AlterMerge, Ingest}
 use Rattle.kq_model.specs.declared.event.Operation.{Operation}
 use Rattle.kq_model.specs.declared.event.Operation.TheVariants as operation
 use Rattle.kq_model.specs.declared.event.Event.{Event}
@@ -20,22 +20,34 @@ journal_columns =
 
 abbrev pub kind_of : Operation → List ℕ
 kind_of (operation.Commit (CreateTable name schema)) = codes "CreateTable"
+kind_of (operation.Commit (AlterMerge table columns)) = codes "AlterMerge"
 kind_of (operation.Commit (Ingest batches failures)) = codes "Ingest"
+kind_of (operation.Fold view to) = codes "Fold"
+kind_of (operation.Merge table old new) = codes "Merge"
 
 -- the name of a table by its number; a number that no table has has no name
 abbrev pub name_of : List Table → ℕ → List ℕ
 name_of tables number = unwrap_or (option_map (λ (t : Table). t.name) (slice_get tables number)) []
 
--- the table that an event makes, or that its own batch is for
+-- the table that an event makes or widens, that its own batch is for, or whose extents it merges; no view has a name yet
 abbrev pub entity_of : List Table → Operation → List ℕ
 entity_of tables (operation.Commit (CreateTable name schema)) = name
+entity_of tables (operation.Commit (AlterMerge table columns)) = name_of tables table
 entity_of tables (operation.Commit (Ingest [] failures)) = []
 entity_of tables (operation.Commit (Ingest (own ∷ derived) failures)) = name_of tables own.table
+entity_of tables (operation.Fold view to) = []
+entity_of tables (operation.Merge table old new) = name_of tables table
 
--- the event's place, its kind, the cursor after it, its mark, and its table
+-- the cursor that is shown of an operation: a fold's target, and else the cursor after it
+abbrev pub cursor_of : ℕ → Operation → ℕ
+cursor_of cursor (operation.Commit c) = cursor
+cursor_of cursor (operation.Fold view to) = to
+cursor_of cursor (operation.Merge table old new) = cursor
+
+-- the event's place, its kind, its cursor, its mark, and its table
 abbrev pub event_row : List Table → ℕ → ℕ → Event → List Value
 event_row tables place cursor e =
-    number_cell place ∷ Text (kind_of e.operation) ∷ number_cell cursor ∷ number_cell e.by.actor ∷ number_cell e.by.number
+    number_cell place ∷ Text (kind_of e.operation) ∷ number_cell (cursor_of cursor e.operation) ∷ number_cell e.by.actor ∷ number_cell e.by.number
     ∷ Text (entity_of tables e.operation) ∷ []
 
 -- the cursor after an event

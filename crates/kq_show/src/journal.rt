@@ -3,7 +3,7 @@ ghost use Rattle.std.specs.Prelude.{◌≡◌, ◌<◌, ◌≤◌, ◌+◌, ◌^
 ghost use Rattle.std.specs.Arc.{arc_value};
 ghost use Rattle.kq_value.specs.Typed.{HasTypes};
 ghost use Rattle.kq_model.specs.History.{commits_of, log, tables};
-ghost use Rattle.kq_show.specs.JournalRows.{entity_of, event_row, journal_columns, journal_rows, kind_of, name_of, rows_behind};
+ghost use Rattle.kq_show.specs.JournalRows.{cursor_of, entity_of, event_row, journal_columns, journal_rows, kind_of, name_of, rows_behind};
 
 use crate::cells::{number_cell, schema_of};
 use kq_catalog::Snapshot;
@@ -90,6 +90,7 @@ fn commits_in(operation: &Operation) -> u64
 {
     match operation {
         Operation::Commit(_) => 1,
+        Operation::Fold { .. } | Operation::Merge { .. } => 0,
     }
 }
 
@@ -108,11 +109,21 @@ fn fill_row(
     let entity = entity(snapshot, &event.operation)?;
     row.push(number_cell(place))?;
     row.push(Value::Text(kind))?;
-    row.push(number_cell(cursor))?;
+    row.push(number_cell(cursor_shown(&event.operation, cursor)))?;
     row.push(number_cell(u64::from(event.by.actor)))?;
     row.push(number_cell(event.by.number))?;
     row.push(Value::Text(entity))?;
     Ok(())
+}
+
+// A fold tells its target, and another operation the cursor after it.
+fn cursor_shown(operation: &Operation, cursor: u64) -> u64
+    ensures { result ≡ cursor_of cursor operation.now }
+{
+    match operation {
+        Operation::Commit(_) | Operation::Merge { .. } => cursor,
+        Operation::Fold { to, .. } => *to,
+    }
 }
 
 fn kind(operation: &Operation) -> &'static str
@@ -120,7 +131,10 @@ fn kind(operation: &Operation) -> &'static str
 {
     match operation {
         Operation::Commit(Commit::CreateTable { .. }) => "CreateTable",
+        Operation::Commit(Commit::AlterMerge { .. }) => "AlterMerge",
         Operation::Commit(Commit::Ingest { .. }) => "Ingest",
+        Operation::Fold { .. } => "Fold",
+        Operation::Merge { .. } => "Merge",
     }
 }
 
@@ -129,10 +143,13 @@ fn entity(snapshot: &Snapshot, operation: &Operation) -> Result<Text, Memory>
 {
     match operation {
         Operation::Commit(Commit::CreateTable { name, .. }) => name.clone_in(),
+        Operation::Commit(Commit::AlterMerge { table, .. }) => table_name(snapshot, *table),
         Operation::Commit(Commit::Ingest { batches, .. }) => match batches.as_slice().first() {
             Some(own) => table_name(snapshot, own.table),
             None => Text::from_str(snapshot.allocator(), ""),
         },
+        Operation::Fold { .. } => Text::from_str(snapshot.allocator(), ""),
+        Operation::Merge { table, .. } => table_name(snapshot, *table),
     }
 }
 

@@ -1,4 +1,4 @@
-use Rattle.std.proofs.Common.{◌≡◌, ◌+◌, ◌++◌, ◌∷◌, [], refl, ap, sym, ◌∙◌, subst, arith}
+use Rattle.std.proofs.Common.{◌≡◌, ◌+◌, length, ◌++◌, ◌∷◌, [], refl, ap, sym, ◌∙◌, subst, arith}
 use Rattle.kq_model.specs.declared.event.Commit.{Commit}
 use Rattle.kq_model.specs.declared.event.Event.{Event}
 use Rattle.kq_model.specs.declared.event.Operation.TheVariants as operation
@@ -13,7 +13,7 @@ use Rattle.kq_catalog.specs.Edits.{IsPlan, edits_by}
 use Rattle.kq_catalog.specs.Held.{tables_in}
 use Rattle.kq_catalog.specs.Intents.{commit_of, event_by}
 use Rattle.kq_catalog.specs.Seen.{CatalogView, Sound, hist}
-use Rattle.kq_catalog.proofs.Standing.{bounded, changes_fit, Holds-push}
+use Rattle.kq_catalog.proofs.Standing.{bounded, made_few, changes_fit, Holds-push}
 use Rattle.kq_catalog.proofs.state.State.with_event.Goals as goal
 
 pub with_all-requires : goal.with_all-requires
@@ -21,8 +21,8 @@ with_all-requires c =
     let v = c.args.self.now in
     let cs = c.in_ok-commit.field-0.changes.items in
     let sound : Sound v = subst Sound c.self.view_is c.self.invariant.sound in
-    let plan : IsPlan (cursor_of (hist v) + 1) (1 + made_in (log (hist v))) (commit_of c.args.intent) c.in_ok-commit.field-0 = c.in_ok-commit.ensures in
-    subst (λ (w : CatalogView). FitAll (tables_in w.held) (edits_by cs)) (sym c.self.view_is) (changes_fit v (cursor_of (hist v) + 1) (1 + made_in (log (hist v))) (commit_of c.args.intent) cs sound c.requires plan.edits)
+    let plan : IsPlan (cursor_of (hist v) + 1) (1 + made_in (hist v)) (commit_of c.args.intent) c.in_ok-commit.field-0 = c.in_ok-commit.ensures in
+    subst (λ (w : CatalogView). FitAll (tables_in w.held) (edits_by cs)) (sym c.self.view_is) (changes_fit v (cursor_of (hist v) + 1) (1 + made_in (hist v)) (commit_of c.args.intent) cs sound c.requires plan.edits)
 
 pub overflow_add-result : goal.overflow_add-result
 overflow_add-result c =
@@ -34,9 +34,10 @@ pub overflow_add-result-2 : goal.overflow_add-result-2
 overflow_add-result-2 c =
     let now = c.args.self.now in
     let v : CatalogView = record { limits = c.self.inside.limits; history = c.self.inside.journal; held = c.self.inside.tables } in
-    let b = bounded v c.self.invariant.sound in
-    let plan : IsPlan (cursor_of (hist now) + 1) (1 + made_in (log (hist now))) (commit_of c.args.intent) c.in_ok-commit.field-0 = c.in_ok-commit.ensures in
-    omega (arith, c.self.invariant.made_count, b.few_made, b.few_commits, c.self.inside.limits.few_commits, plan.made, one_made now.limits (log (hist now)) (commit_of c.args.intent) c.requires)
+    let few = made_few v c.self.invariant.sound in
+    let plan : IsPlan (cursor_of (hist now) + 1) (1 + made_in (hist now)) (commit_of c.args.intent) c.in_ok-commit.field-0 = c.in_ok-commit.ensures in
+    let place = ap (λ (w : CatalogView). length (hist w)) c.self.view_is in
+    omega (arith, c.self.invariant.made_count, few, place, c.place-place.ensures.place, c.place-place.ensures.small, plan.made, one_made now.limits (log (hist now)) (commit_of c.args.intent) c.requires)
 
 pub invariant_of-result : goal.invariant_of-result
 invariant_of-result c =
@@ -45,10 +46,10 @@ invariant_of-result c =
     let commit = commit_of c.args.intent in
     let made = c.in_ok-commit.field-0 in
     let cs = made.changes.items in
-    let plan : IsPlan (cursor_of (hist now) + 1) (1 + made_in (log (hist now))) commit made = c.in_ok-commit.ensures in
+    let plan : IsPlan (cursor_of (hist now) + 1) (1 + made_in (hist now)) commit made = c.in_ok-commit.ensures in
     let lawful : LawfulCommit v.limits (log (hist v)) commit = subst (λ (w : CatalogView). LawfulCommit w.limits (log (hist w)) commit) (sym c.self.view_is) c.requires in
-    let edits : edits_by cs ≡ edits_of (cursor_of (hist v) + 1) (1 + made_in (log (hist v))) commit =
-    subst (λ (w : CatalogView). edits_by cs ≡ edits_of (cursor_of (hist w) + 1) (1 + made_in (log (hist w))) commit) (sym c.self.view_is) plan.edits in
+    let edits : edits_by cs ≡ edits_of (cursor_of (hist v) + 1) (1 + made_in (hist v)) commit =
+    subst (λ (w : CatalogView). edits_by cs ≡ edits_of (cursor_of (hist w) + 1) (1 + made_in (hist w)) commit) (sym c.self.view_is) plan.edits in
     let journal : c.in_ok-journal.journal ≡ hist v ++ event_by c.args.by c.args.intent ∷ [] =
     c.in_ok-journal.ensures ∙ ap (λ (k : Commit). let e : Event = record { by = c.args.by; operation = operation.Commit k } in hist now ++ e ∷ []) plan.is
     ∙ ap (λ (w : CatalogView). hist w ++ event_by c.args.by c.args.intent ∷ []) (sym c.self.view_is) in
