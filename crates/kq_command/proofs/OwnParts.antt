@@ -117,7 +117,7 @@ module _ (text : List ℕ) where
   control_in : (c : ControlTree) → Holds (control_text c) (ControlIn text c)
   control_in (create_table m cs) = behind (behind (table_columns_in m cs))
   control_in (ingest m ps t) = λ ts q all. (let (a, b) = ingest_in m ps t ts q all in (a, b.0, b.1))
-  control_in (alter_merge m cs) = behind (behind (λ ts q all. (table_columns_in m cs ts q all).1))
+  control_in (alter_merge m cs) = behind (behind (table_columns_in m cs))
   control_in (create_view v) = behind (behind (behind (behind (before (behind (before (properties_in v.properties)))))))
   control_in (set_policy m t) = λ ts q all. tt
   control_in (show_view m) = λ ts q all. tt

@@ -46,7 +46,7 @@ PropertiesIn text (Some ps) = PropertyIn text ps.0 × All (PropertyIn text) ps.1
 abbrev pub ControlIn : List ℕ → ControlTree → Type 0
 ControlIn text (create_table n cs) = NameIn text n × ColumnsIn text cs
 ControlIn text (ingest n ps t) = NameIn text n × PropertiesIn text ps × IsPiece text t
-ControlIn text (alter_merge n cs) = ColumnsIn text cs
+ControlIn text (alter_merge n cs) = NameIn text n × ColumnsIn text cs
 ControlIn text (create_view v) = PropertiesIn text v.properties
 ControlIn text (show_extents n) = NameIn text n
 ControlIn text _ = ⊤

@@ -7,3 +7,4 @@ pub mod Reads
 pub mod Rows
 pub mod Types
 pub mod Unsupported
+pub mod Widening

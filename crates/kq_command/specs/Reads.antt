@@ -4,7 +4,7 @@ use Rattle.std.specs.Str.{IsUtf8}
 use Rattle.std.specs.Str.Lossy.{utf8_valid_len}
 use Rattle.kq_command.specs.declared.columns.Column.{Column}
 use Rattle.kq_command.specs.declared.columns.Identifier.{Identifier}
-use Rattle.kq_command.specs.declared.command.Change.TheVariants.{CreateTable, Ingest}
+use Rattle.kq_command.specs.declared.command.Change.TheVariants.{CreateTable, AlterMerge, Ingest}
 use Rattle.kq_command.specs.declared.command.Command.{Command}
 use Rattle.kq_command.specs.declared.command.Command.TheVariants.{Query, Show, Change, Unbuilt}
 use Rattle.kq_command.specs.declared.command.CommandFault.{CommandFault}
@@ -15,7 +15,7 @@ use Rattle.kq_command.specs.Ingestions.{properties_of}
 use Rattle.kq_command.specs.Meanings.{identifier_of, columns_of}
 use Rattle.kq_command.specs.Rows.{rows_after}
 use Rattle.kq_command.specs.Unsupported.{unsupported}
-use Rattle.kq_control.specs.ControlTrees.{PropertiesTree, ControlTree, create_table, ingest, show_extents, show_journal, StatementTree, query, control}
+use Rattle.kq_control.specs.ControlTrees.{PropertiesTree, ControlTree, create_table, alter_merge, ingest, show_extents, show_journal, StatementTree, query, control}
 use Rattle.kq_control.specs.Statements.{IsStatement, IsRefused}
 use Rattle.kq_grammar.specs.declared.expression.Name.{Name}
 use Rattle.kq_grammar.specs.TabularViews.{query_of}
@@ -28,11 +28,16 @@ abbrev pub table_of : Identifier → Option (List Column) → Command
 table_of name (Some columns) = Change (CreateTable name columns)
 table_of name None = Unbuilt
 
+abbrev pub widening_of : Identifier → Option (List Column) → Command
+widening_of name (Some columns) = Change (AlterMerge name columns)
+widening_of name None = Unbuilt
+
 abbrev pub ingestion_of : List ℕ → Name → Option PropertiesTree → Symbol → Ingestion
 ingestion_of text n ps t = record { table = identifier_of text n; properties = properties_of text ps; body = rows_after t.to text }
 
 abbrev pub control_command : List ℕ → ControlTree → Command
 control_command text (create_table n cs) = table_of (identifier_of text n) (columns_of text (cs.0 ∷ cs.1))
+control_command text (alter_merge n cs) = widening_of (identifier_of text n) (columns_of text (cs.0 ∷ cs.1))
 control_command text (ingest n ps t) = Change (Ingest (ingestion_of text n ps t))
 control_command text (show_extents n) = Show (Extents (identifier_of text n))
 control_command text show_journal = Show Journal

@@ -42,6 +42,8 @@ pub enum Show {
 pub enum Change {
     /// `.create table NAME (COLUMN:TYPE, ..)`
     CreateTable { name: Identifier, columns: Columns },
+    /// `.alter-merge table NAME (COLUMN:TYPE, ..)`
+    AlterMerge { name: Identifier, columns: Columns },
     /// `.ingest inline into table NAME with (..) <|` and rows.
     Ingest(Ingestion),
 }

@@ -11,6 +11,7 @@ mod read;
 mod rows;
 mod types;
 mod unsupported;
+mod widening;
 
 pub use columns::{Column, Columns, Identifier};
 pub use command::{Change, Command, CommandFault, Query, Show};

@@ -92,6 +92,13 @@ fn built(memory: &mut Requests, text: &str, control: &Control) -> Result<Command
                 None => Ok(Command::Unbuilt),
             }
         }
+        Control::AlterMerge(name, columns) => {
+            let name = identifier(memory, text, *name)?;
+            match columns_in(memory, text, columns)? {
+                Some(columns) => Ok(Command::Change(Change::AlterMerge { name, columns })),
+                None => Ok(Command::Unbuilt),
+            }
+        }
         Control::Ingest(table, list, mark) => Ok(Command::Change(Change::Ingest(Ingestion {
             table: identifier(memory, text, *table)?,
             properties: read_properties(memory, text, list)?,

@@ -13,6 +13,7 @@ use Rattle.kq_engine.specs.Fits.{Makes}
 
 granted : (c : Commit) (cursor : ℕ) → kind_of (reply_to c cursor) ≡ 0
 granted (commits.CreateTable name schema) cursor = refl
+granted (commits.AlterMerge table columns) cursor = refl
 granted (commits.Ingest batches failures) cursor = refl
 
 -- the reply that comes with a commit is no refusal

@@ -38,6 +38,8 @@ Appends-none limits h mark command place reply = record {
 
 none_tends : (limits : Limits) (old : History) (command : Command) (reply : Reply) (made : Operation) → Tends limits old command reply made → ⊥
 none_tends limits old command reply (operation.Commit c) tends = tends
+none_tends limits old command reply (operation.Fold view to) tends = tends
+none_tends limits old command reply (operation.Merge table ids new) tends = tends
 
 acts_at : (limits : Limits) (old new : History) (work : Work) (began : ℕ) (place : ℕ) (own : Bool) (reply : Reply) → began ≤ length old → Acts limits old new work (record { place = place; own = own; reply = reply }) → Advances limits old new work began (record { place = place; own = own; reply = reply })
 acts_at limits old new work began place true reply since acts =

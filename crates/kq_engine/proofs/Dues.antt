@@ -16,7 +16,7 @@ use Rattle.kq_model.proofs.Tables.{table_numbered-at}
 use Rattle.kq_command.specs.declared.columns.Column.{Column}
 use Rattle.kq_command.specs.declared.columns.Identifier.{Identifier}
 use Rattle.kq_command.specs.declared.command.Change.{Change}
-use Rattle.kq_command.specs.declared.command.Change.TheVariants.{CreateTable, Ingest}
+use Rattle.kq_command.specs.declared.command.Change.TheVariants.{CreateTable, AlterMerge, Ingest}
 use Rattle.kq_command.specs.declared.command.Command.{Command}
 use Rattle.kq_command.specs.declared.ingestion.Ingestion.{Ingestion}
 use Rattle.kq_command.specs.declared.command.Command.TheVariants as commands
@@ -29,26 +29,9 @@ use Rattle.kq_reply.specs.declared.refusal.Refusal.TheVariants as refusals
 use Rattle.kq_reply.specs.declared.reply.Reply.TheVariants as replies
 use Rattle.kq_engine.specs.Due.{Due, Says, Commits, IsChangeDue, IsDueByLog, IsDueByText, bad_tags, barring_tags, body_due, counted, ingest_due, kept_due, named_due, own_batch, refusal_of, refused, rows_due, table_due, text_refusal, unless_tagged, values_due}
 use Rattle.kq_engine.specs.Found.{IsCommitDue}
+use Rattle.kq_engine.proofs.Fit.{IsFit, counted-commit, no_commit}
+use Rattle.kq_engine.proofs.Gaining.{widening-fit}
 use Rattle.kq_engine.proofs.Texts.{different_names}
-
--- ---- commits that are counted
-
--- a commit is no refusal
-pub no_commit : (c : Commit) (r : Refusal) → Commits c ≡ refused r → ⊥
-no_commit c r e = cc
-
--- a commit that is due where commits are counted is that commit, and there was room
-pub counted-commit : (limits : Limits) (l : Log) (c d : Commit) → Commits d ≡ counted limits l c → (nat_lt (length l) limits.commits ≡ true) × (c ≡ d)
-counted-commit limits l c d e = by_test (nat_lt (length l) limits.commits) refl e
-  where
-    by_test : (b : Bool) → nat_lt (length l) limits.commits ≡ b → Commits d ≡ cond b (Commits c) (refused (refusals.Full limits.commits)) → (nat_lt (length l) limits.commits ≡ true) × (c ≡ d)
-    by_test true room e = (room, cc)
-    by_test false room e = absurd (no_commit d (refusals.Full limits.commits) e)
-
--- the commit may be made, and one more is allowed
-pub record IsFit (limits : Limits) (l : Log) (c : Commit) : Type 0 where
-  pub room : length l < limits.commits
-  pub lawful : LawfulCommit limits l c
 
 -- ---- tables
 
@@ -153,6 +136,7 @@ Due-is_good limits l change c due = by_text (text_refusal change) refl due
 
 Due-fit : (limits : Limits) (l : Log) (change : Change) (c : Commit) → text_refusal change ≡ None → IsDueByLog limits l change (Commits c) → IsFit limits l c
 Due-fit limits l (CreateTable name columns) c good due = table-fit limits l name columns c due.0 (different_names columns good) due.1
+Due-fit limits l (AlterMerge name columns) c good due = widening-fit limits l name columns (table_numbered name.text (tables l)) c (different_names columns good) refl due
 Due-fit limits l (Ingest i) c good due = ingest-fit limits l i (table_numbered i.table.text (tables l)) c refl due
 
 -- a commit that is due is lawful, and one more is allowed

@@ -1,17 +1,17 @@
 -- What was found stays due, or is skipped, as the log grows.
 use Rattle.std.proofs.Common.{◌≡◌, ℕ, ℤ, ◌+◌, Bool, true, false, cond, List, [], ◌∷◌, ◌++◌, length, take, drop, nat_lt, Option, Some, None, Result, Ok, Err, IfOk, refl, ap, sym, ◌∙◌, subst, append_assoc, append-nil}
-use Rattle.std.proofs.lemmas.Bool.{false≢true}
+use Rattle.std.specs.List.{slice_get}
+use Rattle.std.proofs.lemmas.Bool.{eqb-true, false≢true}
 use Rattle.std.proofs.lemmas.List.{take-append-drop}
 use Rattle.kq_model.specs.declared.event.Commit.{Commit}
-use Rattle.kq_model.specs.declared.event.Commit.TheVariants as commits
 use Rattle.kq_model.specs.declared.limits.Limits.{Limits}
 use Rattle.kq_model.specs.declared.table.Table.{Table}
-use Rattle.kq_model.specs.History.{History, Log, Numbered, log, tables, tables_with, table_numbered}
-use Rattle.kq_model.proofs.Histories.{log-append, tables-push}
-use Rattle.kq_model.proofs.Tables.{table_numbered-go_on}
+use Rattle.kq_model.specs.History.{History, Log, Numbered, log, tables, table_numbered}
+use Rattle.kq_model.proofs.Histories.{log-append}
+use Rattle.kq_model.proofs.Tables.{still_same}
 use Rattle.kq_catalog.specs.Intents.{commit_of}
 use Rattle.kq_command.specs.declared.command.Change.{Change as Changing}
-use Rattle.kq_command.specs.declared.command.Change.TheVariants.{CreateTable, Ingest}
+use Rattle.kq_command.specs.declared.command.Change.TheVariants.{CreateTable, AlterMerge, Ingest}
 use Rattle.kq_command.specs.declared.command.Command.{Command}
 use Rattle.kq_command.specs.declared.command.Command.TheVariants.{Query, Show, Change, Unbuilt}
 use Rattle.kq_command.specs.declared.ingestion.Ingestion.{Ingestion}
@@ -19,42 +19,46 @@ use Rattle.kq_reply.specs.declared.refusal.Refusal.{Refusal}
 use Rattle.kq_reply.specs.declared.refusal.Refusal.TheVariants as refusals
 use Rattle.kq_reply.specs.declared.reply.Reply.{Reply}
 use Rattle.kq_reply.specs.declared.reply.Reply.TheVariants as replies
+use Rattle.kq_engine.specs.declared.work.Barring.{Barring}
 use Rattle.kq_engine.specs.declared.work.Found.{Found}
 use Rattle.kq_engine.specs.declared.work.Found.TheVariants as founds
 use Rattle.kq_engine.specs.declared.work.Offer.{Offer}
 use Rattle.kq_engine.specs.Due.{Due, Says, Commits, IsChangeDue, IsDueByLog, IsDueByText, counted, ingest_due, refused, text_refusal, unless_tagged}
 use Rattle.kq_engine.specs.Fits.{IsDue}
-use Rattle.kq_engine.specs.Found.{Finds, IsCommitDue, IsDueTo, IsFound, IsOffered, OffersChange, OffersInto, barred_at, is_prepared_outside, offer_due}
-use Rattle.kq_engine.proofs.Dues.{no_commit}
+use Rattle.kq_engine.specs.Found.{Finds, IsCommitDue, IsDueTo, IsFound, IsGoodText, IsOffered, IsReadFor, OffersChange, OffersInto, barred_at, is_as_read, is_prepared_outside, is_widened_at, offer_due}
+use Rattle.kq_engine.proofs.Dues.{Due-is_good}
+use Rattle.kq_engine.proofs.Fit.{no_commit}
 
--- ---- tables stay under their names
+-- ---- tables for which rows were read
 
-one_more : (n : ℕ) (c : Commit) (made : List Table) → (more : List Table) × (tables_with n c made ≡ made ++ more)
-one_more n (commits.CreateTable name schema) made = (record { name = name; schema = schema; made = n } ∷ [], refl)
-one_more n (commits.Ingest batches failures) made = ([], sym (append-nil made))
+widened_so : (o : Option Table) (cursor : ℕ) → is_widened_at o cursor ≡ true → (t : Table) × (o ≡ Some t) × (t.widened ≡ cursor)
+widened_so None cursor e = absurd (false≢true e)
+widened_so (Some t) cursor e = (t, refl, eqb-true t.widened cursor e)
 
--- the tables of a longer log begin with those of the shorter
-tables-grown : (l more : Log) → (later : List Table) × (tables (l ++ more) ≡ tables l ++ later)
-tables-grown l [] = ([], ap tables (append-nil l) ∙ sym (append-nil (tables l)))
-tables-grown l (c ∷ more) =
-    let one = one_more (length l + 1) c (tables l) in
-    let rest = tables-grown (l ++ c ∷ []) more in
-    (one.0 ++ rest.0, ap tables (sym (append_assoc l (c ∷ []) more)) ∙ rest.1 ∙ ap (λ (ts : List Table). ts ++ rest.0) (tables-push l c ∙ one.1) ∙ append_assoc (tables l) one.0 rest.0)
-
-still_named : (l more : Log) (name : List ℕ) (found : Numbered) → table_numbered name (tables l) ≡ Some found → table_numbered name (tables (l ++ more)) ≡ Some found
-still_named l more name found named =
-    let grown = tables-grown l more in
-    ap (table_numbered name) grown.1 ∙ table_numbered-go_on name (tables l) grown.0 found named
+-- a name finds the table for which rows were read, where it was not widened since
+read_still : (l more : Log) (name : List ℕ) (found : Numbered) (unless : Option Barring) → table_numbered name (tables l) ≡ Some found → IsReadFor found unless → is_as_read (l ++ more) unless ≡ true → table_numbered name (tables (l ++ more)) ≡ Some found
+read_still l more name found None named read still = absurd read
+read_still l more name found (Some barring) named read still =
+    let now = widened_so (slice_get (tables (l ++ more)) barring.table) barring.widened still in
+    still_same l more name found now.0 named (ap (λ (n : ℕ). slice_get (tables (l ++ more)) n) (sym read.0) ∙ now.1) (now.2 ∙ read.1)
 
 -- ---- offers
 
 good_due : (limits : Limits) (l : Log) (change : Changing) (due : Due) → text_refusal change ≡ None → IsDueByLog limits l change due → IsChangeDue limits l change due
 good_due limits l change due good by = subst (λ o. IsDueByText limits l change o due) (sym good) by
 
-rows_later : (limits : Limits) (l more : Log) (i : Ingestion) (offer : Offer) (o : Option Numbered) → table_numbered i.table.text (tables l) ≡ o → Commits (commit_of offer.intent) ≡ ingest_due limits l i o → OffersInto limits l i (founds.Commits offer)
+rows_later : (limits : Limits) (l more : Log) (i : Ingestion) (offer : Offer) (o : Option Numbered) → table_numbered i.table.text (tables l) ≡ o → Commits (commit_of offer.intent) ≡ ingest_due limits l i o → OffersInto limits l i (founds.Commits offer) → is_as_read (l ++ more) offer.unless ≡ true
     → offer_due limits (l ++ more) offer ≡ ingest_due limits (l ++ more) i (table_numbered i.table.text (tables (l ++ more)))
-rows_later limits l more i offer None named due offers = absurd (no_commit (commit_of offer.intent) (refusals.Unknown i.table.at) due)
-rows_later limits l more i offer (Some table) named due offers = sym (offers table named (l ++ more)) ∙ ap (ingest_due limits (l ++ more) i) (sym (still_named l more i.table.text table named))
+rows_later limits l more i offer None named due offers still = absurd (no_commit (commit_of offer.intent) (refusals.Unknown i.table.at) due)
+rows_later limits l more i offer (Some table) named due offers still =
+    let read = offers table named in
+    sym (read.1 (l ++ more)) ∙ ap (ingest_due limits (l ++ more) i) (sym (read_still l more i.table.text table offer.unless named read.0 still))
+
+commit_good : (limits : Limits) (l : Log) (command : Command) (c : Commit) → IsCommitDue limits l command c → IsGoodText command
+commit_good limits l (Query query) c due = absurd due
+commit_good limits l (Show show) c due = absurd due
+commit_good limits l (Change change) c due = (Due-is_good limits l change c due.0).0
+commit_good limits l Unbuilt c due = absurd due
 
 -- a commit that was found for a change
 pub Offered-change : (limits : Limits) (l : Log) (change : Changing) (offer : Offer) → text_refusal change ≡ None → IsDueByLog limits l change (Commits (commit_of offer.intent)) → OffersChange limits l change (founds.Commits offer) → IsOffered limits l (Change change) offer
@@ -62,9 +66,13 @@ Offered-change limits l (CreateTable name columns) offer good due offers = recor
   due = (good_due limits l (CreateTable name columns) (Commits (commit_of offer.intent)) good due, refl);
   later = λ outside. absurd (false≢true outside);
 }
+Offered-change limits l (AlterMerge name columns) offer good due offers = record {
+  due = (good_due limits l (AlterMerge name columns) (Commits (commit_of offer.intent)) good due, refl);
+  later = λ outside. absurd (false≢true outside);
+}
 Offered-change limits l (Ingest i) offer good due offers = record {
   due = (good_due limits l (Ingest i) (Commits (commit_of offer.intent)) good due, refl);
-  later = λ outside more. good_due limits (l ++ more) (Ingest i) (offer_due limits (l ++ more) offer) good (rows_later limits l more i offer (table_numbered i.table.text (tables l)) refl due offers);
+  later = λ outside more still. good_due limits (l ++ more) (Ingest i) (offer_due limits (l ++ more) offer) good (rows_later limits l more i offer (table_numbered i.table.text (tables l)) refl due offers still);
 }
 
 -- what was found for a change of a good text
@@ -74,10 +82,15 @@ Found-change limits h now change (Ok (founds.Commits offer)) good due offers = O
 Found-change limits h now change (Err r) good due offers = offers
 
 -- what the offer that was found at a place comes to is due
-pub Offered-still : (limits : Limits) (h : History) (place : ℕ) (command : Command) (offer : Offer) → is_prepared_outside command ≡ true → IsOffered limits (log (take place h)) command offer → IsDueTo limits (log h) command (offer_due limits (log h) offer)
-Offered-still limits h place command offer outside offered =
+pub Offered-still : (limits : Limits) (h : History) (place : ℕ) (command : Command) (offer : Offer) → is_prepared_outside command ≡ true → IsOffered limits (log (take place h)) command offer → is_as_read (log h) offer.unless ≡ true
+    → IsDueTo limits (log h) command (offer_due limits (log h) offer)
+Offered-still limits h place command offer outside offered still =
     let whole : log (take place h) ++ log (drop place h) ≡ log h = sym (log-append (take place h) (drop place h)) ∙ ap log (take-append-drop place h) in
-    subst (λ (l : Log). IsDueTo limits l command (offer_due limits l offer)) whole (offered.later outside (log (drop place h)))
+    subst (λ (l : Log). IsDueTo limits l command (offer_due limits l offer)) whole (offered.later outside (log (drop place h)) (subst (λ (l : Log). is_as_read l offer.unless ≡ true) (sym whole) still))
+
+-- an offer is made of a good text
+pub Offered-good : (limits : Limits) (l : Log) (command : Command) (offer : Offer) → IsOffered limits l command offer → IsGoodText command
+Offered-good limits l command offer offered = commit_good limits l command (commit_of offer.intent) offered.due
 
 -- ---- what is due
 

@@ -28,6 +28,8 @@ IsRising-below p q (m ∷ ms) below rising = (omega (arith, below, rising.0), ri
 
 one_or_none : (o : Operation) → length (commits_of o) ≤ 1
 one_or_none (operation.Commit c) = omega arith
+one_or_none (operation.Fold view to) = omega arith
+one_or_none (operation.Merge table ids new) = omega arith
 
 rising_by : (by : By) (n : ℕ) (cs : Log) (ms : List CommitAt) → length cs ≤ 1 → IsRising (n + 1) ms → IsRising n (map (λ (c : Commit). let m : CommitAt = record { place = n + 1; by = by } in m) cs ++ ms)
 rising_by by n [] ms few rising = IsRising-below n (n + 1) ms (omega arith) rising

@@ -1,5 +1,5 @@
 -- Where preparing a command takes memory.
-use Rattle.std.proofs.Common.{◌≡◌, ℕ, ℤ, Bool, true, false, cond, List, length, nat_lt, Option, Some, None}
+use Rattle.std.proofs.Common.{◌≡◌, ◌+◌, ℕ, ℤ, Bool, true, false, cond, List, [], ◌∷◌, length, nat_lt, Option, Some, None, ap, arith}
 use Rattle.std.specs.Option.{option_map}
 use Rattle.std.proofs.lemmas.Bool.{false≢true}
 use Rattle.kq_value.specs.declared.schema.Field.{Field}
@@ -11,35 +11,46 @@ use Rattle.kq_model.specs.declared.table.Table.{Table}
 use Rattle.kq_model.specs.History.{History, Log, Numbered, log, tables, table_named, table_numbered}
 use Rattle.kq_command.specs.declared.columns.Column.{Column}
 use Rattle.kq_command.specs.declared.columns.Identifier.{Identifier}
-use Rattle.kq_command.specs.declared.command.Change.TheVariants.{CreateTable, Ingest}
+use Rattle.kq_command.specs.declared.command.Change.TheVariants.{CreateTable, AlterMerge, Ingest}
 use Rattle.kq_command.specs.declared.command.Command.{Command}
 use Rattle.kq_command.specs.declared.command.Command.TheVariants.{Query, Show, Change, Unbuilt}
 use Rattle.kq_command.specs.declared.ingestion.Ingestion.{Ingestion}
 use Rattle.kq_command.specs.declared.command.Show.{Show as Showing}
 use Rattle.kq_command.specs.declared.command.Show.TheVariants as shows
 use Rattle.kq_command.specs.Columns.{schema_of}
+use Rattle.kq_command.specs.Widening.{first_clash, new_columns}
 use Rattle.kq_reply.specs.declared.refusal.Refusal.TheVariants as refusals
 use Rattle.kq_reply.specs.declared.reply.Reply.TheVariants as replies
-use Rattle.kq_engine.specs.Due.{Due, Says, Commits, IsDueByText, counted, ingest_due, named_due, refused, repeated_place}
+use Rattle.kq_engine.specs.Due.{Due, Says, Commits, IsDueByText, clash_due, counted, ingest_due, lacking_due, named_due, refused, repeated_place, widening_due}
 use Rattle.kq_engine.specs.Fits.{IsDue}
-use Rattle.kq_engine.specs.Found.{IsCommitDue, Stands, TakesMemory, TakesToFind, TakesToShow, is_prepared_outside}
+use Rattle.kq_engine.specs.Found.{Gains, IsCommitDue, Stands, TakesMemory, TakesToFind, TakesToShow, is_prepared_outside}
 use Rattle.kq_engine.specs.Shows.{ShowsExtents, AnswersShow}
-use Rattle.kq_engine.proofs.Dues.{Due-is_good, no_commit, table_due-unnamed}
+use Rattle.kq_engine.proofs.Dues.{Due-is_good, table_due-unnamed}
+use Rattle.kq_engine.proofs.Fit.{no_commit}
+use Rattle.kq_engine.proofs.Gaining.{widening-gains}
 
 -- rows were read only for a table that stands
 rows_wanted : (limits : Limits) (l : Log) (i : Ingestion) (o : Option Numbered) (c : Commit) → Commits c ≡ ingest_due limits l i o → Stands o
 rows_wanted limits l i None c due = no_commit c (refusals.Unknown i.table.at) due
 rows_wanted limits l i (Some found) c due = tt
 
+columns_wanted : (limits : Limits) (l : Log) (name : Identifier) (columns : List Column) (o : Option Numbered) (c : Commit) → Commits c ≡ widening_due limits l name columns o → Gains columns o
+columns_wanted limits l name columns None c due = no_commit c (refusals.Unknown name.at) due
+columns_wanted limits l name columns (Some found) c due = λ none.
+    let some = widening-gains limits l name columns found c due in
+    let empty : length (schema_of (new_columns found.table.schema columns)) ≡ 0 = ap (λ (cs : List Column). length (schema_of cs)) none in
+    omega (arith, some, empty)
+
 -- a commit that is due takes memory
 pub commit_finds : (limits : Limits) (h : History) (command : Command) (c : Commit) → IsCommitDue limits (log h) command c → TakesToFind h command
 commit_finds limits h (Query query) c due = absurd due
 commit_finds limits h (Show show) c due = absurd due
 commit_finds limits h (Change (CreateTable name columns)) c due = table_due-unnamed limits (log h) name (schema_of columns) c (Due-is_good limits (log h) (CreateTable name columns) c due.0).1.1
+commit_finds limits h (Change (AlterMerge name columns)) c due = columns_wanted limits (log h) name columns (table_numbered name.text (tables (log h))) c (Due-is_good limits (log h) (AlterMerge name columns) c due.0).1
 commit_finds limits h (Change (Ingest i)) c due = rows_wanted limits (log h) i (table_numbered i.table.text (tables (log h))) c (Due-is_good limits (log h) (Ingest i) c due.0).1
 commit_finds limits h Unbuilt c due = absurd due
 
--- ---- want of memory isn't due to `.create table`
+-- ---- want of memory isn't due to `.create table` or `.alter-merge table`
 
 abbrev memory_due : Due
 memory_due = refused refusals.Memory
@@ -76,6 +87,30 @@ not_table limits l name columns None due =
     let named = table_named name.text (tables l) in
     neither (nat_lt limits.columns (length schema)) (refused (refusals.Full limits.columns)) (named_due limits l name schema named) (not_full limits.columns) (not_named limits l name schema named) due.1
 
+not_mistyped : (at : ℕ) → memory_due ≡ refused (refusals.Mistyped at) → ⊥
+not_mistyped at e = cc
+
+not_unknown : (at : ℕ) → memory_due ≡ refused (refusals.Unknown at) → ⊥
+not_unknown at e = cc
+
+not_lacking : (limits : Limits) (l : Log) (found : Numbered) (more : List Field) → memory_due ≡ lacking_due limits l found more → ⊥
+not_lacking limits l found [] e = not_kept found.table.widened e
+not_lacking limits l found (f ∷ more) e =
+    let wider = commits.AlterMerge found.number (f ∷ more) in
+    neither (nat_lt limits.columns (length found.table.schema + length (f ∷ more))) (refused (refusals.Full limits.columns)) (counted limits l wider) (not_full limits.columns) (not_counted limits l wider) e
+
+not_clash : (limits : Limits) (l : Log) (found : Numbered) (columns : List Column) (clash : Option ℕ) → memory_due ≡ clash_due limits l found columns clash → ⊥
+not_clash limits l found columns (Some at) e = not_mistyped at e
+not_clash limits l found columns None e = not_lacking limits l found (schema_of (new_columns found.table.schema columns)) e
+
+not_widening : (limits : Limits) (l : Log) (name : Identifier) (columns : List Column) (o : Option Numbered) → memory_due ≡ widening_due limits l name columns o → ⊥
+not_widening limits l name columns None e = not_unknown name.at e
+not_widening limits l name columns (Some found) e = not_clash limits l found columns (first_clash found.table.schema columns) e
+
+not_columns : (limits : Limits) (l : Log) (name : Identifier) (columns : List Column) (place : Option ℕ) → IsDueByText limits l (AlterMerge name columns) (option_map (λ (at : ℕ). refusals.Mistyped at) place) memory_due → ⊥
+not_columns limits l name columns (Some at) due = not_mistyped at due
+not_columns limits l name columns None due = not_widening limits l name columns (table_numbered name.text (tables l)) due
+
 -- ---- want of memory as a reply that is due
 
 extents_find : (h : History) (table : Identifier) (o : Option Numbered) → ShowsExtents h table o (replies.Refused refusals.Memory) → Stands o
@@ -98,6 +133,7 @@ pub due_finds : (limits : Limits) (h : History) (now : ℤ) (command : Command) 
 due_finds limits h now (Query query) due = tt
 due_finds limits h now (Show asked) due = show_finds h asked due
 due_finds limits h now (Change (CreateTable name columns)) due = absurd (not_table limits (log h) name columns (repeated_place columns) due)
+due_finds limits h now (Change (AlterMerge name columns)) due = absurd (not_columns limits (log h) name columns (repeated_place columns) due)
 due_finds limits h now (Change (Ingest i)) due = ingest_finds limits (log h) i i.properties.repeated due
 due_finds limits h now Unbuilt due = cc
 
@@ -106,5 +142,6 @@ pub found_wants : (h : History) (command : Command) → is_prepared_outside comm
 found_wants h (Query query) outside takes = takes
 found_wants h (Show asked) outside takes = takes
 found_wants h (Change (CreateTable name columns)) outside takes = absurd (false≢true outside)
+found_wants h (Change (AlterMerge name columns)) outside takes = absurd (false≢true outside)
 found_wants h (Change (Ingest i)) outside takes = takes
 found_wants h Unbuilt outside takes = takes

@@ -15,11 +15,12 @@ use Rattle.kq_model.specs.Tagged.{ingested_by, least_tagged}
 use Rattle.kq_command.specs.declared.columns.Column.{Column}
 use Rattle.kq_command.specs.declared.columns.Identifier.{Identifier}
 use Rattle.kq_command.specs.declared.command.Change.{Change}
-use Rattle.kq_command.specs.declared.command.Change.TheVariants.{CreateTable, Ingest}
+use Rattle.kq_command.specs.declared.command.Change.TheVariants.{CreateTable, AlterMerge, Ingest}
 use Rattle.kq_command.specs.declared.ingestion.Ingestion.{Ingestion}
 use Rattle.kq_command.specs.declared.ingestion.Properties.{Properties}
 use Rattle.kq_command.specs.declared.ingestion.Quoted.{Quoted}
 use Rattle.kq_command.specs.Columns.{schema_of, column_names}
+use Rattle.kq_command.specs.Widening.{first_clash, new_columns}
 use Rattle.kq_ingest.specs.declared.fault.IngestFault.{IngestFault}
 use Rattle.kq_ingest.specs.declared.fault.IngestFault.TheVariants as faults
 use Rattle.kq_ingest.specs.Ingestion.{rows_of, first_fault}
@@ -40,6 +41,7 @@ refused r = Says (replies.Refused r)
 -- the reply to a commit, by its cursor
 abbrev pub reply_to : Commit → ℕ → Reply
 reply_to (commits.CreateTable name schema) cursor = replies.Done cursor
+reply_to (commits.AlterMerge table columns) cursor = replies.Done cursor
 reply_to (commits.Ingest batches failures) cursor = replies.Ingested cursor (own_rows batches)
 
 -- a commit that nothing else bars, where one more is allowed
@@ -55,6 +57,7 @@ repeated_place columns = option_map (λ (c : Column). c.name.at) (option_and_the
 -- the refusal of the text, whatever the log: a repeated column, or a repeated property
 abbrev pub text_refusal : Change → Option Refusal
 text_refusal (CreateTable name columns) = option_map (λ (at : ℕ). refusals.Mistyped at) (repeated_place columns)
+text_refusal (AlterMerge name columns) = option_map (λ (at : ℕ). refusals.Mistyped at) (repeated_place columns)
 text_refusal (Ingest ingestion) = option_map (λ (at : ℕ). refusals.Mistyped at) ingestion.properties.repeated
 
 -- ---- `.create table`
@@ -76,6 +79,28 @@ named_due limits l name schema None = made_due limits l name schema
 abbrev pub table_due : Limits → Log → Identifier → List Field → Due
 table_due limits l name schema =
     if nat_lt limits.columns (length schema) then refused (refusals.Full limits.columns) else named_due limits l name schema (table_named name.text (tables l))
+
+-- ---- `.alter-merge table`
+
+-- further columns of a table, within the limit and where one more commit is allowed
+abbrev pub wider_due : Limits → Log → Numbered → List Field → Due
+wider_due limits l found more =
+    if nat_lt limits.columns (length found.table.schema + length more) then refused (refusals.Full limits.columns)
+    else counted limits l (commits.AlterMerge found.number more)
+
+-- a table that lacks none of the columns is kept as the last commit left it that made or widened it
+abbrev pub lacking_due : Limits → Log → Numbered → List Field → Due
+lacking_due limits l found [] = Says (replies.Kept found.table.widened)
+lacking_due limits l found (f ∷ more) = wider_due limits l found (f ∷ more)
+
+-- the first column is refused that the table has with another type
+abbrev pub clash_due : Limits → Log → Numbered → List Column → Option ℕ → Due
+clash_due limits l found columns (Some at) = refused (refusals.Mistyped at)
+clash_due limits l found columns None = lacking_due limits l found (schema_of (new_columns found.table.schema columns))
+
+abbrev pub widening_due : Limits → Log → Identifier → List Column → Option Numbered → Due
+widening_due limits l name columns None = refused (refusals.Unknown name.at)
+widening_due limits l name columns (Some found) = clash_due limits l found columns (first_clash found.table.schema columns)
 
 -- ---- `.ingest`: tags
 
@@ -151,6 +176,7 @@ ingest_due limits l i (Some found) = rows_due limits l i found
 -- what a change of a good text is due; a table has one column or more
 abbrev pub IsDueByLog : Limits → Log → Change → Due → Type 0
 IsDueByLog limits l (CreateTable name columns) due = (0 < length columns) × (due ≡ table_due limits l name (schema_of columns))
+IsDueByLog limits l (AlterMerge name columns) due = due ≡ widening_due limits l name columns (table_numbered name.text (tables l))
 IsDueByLog limits l (Ingest ingestion) due = due ≡ ingest_due limits l ingestion (table_numbered ingestion.table.text (tables l))
 
 abbrev pub IsDueByText : Limits → Log → Change → Option Refusal → Due → Type 0

@@ -57,9 +57,11 @@ abbrev pub event_by : By → Option Operation → History
 event_by mark None = []
 event_by mark (Some made) = record { by = mark; operation = made } ∷ []
 
--- the operation that a command without a commit may make beside its reply: no commit
+-- the operation that a command without a commit may make beside its reply: no commit, and no command folds or merges yet
 abbrev pub Tends : Limits → History → Command → Reply → Operation → Type 0
 Tends limits old command reply (operation.Commit c) = ⊥
+Tends limits old command reply (operation.Fold view to) = ⊥
+Tends limits old command reply (operation.Merge table ids new) = ⊥
 
 -- the reply is no refusal
 abbrev pub IsGranted : Reply → Type 0
@@ -89,6 +91,8 @@ own_commit false place mark = []
 
 abbrev pub IsCommit : Operation → Type 0
 IsCommit (operation.Commit c) = Unit {0}
+IsCommit (operation.Fold view to) = ⊥
+IsCommit (operation.Merge table ids new) = ⊥
 
 -- the operation is a commit, or one that the command may make beside its reply, which is no refusal
 abbrev pub MayMake : Limits → History → Command → Reply → Option Operation → Type 0

@@ -1,13 +1,17 @@
 -- What is found of a command on a history, what of it stays due, and where memory may be wanting.
-use Rattle.std.specs.Prelude.{◌≡◌, ◌⊎◌, ◌<◌, ◌+◌, ℕ, ℤ, Bool, true, false, List, ◌++◌, length, take, Option, Some, None, Result, Ok, Err}
+use Rattle.std.specs.Prelude.{◌≡◌, ◌≢◌, ◌⊎◌, ◌<◌, ◌+◌, ℕ, ℤ, Bool, true, false, nat_eq, List, [], ◌++◌, length, take, Option, Some, None, Result, Ok, Err}
+use Rattle.std.specs.List.{slice_get}
 use Rattle.kq_model.specs.declared.batch.Batch.{Batch}
 use Rattle.kq_model.specs.declared.event.Commit.{Commit}
 use Rattle.kq_model.specs.declared.limits.Limits.{Limits}
+use Rattle.kq_model.specs.declared.table.Table.{Table}
 use Rattle.kq_model.specs.History.{History, Log, log, tables, table_named, Numbered, table_numbered}
 use Rattle.kq_model.specs.Tagged.{least_tagged}
 use Rattle.kq_catalog.specs.Intents.{commit_of}
+use Rattle.kq_command.specs.declared.columns.Column.{Column}
+use Rattle.kq_command.specs.Widening.{new_columns}
 use Rattle.kq_command.specs.declared.command.Change.{Change as Changing}
-use Rattle.kq_command.specs.declared.command.Change.TheVariants.{CreateTable, Ingest}
+use Rattle.kq_command.specs.declared.command.Change.TheVariants.{CreateTable, AlterMerge, Ingest}
 use Rattle.kq_command.specs.declared.command.Command.{Command}
 use Rattle.kq_command.specs.declared.command.Command.TheVariants.{Query, Show, Change, Unbuilt}
 use Rattle.kq_command.specs.declared.ingestion.Ingestion.{Ingestion}
@@ -45,19 +49,33 @@ abbrev pub barred_at : Log → Option Barring → Option ℕ
 barred_at l None = None
 barred_at l (Some barring) = least_tagged l barring.table barring.tags
 
+abbrev pub is_widened_at : Option Table → ℕ → Bool
+is_widened_at None cursor = false
+is_widened_at (Some t) cursor = nat_eq t.widened cursor
+
+-- whether the table for which rows were read was not widened since
+abbrev pub is_as_read : Log → Option Barring → Bool
+is_as_read l None = true
+is_as_read l (Some barring) = is_widened_at (slice_get (tables l) barring.table) barring.widened
+
+-- rows were read for this table as it stands
+abbrev pub IsReadFor : Numbered → Option Barring → Type 0
+IsReadFor found None = ⊥
+IsReadFor found (Some barring) = (barring.table ≡ found.number) × (barring.widened ≡ found.table.widened)
+
 -- what an offer comes to: it is skipped where one of its tags stands, and else its commit is counted
 abbrev pub offer_due : Limits → Log → Offer → Due
 offer_due limits l offer = unless_tagged (barred_at l offer.unless) (counted limits l (commit_of offer.intent))
 
--- a commit that was found for a batch: whatever the log, the batch is due what the offer comes to
-abbrev pub IsOfferOf : Limits → Batch → List (List ℕ) → Found → Type 0
-IsOfferOf limits own barring (founds.Says reply) = Unit {0}
-IsOfferOf limits own barring (founds.Commits offer) = (l : Log) → batch_due limits l own barring ≡ offer_due limits l offer
+-- a commit that was found for a batch of rows that were read for a table: whatever the log, the batch is due what the offer comes to
+abbrev pub IsOfferOf : Limits → Numbered → Batch → List (List ℕ) → Found → Type 0
+IsOfferOf limits table own barring (founds.Says reply) = Unit {0}
+IsOfferOf limits table own barring (founds.Commits offer) = IsReadFor table offer.unless × ((l : Log) → batch_due limits l own barring ≡ offer_due limits l offer)
 
 -- a commit that was found for an ingestion into a table: whatever the log, the ingestion is due what the offer comes to
 abbrev pub OffersRows : Limits → Ingestion → Numbered → Found → Type 0
 OffersRows limits i table (founds.Says reply) = Unit {0}
-OffersRows limits i table (founds.Commits offer) = (l : Log) → rows_due limits l i table ≡ offer_due limits l offer
+OffersRows limits i table (founds.Commits offer) = IsReadFor table offer.unless × ((l : Log) → rows_due limits l i table ≡ offer_due limits l offer)
 
 -- the same for a table that stands under its name
 abbrev pub OffersInto : Limits → Log → Ingestion → Found → Type 0
@@ -65,6 +83,7 @@ OffersInto limits l i found = (table : Numbered) → table_numbered i.table.text
 
 abbrev pub OffersChange : Limits → Log → Changing → Found → Type 0
 OffersChange limits l (CreateTable name columns) found = Unit {0}
+OffersChange limits l (AlterMerge name columns) found = Unit {0}
 OffersChange limits l (Ingest ingestion) found = OffersInto limits l ingestion found
 
 -- whether a command is prepared outside the lock, on a snapshot: what only asks is, and what reads rows
@@ -72,6 +91,7 @@ abbrev pub is_prepared_outside : Command → Bool
 is_prepared_outside (Query query) = true
 is_prepared_outside (Show show) = true
 is_prepared_outside (Change (CreateTable name columns)) = false
+is_prepared_outside (Change (AlterMerge name columns)) = false
 is_prepared_outside (Change (Ingest ingestion)) = true
 is_prepared_outside Unbuilt = true
 
@@ -85,10 +105,10 @@ IsDueTo limits l (Show show) due = ⊥
 IsDueTo limits l (Change change) due = IsChangeDue limits l change due
 IsDueTo limits l Unbuilt due = ⊥
 
--- the commit is due; and after more commits, if the command is prepared outside the lock, it is due what the offer comes to
+-- the commit is due; and after more commits, if the command is prepared outside the lock and its rows are as they would be read, it is due what the offer comes to
 pub record IsOffered (limits : Limits) (l : Log) (command : Command) (offer : Offer) : Type 0 where
   pub due : IsCommitDue limits l command (commit_of offer.intent)
-  pub later : is_prepared_outside command ≡ true → (more : Log) → IsDueTo limits (l ++ more) command (offer_due limits (l ++ more) offer)
+  pub later : is_prepared_outside command ≡ true → (more : Log) → is_as_read (l ++ more) offer.unless ≡ true → IsDueTo limits (l ++ more) command (offer_due limits (l ++ more) offer)
 
 -- what was found is due to the command at a moment
 abbrev pub IsFound : Limits → History → ℤ → Command → Found → Type 0
@@ -107,6 +127,7 @@ IsGoodText Unbuilt = Unit {0}
 -- looking at the text of a change takes memory: a repeated column is looked for among more than 256
 abbrev pub TakesToRead : Changing → Type 0
 TakesToRead (CreateTable name columns) = 256 < length columns
+TakesToRead (AlterMerge name columns) = 256 < length columns
 TakesToRead (Ingest ingestion) = ⊥
 
 -- the text alone is refused so, or memory was wanting to look at it
@@ -144,15 +165,21 @@ abbrev pub Stands : Option Numbered → Type 0
 Stands None = ⊥
 Stands (Some found) = Unit {0}
 
+-- a table that stands gains columns
+abbrev pub Gains : List Column → Option Numbered → Type 0
+Gains columns None = ⊥
+Gains columns (Some found) = new_columns found.table.schema columns ≢ []
+
 abbrev pub TakesToShow : History → Showing → Type 0
 TakesToShow h (shows.Extents table) = Stands (table_numbered table.text (tables (log h)))
 TakesToShow h shows.Journal = Unit {0}
 
--- finding what the command is due on this history takes memory: to bind a query does; to make a table does, and not to keep one
+-- finding what the command is due on this history takes memory: to bind a query does; to make or widen a table does, and not to keep one
 abbrev pub TakesToFind : History → Command → Type 0
 TakesToFind h (Query query) = Unit {0}
 TakesToFind h (Show show) = TakesToShow h show
 TakesToFind h (Change (CreateTable name columns)) = table_named name.text (tables (log h)) ≡ None
+TakesToFind h (Change (AlterMerge name columns)) = Gains columns (table_numbered name.text (tables (log h)))
 TakesToFind h (Change (Ingest ingestion)) = Stands (table_numbered ingestion.table.text (tables (log h)))
 TakesToFind h Unbuilt = ⊥
 
@@ -161,6 +188,7 @@ abbrev pub TakesMemory : History → Command → Type 0
 TakesMemory h (Query query) = TakesToFind h (Query query)
 TakesMemory h (Show show) = TakesToFind h (Show show)
 TakesMemory h (Change (CreateTable name columns)) = TakesToRead (CreateTable name columns)
+TakesMemory h (Change (AlterMerge name columns)) = TakesToRead (AlterMerge name columns)
 TakesMemory h (Change (Ingest ingestion)) = TakesToFind h (Change (Ingest ingestion))
 TakesMemory h Unbuilt = ⊥
 
@@ -169,7 +197,7 @@ pub record TakesToDecide (h : History) (command : Command) : Type 0 where
   pub pending : IsPending command
   pub takes : TakesToFind h command
 
--- finishing on this history takes memory: a commit that was found is put in
+-- finishing on this history takes memory: a commit that was found is put in, or its rows are read again
 abbrev pub TakesToFinish : History → Command → Ready → Type 0
 TakesToFinish h command (readies.Answered reply) = ⊥
 TakesToFinish h command (readies.ToCommit offer) = Unit {0}

@@ -5,8 +5,9 @@ ghost use Rattle.kq_catalog.specs.Intents.{commit_of};
 ghost use Rattle.kq_command.specs.declared.command.Change.TheVariants as changes;
 ghost use Rattle.kq_command.specs.declared.command.Command.TheVariants as commands;
 ghost use Rattle.kq_command.specs.Columns.{schema_of};
-ghost use Rattle.kq_engine.specs.Due.{IsDueByLog, batch_due, kept_due, made_due, refusal_of as refusal_by, rows_due, table_due};
-ghost use Rattle.kq_engine.specs.Found.{Finds, IsOfferOf, OffersChange, OffersInto, OffersRows, Stands, TakesToFind};
+ghost use Rattle.kq_command.specs.Widening.{new_columns};
+ghost use Rattle.kq_engine.specs.Due.{IsDueByLog, batch_due, kept_due, lacking_due, made_due, refusal_of as refusal_by, rows_due, table_due};
+ghost use Rattle.kq_engine.specs.Found.{Finds, Gains, IsOfferOf, OffersChange, OffersInto, OffersRows, Stands, TakesToFind, is_as_read as is_as_read_by};
 ghost use Rattle.kq_model.specs.declared.event.Commit.TheVariants as commits;
 ghost use Rattle.kq_model.specs.History.{log, tables, table_named, table_numbered};
 ghost use Rattle.kq_reply.specs.declared.refusal.Refusal.TheVariants as refusals;
@@ -31,6 +32,7 @@ pub(crate) fn prepare(snapshot: &Snapshot, change: &Change) -> Result<Found, Ref
 {
     match change {
         Change::CreateTable { name, columns } => create(snapshot, name, columns),
+        Change::AlterMerge { name, columns } => alter(snapshot, name, columns),
         Change::Ingest(ingestion) => ingest(snapshot, ingestion),
     }
 }
@@ -40,6 +42,19 @@ pub(crate) fn has_room(snapshot: &Snapshot) -> bool
     ensures { result ≡ nat_lt (length (log snapshot.now.history)) snapshot.now.limits.commits }
 {
     snapshot.cursor() < snapshot.limits().commits
+}
+
+/// Whether the table for which rows were read was not widened since.
+pub(crate) fn is_as_read(snapshot: &Snapshot, unless: &Option<Barring>) -> bool
+    ensures { result ≡ is_as_read_by (log snapshot.now.history) unless.now }
+{
+    match unless {
+        Some(barring) => match snapshot.table_at(barring.table) {
+            Some(table) => table.widened == barring.widened,
+            None => false,
+        },
+        None => true,
+    }
 }
 
 fn create(snapshot: &Snapshot, name: &Identifier, columns: &Columns) -> Result<Found, Refusal>
@@ -99,6 +114,55 @@ fn make(snapshot: &Snapshot, name: &Identifier, columns: &Columns) -> Result<Fou
     }))
 }
 
+fn alter(snapshot: &Snapshot, name: &Identifier, columns: &Columns) -> Result<Found, Refusal>
+    ensures due { Finds (IsDueByLog snapshot.now.limits (log snapshot.now.history) (changes.AlterMerge name.now columns.now)) result }
+    ensures memory { IfErr result (λ r. r ≡ refusals.Memory → Gains columns.now (table_numbered name.now.text (tables (log snapshot.now.history)))) }
+{
+    let Some((number, table)) = snapshot.table(&name.text) else {
+        return Err(Refusal::Unknown { at: name.at as u64 });
+    };
+    match columns.first_clash(&table.schema) {
+        Some(at) => Err(Refusal::Mistyped { at: at as u64 }),
+        None => widen(snapshot, number, table, columns),
+    }
+}
+
+// The table has none of the columns with another type.
+fn widen(
+    snapshot: &Snapshot,
+    number: u32,
+    table: &Table,
+    columns: &Columns,
+) -> Result<Found, Refusal>
+    ensures due { Finds (λ due. due ≡ lacking_due snapshot.now.limits (log snapshot.now.history) (record { number = number; table = table.now }) (schema_of (new_columns table.now.schema columns.now))) result }
+    ensures memory { IfErr result (λ r. r ≡ refusals.Memory → new_columns table.now.schema columns.now ≢ []) }
+{
+    let new = columns.count_new(&table.schema);
+    if new == 0 {
+        return Ok(Found::Says(Reply::Kept {
+            cursor: table.widened,
+        }));
+    }
+    let limits = snapshot.limits();
+    if (table.schema.len() as u64).saturating_add(new as u64) > limits.columns {
+        return Err(Refusal::Full {
+            limit: limits.columns,
+        });
+    }
+    if !has_room(snapshot) {
+        return Err(Refusal::Full {
+            limit: limits.commits,
+        });
+    }
+    Ok(Found::Commits(Offer {
+        intent: Intent::AlterMerge {
+            table: number,
+            columns: columns.new_columns(snapshot.allocator(), &table.schema)?,
+        },
+        unless: None,
+    }))
+}
+
 fn ingest(snapshot: &Snapshot, ingestion: &Ingestion) -> Result<Found, Refusal>
     ensures due { Finds (IsDueByLog snapshot.now.limits (log snapshot.now.history) (changes.Ingest ingestion.now)) result }
     ensures offers { IfOk result (OffersInto snapshot.now.limits (log snapshot.now.history) ingestion.now) }
@@ -127,7 +191,7 @@ fn read(
     let limit = snapshot.limits().batch;
     let body = ingestion.body.as_str();
     match read_rows(alloc, body, &table.schema, properties.ignore_first, limit) {
-        Ok(rows) => put_rows(snapshot, number, &table.schema, &rows, labels),
+        Ok(rows) => put_rows(snapshot, number, table, &rows, labels),
         Err(fault) => Err(refusal_of(fault)),
     }
 }
@@ -146,17 +210,18 @@ fn refusal_of(fault: IngestFault) -> Refusal
 fn put_rows(
     snapshot: &Snapshot,
     number: u32,
-    schema: &Schema,
+    table: &Table,
     rows: &Rows,
     labels: Labels,
 ) -> Result<Found, Refusal>
-    requires { All (HasTypes schema.now) rows.now }
+    requires { All (HasTypes table.now.schema) rows.now }
     ensures due { Finds (λ due. due ≡ batch_due snapshot.now.limits (log snapshot.now.history) (record { table = number; rows = rows.now; tags = labels.tags }) labels.barring) result }
-    ensures offers { IfOk result (IsOfferOf snapshot.now.limits (record { table = number; rows = rows.now; tags = labels.tags }) labels.barring) }
+    ensures offers { IfOk result (IsOfferOf snapshot.now.limits (record { number = number; table = table.now }) (record { table = number; rows = rows.now; tags = labels.tags }) labels.barring) }
 {
     let Labels { tags, barring } = labels;
     let unless = Some(Barring {
         table: number,
+        widened: table.widened,
         tags: barring,
     });
     if let Some(cursor) = barring_cursor(snapshot, &unless) {
@@ -167,7 +232,7 @@ fn put_rows(
             limit: snapshot.limits().commits,
         });
     }
-    let intent = own_part(snapshot, number, schema, rows, tags)?;
+    let intent = own_part(snapshot, number, &table.schema, rows, tags)?;
     Ok(Found::Commits(Offer { intent, unless }))
 }
 

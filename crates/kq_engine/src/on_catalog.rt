@@ -10,7 +10,7 @@ ghost use Rattle.kq_model.specs.Lawful.{own_rows as own_rows_of};
 ghost use Rattle.kq_reply.specs.declared.refusal.Refusal.TheVariants as refusals;
 ghost use Rattle.kq_reply.specs.declared.reply.Reply.TheVariants as replies;
 
-use crate::changes::has_room;
+use crate::changes::{has_room, is_as_read};
 use crate::on_snapshot::find;
 use crate::tags::barring_cursor;
 use crate::work::{Found, Offer, Outcome, Prepared, Ready, Work};
@@ -18,7 +18,7 @@ use kq_catalog::{Catalog, Intent, Part};
 use kq_reply::{Refusal, Reply};
 
 /// Makes at most one event. A commit that was found on a snapshot is put in unless a tag has come to bar it, or no more
-/// commits are allowed; the rows are not read again. What the snapshot told nothing of is decided on the catalogue as it
+/// commits are allowed; its rows are read again only where the table was widened since. What the snapshot told nothing of is decided on the catalogue as it
 /// stands. A refusal makes no event, and its place is the catalogue's. Want of memory is told of a commit that was found,
 /// or of a command of which the snapshot told nothing.
 pub fn finish(catalog: &mut Catalog, prepared: Prepared) -> Result<Outcome, Refusal>
@@ -34,7 +34,13 @@ pub fn finish(catalog: &mut Catalog, prepared: Prepared) -> Result<Outcome, Refu
             own: false,
             reply,
         }),
-        Ready::ToCommit(offer) => commit(catalog, &work, offer),
+        Ready::ToCommit(offer) => {
+            if is_as_read(catalog.present(), &offer.unless) {
+                commit(catalog, &work, offer)
+            } else {
+                decide(catalog, &work)
+            }
+        }
         Ready::Pending => decide(catalog, &work),
     }
 }
@@ -101,7 +107,7 @@ fn reply_for(intent: &Intent, cursor: u64) -> Reply
     ensures { result ≡ reply_to (commit_of intent.now) cursor }
 {
     match intent {
-        Intent::CreateTable { .. } => Reply::Done { cursor },
+        Intent::CreateTable { .. } | Intent::AlterMerge { .. } => Reply::Done { cursor },
         Intent::Ingest { parts, failures: _ } => Reply::Ingested {
             cursor,
             rows: own_rows(parts.as_slice()),

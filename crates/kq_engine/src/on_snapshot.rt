@@ -71,7 +71,9 @@ fn check_change(change: &Change) -> Result<(), Refusal>
     ensures memory { IfErr result (λ r. r ≡ refusals.Memory → (h : History) → TakesMemory h (commands.Change change.now)) }
 {
     let repeated = match change {
-        Change::CreateTable { name: _, columns } => repeated_place(columns)?,
+        Change::CreateTable { name: _, columns } | Change::AlterMerge { name: _, columns } => {
+            repeated_place(columns)?
+        }
         Change::Ingest(ingestion) => ingestion.properties.repeated,
     };
     match repeated {
@@ -83,7 +85,10 @@ fn check_change(change: &Change) -> Result<(), Refusal>
 fn is_prepared_outside(command: &Command) -> bool
     ensures { result ≡ is_prepared_outside_by command.now }
 {
-    !matches!(command, Command::Change(Change::CreateTable { .. }))
+    !matches!(
+        command,
+        Command::Change(Change::CreateTable { .. } | Change::AlterMerge { .. })
+    )
 }
 
 /// What a command is due at a moment whose text is good.

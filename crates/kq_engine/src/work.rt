@@ -25,14 +25,16 @@ pub struct Outcome {
     pub reply: Reply,
 }
 
-/// Tags of which none may stand on an extent of a table, which goes by its number.
+/// A table, which goes by its number, with the cursor of the commit that had last made or widened it when rows were read for
+/// it, and tags of which none may stand on its extents.
 #[derive(Drop)]
 pub struct Barring {
     pub table: u32,
+    pub widened: u64,
     pub tags: Tags,
 }
 
-/// A commit that was found due, and the tags that bar it where it is made later.
+/// A commit that was found due, and what bars it where it is made later.
 #[derive(Drop)]
 pub struct Offer {
     pub intent: Intent,
@@ -51,7 +53,7 @@ pub(crate) enum Found {
 pub enum Ready {
     /// The reply, which the snapshot tells whole.
     Answered(Reply),
-    /// The commit that is due while no tag bars it and one more is allowed.
+    /// The commit that is due while its table isn't widened, no tag bars it and one more is allowed.
     ToCommit(Offer),
     /// Nothing: the catalogue alone tells what is due.
     Pending,

@@ -1,12 +1,16 @@
 -- The rows of extents, as those of a world.
-use Rattle.std.proofs.Common.{◌≡◌, ℕ, List, [], All, map, Option, Some, None, Result, Ok, Err, IfOk, ap, subst}
+use Rattle.std.proofs.Common.{◌≡◌, ℕ, List, [], All, map, Option, Some, None, Result, Ok, Err, IfOk, ap, sym, ◌∙◌, subst}
+use Rattle.std.specs.List.{slice_get}
 use Rattle.std.specs.List.Sorted.{IsPermutation}
-use Rattle.std.specs.Option.{option_map}
+use Rattle.std.specs.Option.{option_map, unwrap_or}
 use Rattle.std.proofs.lemmas.List.Sorted.{IsPermutation-map, IsPermutation-sym, All-permutation}
 use Rattle.kq_computed.specs.Computed.{Computed, Is}
-use Rattle.kq_extent.specs.Seen.{row_of}
-use Rattle.kq_model.specs.History.{History, Numbered, log}
-use Rattle.kq_model.specs.Records.{records, rows_in}
+use Rattle.kq_extent.specs.Seen.{HeldExtents, held_records, row_of}
+use Rattle.kq_extent.specs.Wide.{wide_held}
+use Rattle.kq_lent.specs.Lent.{AreLent, rows_held}
+use Rattle.kq_model.specs.declared.table.Table.{Table}
+use Rattle.kq_model.specs.History.{History, Numbered, log, tables}
+use Rattle.kq_model.specs.Records.{records, rows_in, schema_of}
 use Rattle.kq_pipe.specs.Typed.{TypedWorld}
 use Rattle.kq_plan.specs.declared.names.NameKind.TheVariants as name
 use Rattle.kq_plan.specs.declared.work.LeafKind.TheVariants as kind
@@ -19,7 +23,22 @@ use Rattle.kq_value.specs.Typed.{HasTypes}
 use Rattle.kq_value.proofs.SameLemmas.{Same-from_permutation}
 use Rattle.kq_query.specs.Worlds.{MayGive, TableGives, known_in, known_table, table_found}
 
--- ---- what a table holds
+-- ---- what a table holds, under its columns
+
+pub under_columns : (h : History) (number : ℕ) (t : Table) (held : HeldExtents) → slice_get (tables (log h)) number ≡ Some t → IsPermutation (held_records (wide_held (schema_of (log h) number) held)) (records (log h) number)
+    → IsPermutation (held_records (wide_held t.schema held)) (records (log h) number)
+under_columns h number t held at same =
+    let columns : schema_of (log h) number ≡ t.schema = ap (λ (o : Option Table). unwrap_or (option_map (λ (x : Table). x.schema) o) []) at in
+    subst (λ (fields : List Field). IsPermutation (held_records (wide_held fields held)) (records (log h) number)) columns same
+
+-- copies of the columns and of the extents are lent as those are
+pub copies_lent : (fields copied : List Field) (held shared : HeldExtents) → copied ≡ fields → shared ≡ held → AreLent (wide_held fields held) → AreLent (wide_held copied shared)
+copies_lent fields copied held shared same also lent =
+    subst (λ (t : HeldExtents). AreLent (wide_held copied t)) (sym also) (subst (λ (fs : List Field). AreLent (wide_held fs held)) (sym same) lent)
+
+pub copies_hold : (fields copied : List Field) (held shared : HeldExtents) → copied ≡ fields → shared ≡ held → rows_held (wide_held copied shared) ≡ rows_held (wide_held fields held)
+copies_hold fields copied held shared same also =
+    ap (λ (t : HeldExtents). rows_held (wide_held copied t)) also ∙ ap (λ (fs : List Field). rows_held (wide_held fs held)) same
 
 pub typed_held : (schema : List Field) (h : History) (number : ℕ) (held : List Record) → IsPermutation held (records (log h) number) → All (HasTypes schema) (rows_in h number)
     → All (HasTypes schema) (map row_of held)

@@ -63,11 +63,11 @@ fn rows_named(snapshot: &Snapshot, name: &Text) -> Result<Held, Memory>
     }
 }
 
-// The rows of a table, lent by its extents.
+// The rows of a table, lent by its extents and read under its columns.
 fn table_rows(snapshot: &Snapshot, number: u32, table: &Table) -> Result<Held, Memory>
     requires { slice_get (tables (log snapshot.now.history)) number ≡ Some table.now }
     ensures { IfOk result (λ rows. TableGives snapshot.now.history (Some (record { number = number; table = table.now })) (Is rows)) }
 {
     let extents = snapshot.extents(number);
-    Ok(Held::lent(extents.share()?))
+    Ok(Held::lent(extents.share()?, table.schema.clone_in()?))
 }

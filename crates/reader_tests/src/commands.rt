@@ -61,6 +61,11 @@ pub fn put_command(page: &mut Page<'_>, command: &Command) {
             put_identifier(page, name);
             put_columns(page, columns.as_slice());
         }
+        Command::Change(Change::AlterMerge { name, columns }) => {
+            page.put("wider ");
+            put_identifier(page, name);
+            put_columns(page, columns.as_slice());
+        }
     }
 }
 
@@ -79,6 +84,8 @@ fn texts_read_as_their_commands(rt: HostRuntime) -> Result<(), Fail> {
 .ingest inline into table E with (tags='a', ignoreFirstRecord=true, format=@\"csv\", ingestIfNotExists=\"b\") <|1 => E@26 tags=a@39 unless=b@101 headed < 1
 .ingest inline into table E with (format='csv', tags='a', tags='b', format='csv') <| => E@26 tags=a@53 twice@58 < 
 .ingest inline into table E with (ignoreFirstRecord=false, ignoreFirstRecord=true) <| => E@26 twice@59 < 
+.alter-merge table E (k:long) => wider E@19 k@22:0
+.alter-merge table ['my table'] (['by']:date, s:string) => wider my table@19 by@33:4 s@46:2
 .show table ['my table'] extents => extents my table@12
 .show journal => journal
 E => query E
@@ -120,7 +127,6 @@ fn commands_go_over_lines(rt: HostRuntime) -> Result<(), Fail> {
 fn other_forms_are_not_built_yet(rt: HostRuntime) -> Result<(), Fail> {
     let rows = "\
 .alter table E policy update '[]'
-.alter-merge table E (k:long)
 .create materialized-view V on table E { E | summarize n = count() by k }
 .create async ifnotexists materialized-view with (backfill=true) with on table E { E }
 .show materialized-view V

@@ -1,0 +1,26 @@
+-- Commits that are counted.
+use Rattle.std.proofs.Common.{◌≡◌, ◌<◌, Bool, true, false, cond, length, nat_lt, refl}
+use Rattle.kq_model.specs.declared.event.Commit.{Commit}
+use Rattle.kq_model.specs.declared.limits.Limits.{Limits}
+use Rattle.kq_model.specs.History.{Log}
+use Rattle.kq_model.specs.Lawful.{LawfulCommit}
+use Rattle.kq_reply.specs.declared.refusal.Refusal.{Refusal}
+use Rattle.kq_reply.specs.declared.refusal.Refusal.TheVariants as refusals
+use Rattle.kq_engine.specs.Due.{Commits, counted, refused}
+
+-- a commit is no refusal
+pub no_commit : (c : Commit) (r : Refusal) → Commits c ≡ refused r → ⊥
+no_commit c r e = cc
+
+-- a commit that is due where commits are counted is that commit, and there was room
+pub counted-commit : (limits : Limits) (l : Log) (c d : Commit) → Commits d ≡ counted limits l c → (nat_lt (length l) limits.commits ≡ true) × (c ≡ d)
+counted-commit limits l c d e = by_test (nat_lt (length l) limits.commits) refl e
+  where
+    by_test : (b : Bool) → nat_lt (length l) limits.commits ≡ b → Commits d ≡ cond b (Commits c) (refused (refusals.Full limits.commits)) → (nat_lt (length l) limits.commits ≡ true) × (c ≡ d)
+    by_test true room e = (room, cc)
+    by_test false room e = absurd (no_commit d (refusals.Full limits.commits) e)
+
+-- the commit may be made, and one more is allowed
+pub record IsFit (limits : Limits) (l : Log) (c : Commit) : Type 0 where
+  pub room : length l < limits.commits
+  pub lawful : LawfulCommit limits l c
