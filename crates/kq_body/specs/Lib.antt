@@ -1,0 +1,5 @@
+pub mod Bodies
+pub mod Faults
+pub mod Moments
+pub mod Parts
+pub mod Said
