@@ -94,14 +94,6 @@ impl Extent {
         &self.tags
     }
 
-    /// The cell of a record in a column, or none where there is no such column.
-    pub fn cell(&self, index: usize, column: usize) -> Result<Option<Value>, Memory>
-        requires { index < length self.now.records }
-        ensures { IfOk result (λ cell. cell ≡ slice_get (row_at (map row_of self.now.records) index) column) }
-    {
-        self.columns.cell(index, column)
-    }
-
     /// The cell of a record in a column, or what stands there under these columns where the record has none.
     pub fn cell_under(
         &self,

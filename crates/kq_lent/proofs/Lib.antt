@@ -1,4 +1,3 @@
-mod Filled
 mod Firsts
 mod Flown
 mod Sought

@@ -9,13 +9,13 @@ use Rattle.kq_extent.proofs.Walked.{rows_by}
 use Rattle.kq_piecewise.specs.Operators.{Row}
 use Rattle.kq_rows.specs.Chunks.{HasWidth}
 use Rattle.kq_piecewise.specs.Pieces.{piece_of}
-use Rattle.kq_lent.specs.Held.{rows_in, sources_in}
-use Rattle.kq_lent.specs.Lent.{rows_of}
+use Rattle.kq_lent.specs.Held.{IsReadable, rows_in, sources_in}
+use Rattle.kq_lent.specs.Lent.{rows_held, rows_of}
 use Rattle.kq_lent.specs.Unread.{Begins, IsRead, UnreadView, rows_among, rows_from, width_of}
 use Rattle.kq_lent.specs.declared.place.Place.{Place}
 use Rattle.kq_lent.specs.declared.place.Place.TheVariants.{Own, Lent}
 use Rattle.kq_lent.proofs.Walks.{rows_by-held}
-use Rattle.kq_lent.proofs.Widths.{first_all, other_all}
+use Rattle.kq_lent.proofs.Widths.{all_wide, first_all, other_all}
 
 pub from_start : (sources : List (List Row)) (i : ℕ) → rows_from sources i 0 ≡ rows_among (drop i sources)
 from_start [] zero = refl
@@ -73,14 +73,18 @@ all_taken P place i j k rows got all =
 abbrev pub left_at : Place → ℕ → ℕ → UnreadView
 left_at place i j = record { rows = rows_from (sources_in place) i j; width = width_of (rows_in place) }
 
+even : (place : Place) → IsReadable place → All (HasWidth (width_of (rows_in place))) (rows_in place)
+even (Own rows) readable = all_wide rows readable
+even (Lent extents) readable = all_wide (rows_held extents) readable.wide
+
 pub part_read : (place : Place) (a b i j k : ℕ) (rows : List Row) → Begins (sources_in place) i j (rows_from (sources_in place) a b) → slice_get (sources_in place) i ≡ Some rows → (j < length rows → j < k) → k ≤ length rows
-    → All (HasWidth (width_of (rows_in place))) (rows_in place) → IsRead (left_at place a b) (piece_of rows j k) (left_at place i k)
-part_read place a b i j k rows begins got more within wide =
+    → IsReadable place → IsRead (left_at place a b) (piece_of rows j k) (left_at place i k)
+part_read place a b i j k rows begins got more within readable =
     let sources = sources_in place in
     let up : j < k = more (subst (λ (rs : List Row). j < length rs) (get_or_from_slice_get sources i rows [] got) begins.row) in
     record {
       rows = begins.rows ∙ taken sources i j k rows got (omega (arith, up));
       some = some_taken rows j k up within;
-      wide = all_taken (HasWidth (width_of (rows_in place))) place i j k rows got wide;
+      wide = all_taken (HasWidth (width_of (rows_in place))) place i j k rows got (even place readable);
       width = refl;
     }

@@ -74,7 +74,7 @@ impl<'a> Flow<'a> {
     pub fn next(&mut self) -> Result<Next<'a>, Memory>
         ensures { IfOk result (Yields self.old self.new) }
     {
-        match self.unread.next_part()? {
+        match self.unread.next_part() {
             Some(part) => match pass(self.alloc, self.operators, part, self.lets, self.now)? {
                 Passed::Rows(piece) => Ok(Next::Piece(piece)),
                 Passed::Failed(n) => {
@@ -122,7 +122,7 @@ fn least_of_rest(
 {
     let mut least = first;
     while least > 0 {
-        match unread.next_part()? {
+        match unread.next_part() {
             Some(part) => least = least_of_part(alloc, operators, part, least, lets, now)?,
             None => return Ok(least),
         }

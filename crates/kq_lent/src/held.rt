@@ -45,6 +45,8 @@ impl Held {
     pub fn own(rows: Rows) -> Held
         ensures { result ≡ rows }
     {
+        // Its rows are of one width.
+        let _width = rows.width();
         Held {
             place: Place::Own(rows),
         }

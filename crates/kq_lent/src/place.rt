@@ -1,17 +1,13 @@
 // Where the rows that a query reads stand, source by source.
-ghost use Rattle.std.specs.Prelude.{◌≡◌, ◌<◌, IfOk, IfNone, IfSome, IsTrue, [], Some, length, slice_get};
-ghost use Rattle.std.specs.List.{All};
-ghost use Rattle.kq_rows.specs.Chunks.{HasWidth};
-ghost use Rattle.kq_lent.specs.Held.{IsReadable, rows_in, sources_in};
+ghost use Rattle.std.specs.Prelude.{◌≡◌, ◌<◌, IfNone, IfSome, [], Some, length, slice_get};
+ghost use Rattle.kq_lent.specs.Held.{sources_in};
 ghost use Rattle.kq_lent.specs.Sources.{source_rows};
-ghost use Rattle.kq_lent.specs.Unread.{Begins, rows_from, width_of};
+ghost use Rattle.kq_lent.specs.Unread.{Begins, rows_from};
 
 use crate::lending::Lending;
 use crate::source::Source;
 use kq_piecewise::Relation;
 use kq_rows::Rows;
-use kq_value::Memory;
-use std::alloc::AllocError;
 
 /// Rows are one source, and each extent is one.
 #[derive(Drop)]
@@ -62,22 +58,4 @@ impl Place {
         }
         None
     }
-
-    /// Refuses rows of several widths. There are none, but the contracts of `Rows` don't say so.
-    pub fn check_width(&self) -> Result<(), Memory>
-        requires { IsReadable self.now }
-        ensures { IfOk result (λ _. All (HasWidth (width_of (rows_in self.now))) (rows_in self.now)) }
-    {
-        match self {
-            Place::Own(rows) if !is_even(rows) => Err(AllocError),
-            _ => Ok(()),
-        }
-    }
-}
-
-// Whether the rows are of one width.
-fn is_even(rows: &Rows) -> bool
-    ensures { IsTrue result → All (HasWidth (width_of rows.now)) rows.now }
-{
-    rows.is_empty() || rows.has_width(rows.row(0).len())
 }

@@ -1,5 +1,5 @@
 // Rows that are yet to be read.
-ghost use Rattle.std.specs.Prelude.{◌≡◌, IfOk};
+ghost use Rattle.std.specs.Prelude.{◌≡◌};
 ghost use Rattle.kq_lent.specs.Held.{IsReadable, rows_in};
 ghost use Rattle.kq_lent.specs.Reads.{Reads};
 ghost use Rattle.kq_lent.specs.Unread.{width_of};
@@ -8,7 +8,6 @@ use crate::place::{Place, Spot};
 use crate::source::Source;
 use kq_piecewise::Relation;
 use kq_stretch::Piece;
-use kq_value::Memory;
 use std::marker::Model;
 
 /// The most rows of a part.
@@ -50,10 +49,9 @@ impl<'a> Unread<'a> {
     }
 
     /// The next rows, of one source and at most a few thousand, or none where all have been read.
-    pub fn next_part(&mut self) -> Result<Option<Piece<Source<'a>>>, Memory>
-        ensures { IfOk result (Reads self.old self.new) }
+    pub fn next_part(&mut self) -> Option<Piece<Source<'a>>>
+        ensures { Reads self.old self.new result }
     {
-        self.place.check_width()?;
         match self.place.seek(self.spot) {
             Some(spot) => {
                 let source = self.place.source(spot.source);
@@ -62,9 +60,9 @@ impl<'a> Unread<'a> {
                     source: spot.source,
                     row: to,
                 };
-                Ok(Some(Piece::Part(source, spot.row, to)))
+                Some(Piece::Part(source, spot.row, to))
             }
-            None => Ok(None),
+            None => None,
         }
     }
 }

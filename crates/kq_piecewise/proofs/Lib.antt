@@ -1,4 +1,5 @@
 pub mod Alone
+pub mod Filled
 pub mod Kept
 pub mod Laws
 pub mod Mapped

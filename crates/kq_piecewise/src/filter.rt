@@ -1,10 +1,9 @@
-// The rows for which a condition is true.
+// The places of the rows for which a condition is true.
 ghost use Rattle.std.specs.Prelude.{◌≡◌, ◌++◌, ◌+◌, [], ◌∷◌, if◌then◌else◌, IfOk, OnOk};
-ghost use Rattle.kq_computed.specs.Computed.{Answers, AnswersAs, Is, and_then, each};
+ghost use Rattle.kq_computed.specs.Computed.{AnswersAs, Is, and_then, each};
 ghost use Rattle.kq_columnar.specs.Vectors.{cells_of};
 ghost use Rattle.kq_expr.specs.Terms.{term_of};
 ghost use Rattle.kq_scalar.specs.Val.{meaning, surroundings};
-ghost use Rattle.kq_piecewise.specs.Operators.{filtered};
 ghost use Rattle.kq_piecewise.specs.Pieces.{places_true};
 
 use crate::piece::{PIECE, eval_piece};
@@ -13,27 +12,10 @@ use kq_arithmetic::is_yes;
 use kq_columnar::Vector;
 use kq_computed::EvalFault;
 use kq_expr::Expr;
-use kq_rows::Rows;
 use kq_value::{Memory, Value};
 use std::alloc::{AllocError, Global};
 
-/// The rows for which the condition is true, with the cells of the scalar lets and the ticks of the command's moment.
-pub fn filter_rows(
-    alloc: Global,
-    rows: &Rows,
-    condition: &Expr,
-    lets: &[Value],
-    now: i64,
-) -> Result<Rows, EvalFault>
-    ensures { Answers (filtered (term_of condition.now) (surroundings now lets.now) rows.now) result }
-{
-    match places_kept(alloc, rows, condition, lets, now) {
-        Ok(places) => Ok(rows.select(places.as_slice())?),
-        Err(fault) => Err(fault),
-    }
-}
-
-/// The places of the rows for which the condition is true, in order.
+/// The places of the rows for which the condition is true, in order, with the cells of the scalar lets and the ticks of the command's moment.
 pub fn places_kept<R: Relation>(
     alloc: Global,
     relation: &R,

@@ -1,7 +1,8 @@
-//! Expressions over rows, wherever these stand, by pieces of a few thousand rows, a column at a time: their values, the rows for which one is true, and the rows that they make. What an expression gives of the columns of a piece is left to `kq_columnar`, and what becomes of the rows to the crates above.
+//! Expressions over rows, wherever these stand, by pieces of a few thousand rows, a column at a time: their values, the places of the rows for which one is true, and the rows that they make. What an expression gives of the columns of a piece is left to `kq_columnar`, and what becomes of the rows to the crates above.
 #![tactic(auto)]
 
 mod columns;
+mod copy;
 mod filter;
 mod map;
 mod numbers;
@@ -11,7 +12,8 @@ mod relation;
 mod sources;
 mod values;
 
-pub use filter::{filter_rows, places_kept};
+pub use copy::copy_row;
+pub use filter::places_kept;
 pub use map::map_rows;
 pub use numbers::Number;
 pub use relation::Relation;

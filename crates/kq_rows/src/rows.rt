@@ -68,6 +68,13 @@ impl Rows {
         self.len() == 0
     }
 
+    /// The number of cells of each row. Where there is no row, it may be any.
+    pub fn width(&self) -> usize
+        ensures { All (HasWidth result) self.now }
+    {
+        self.width
+    }
+
     /// Whether a row of so many cells may be put in.
     pub fn has_width(&self, width: usize) -> bool
         ensures { IsTrue result ↔ All (HasWidth width) self.now }

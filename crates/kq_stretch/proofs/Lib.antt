@@ -1,5 +1,4 @@
 pub mod Faults
-pub mod Filled
 pub mod Laws
 pub mod Places
 pub mod Widths

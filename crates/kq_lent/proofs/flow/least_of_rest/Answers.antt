@@ -16,13 +16,13 @@ use Rattle.kq_lent.proofs.flow.least_of_rest.Goals as goal
 pub least_of_part-requires-clause-wide : goal.least_of_part-requires-clause-wide
 least_of_part-requires-clause-wide c =
     let part = rows_in source_rows c.in-Some.part in
-    let read : IsRead c.loop-least.unread part c.next_part.new.self = subst (λ (o : Option (Piece Source)). Reads c.loop-least.unread c.next_part.new.self o) c.in-Some.is c.in_ok-part.ensures in
+    let read : IsRead c.loop-least.unread part c.next_part.new.self = subst (λ (o : Option (Piece Source)). Reads c.loop-least.unread c.next_part.new.self o) c.in-Some.is c.next_part.ensures in
     same_width-wide c.loop-least.unread.width part read.wide
 
 pub loop-least-preserved : goal.loop-least-preserved
 loop-least-preserved c =
     let part = rows_in source_rows c.in-Some.part in
-    let read : IsRead c.loop-least.unread part c.next_part.new.self = subst (λ (o : Option (Piece Source)). Reads c.loop-least.unread c.next_part.new.self o) c.in-Some.is c.in_ok-part.ensures in
+    let read : IsRead c.loop-least.unread part c.next_part.new.self = subst (λ (o : Option (Piece Source)). Reads c.loop-least.unread c.next_part.new.self o) c.in-Some.is c.next_part.ensures in
     let os = map rowwise_of c.args.operators.now in
     let s = surroundings (to_z w64 (of_z w64 c.args.now)) c.args.lets.now in
     let least = c.in_ok-least-in-Some.least in (
@@ -33,7 +33,7 @@ loop-least-preserved c =
 pub returns-in-None : goal.returns-in-None
 returns-in-None c =
     let same : to_z w64 (of_z w64 c.args.now) ≡ c.args.now = search (rules, to_z-of_z) in
-    let none : c.loop-least.unread.rows ≡ [] = subst (λ (o : Option (Piece Source)). Reads c.loop-least.unread c.next_part.new.self o) c.in-None.is c.in_ok-part.ensures in
+    let none : c.loop-least.unread.rows ≡ [] = subst (λ (o : Option (Piece Source)). Reads c.loop-least.unread c.next_part.new.self o) c.in-None.is c.next_part.ensures in
     let os = map rowwise_of c.args.operators.now in
     let s = λ (z : ℤ). surroundings z c.args.lets.now in
     let again = to_z w64 (of_z w64 c.args.now) in

@@ -19,7 +19,7 @@ use Rattle.kq_lent.proofs.flow.Flow.next.Goals as goal
 pub pass-requires : goal.pass-requires
 pass-requires c =
     let part = rows_in source_rows c.in-Some.part in
-    let read : IsRead c.self.inside.unread part c.next_part.new.self = subst (λ (o : Option (Piece Source)). Reads c.self.inside.unread c.next_part.new.self o) c.in-Some.is c.in_ok-part.ensures in
+    let read : IsRead c.self.inside.unread part c.next_part.new.self = subst (λ (o : Option (Piece Source)). Reads c.self.inside.unread c.next_part.new.self o) c.in-Some.is c.next_part.ensures in
     same_width-wide c.self.inside.unread.width part read.wide
 
 pub least_of_rest-requires : goal.least_of_rest-requires
@@ -37,7 +37,7 @@ returns-in-Rows c =
     let out = rows_in source_rows c.in-Rows.piece in
     let old = c.self.inside.unread in
     let new = c.next_part.new.self in
-    let read : IsRead old part new = subst (λ (o : Option (Piece Source)). Reads old new o) c.in-Some.is c.in_ok-part.ensures in
+    let read : IsRead old part new = subst (λ (o : Option (Piece Source)). Reads old new o) c.in-Some.is c.next_part.ensures in
     let os = map rowwise_of c.self.inside.operators.now in
     let s = λ (z : ℤ). surroundings z c.self.inside.lets.now in
     let now = c.self.inside.now in
@@ -50,7 +50,7 @@ returns-in_ok-least-in-Failed c =
     let part = rows_in source_rows c.in-Some.part in
     let old = c.self.inside.unread in
     let new = c.next_part.new.self in
-    let read : IsRead old part new = subst (λ (o : Option (Piece Source)). Reads old new o) c.in-Some.is c.in_ok-part.ensures in
+    let read : IsRead old part new = subst (λ (o : Option (Piece Source)). Reads old new o) c.in-Some.is c.next_part.ensures in
     let os = map rowwise_of c.self.inside.operators.now in
     let s = λ (z : ℤ). surroundings z c.self.inside.lets.now in
     let again = to_z w64 (of_z w64 c.self.inside.now) in
@@ -61,6 +61,6 @@ returns-in_ok-least-in-Failed c =
 pub returns-in-None : goal.returns-in-None
 returns-in-None c =
     let old = c.self.inside.unread in
-    let none : old.rows ≡ [] = subst (λ (o : Option (Piece Source)). Reads old c.next_part.new.self o) c.in-None.is c.in_ok-part.ensures in
+    let none : old.rows ≡ [] = subst (λ (o : Option (Piece Source)). Reads old c.next_part.new.self o) c.in-None.is c.next_part.ensures in
     ap (λ (f : Flowing). f.to_come) (sym c.self.view_is)
     ∙ none_left (map rowwise_of c.self.inside.operators.now) (surroundings c.self.inside.now c.self.inside.lets.now) old.rows none

@@ -13,4 +13,4 @@ returns-in-Some c =
     let to = c.min-to.result in
     let within : to ≤ length rows = omega (arith, c.min-to.ensures, c.len.ensures.count) in
     subst (λ (u : UnreadView). IsRead u (piece_of rows at.row to) (left_at place at.source to)) c.self.view_is
-    (part_read place c.self.inside.spot.source c.self.inside.spot.row at.source at.row to rows c.in-Some.ensures.some c.source-source.ensures (λ here. omega (arith, c.min-to.ensures, c.len.ensures.count, here)) within c.in_ok-check_width.ensures)
+    (part_read place c.self.inside.spot.source c.self.inside.spot.row at.source at.row to rows c.in-Some.ensures.some c.source-source.ensures (λ here. omega (arith, c.min-to.ensures, c.len.ensures.count, here)) within c.self.invariant)

@@ -1,7 +1,7 @@
 use Rattle.std.proofs.Common.{◌≡◌, ℕ, Some, length, slice_get, ap, sym, ◌∙◌, arith}
 use Rattle.kq_rows.specs.Chunks.{row_at}
-use Rattle.kq_stretch.proofs.Filled.{cell_next, cells_end}
-use Rattle.kq_stretch.proofs.copies.fill_row.Goals as goal
+use Rattle.kq_piecewise.proofs.Filled.{cell_next, cells_end}
+use Rattle.kq_piecewise.proofs.copy.copy_row.Goals as goal
 
 pub loop-cell-preserved : goal.loop-cell-preserved
 loop-cell-preserved g c =
