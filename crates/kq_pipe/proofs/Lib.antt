@@ -6,9 +6,8 @@ pub mod Least
 pub mod TypedRows
 pub mod TypedOutcomes
 pub mod TypedReshaped
-pub mod Arguments
 pub mod Arriving
-pub mod Regrouped
+pub mod Grouped
 pub mod TypedGroups
 pub mod TypedSteps
 pub mod Widths
@@ -18,3 +17,4 @@ pub mod Agreed
 pub mod Midway
 pub mod Links
 pub mod Sharing
+pub mod Bodied

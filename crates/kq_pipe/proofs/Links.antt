@@ -11,7 +11,8 @@ use Rattle.kq_value.specs.Typed.{IsMoment}
 use Rattle.kq_pipe.specs.declared.outcome.Outcome.{Outcome}
 use Rattle.kq_pipe.specs.Gives.{World, Follows}
 use Rattle.kq_pipe.specs.Outcomes.{is_fault, no_rows, outcome_at}
-use Rattle.kq_pipe.specs.Stretches.{AreNext, AreUnshared, GoesOn, IsStretch, IsUnshared, Linked, planned_by}
+use Rattle.kq_grouping.specs.Steps.{Linked}
+use Rattle.kq_pipe.specs.Stretches.{AreNext, AreUnshared, GoesOn, IsStretch, IsUnshared, planned_by}
 use Rattle.kq_pipe.specs.Typed.{FitsWorld}
 use Rattle.kq_pipe.proofs.Midway.{Midway, Midway-end, Midway-fault, Midway-more, Midway-next, Midway-start}
 

@@ -14,7 +14,8 @@ use Rattle.kq_pipe.specs.declared.outcome.Outcome.{Outcome}
 use Rattle.kq_pipe.specs.declared.outcome.Outcome.TheVariants as outcome
 use Rattle.kq_pipe.specs.Gives.{World, Case, Follows}
 use Rattle.kq_pipe.specs.Outcomes.{cells_of, is_fault, no_rows, outcome_at}
-use Rattle.kq_pipe.specs.Stretches.{AreNext, IsUnshared, Linked, is_rowwise, last_of}
+use Rattle.kq_grouping.specs.Steps.{Linked, is_rowwise, last_of}
+use Rattle.kq_pipe.specs.Stretches.{AreNext, IsUnshared}
 use Rattle.kq_pipe.specs.Typed.{FitsWorld, IsTypedBy, IsTypedTable, Stands, Stood, TypedWorld}
 use Rattle.kq_pipe.proofs.Agreed.{MatchBool-then, TakenBy, cells_more, follows_same, get_behind, outcome_at-past, same_beside, taken_behind, taken_front}
 use Rattle.kq_pipe.proofs.Stretched.{outcome_at-end}

@@ -17,52 +17,15 @@ use Rattle.kq_value.specs.declared.schema.Field.{Field}
 use Rattle.kq_value.specs.declared.ty.Ty.{Ty}
 use Rattle.kq_value.specs.Typed.{HasTypes}
 use Rattle.kq_pipe.specs.declared.outcome.Outcome.{Outcome}
-use Rattle.kq_pipe.specs.Grouping.{Comes, GroupsTo, all_made, arguments_at, arguments_over, columns_made, columns_taken, terms_taken, under}
+use Rattle.kq_grouping.specs.Grouping.{Comes, all_made, arguments_at, arguments_over, columns_made, columns_taken, terms_taken, under}
+use Rattle.kq_pipe.specs.Grouping.{GroupsTo}
 use Rattle.kq_piecewise.specs.Operators.{values_at}
 use Rattle.kq_pipe.specs.Outcomes.{Row}
 use Rattle.kq_pipe.specs.Typed.{IsTypedTable}
-use Rattle.kq_pipe.proofs.Arguments.{each_parts}
+use Rattle.kq_grouping.proofs.Arguments.{each_parts}
+use Rattle.kq_grouping.proofs.Columns.{length-AreTyped, made_by}
 use Rattle.kq_pipe.proofs.TypedOutcomes.{staged_typed}
 use Rattle.kq_pipe.proofs.TypedRows.{GivesRow, GivesRows, Surrounds, each_typed, values_typed}
-
--- ---- how many columns there are
-
-pub length-AreTyped : (lets from : List Field) (es : List Term) (fs : List Field) → AreTyped lets from es fs → length es ≡ length fs
-length-AreTyped lets from [] [] are = refl
-length-AreTyped lets from [] (f ∷ fs) are = absurd are
-length-AreTyped lets from (e ∷ es) [] are = absurd are
-length-AreTyped lets from (e ∷ es) (f ∷ fs) are = ap suc (length-AreTyped lets from es fs are.1)
-
-length-HaveTypes : (from : List Field) (is : List ℕ) (fs : List Field) → HaveTypes from is fs → length is ≡ length fs
-length-HaveTypes from [] [] have = refl
-length-HaveTypes from [] (f ∷ fs) have = absurd have
-length-HaveTypes from (i ∷ is) [] have = absurd have
-length-HaveTypes from (i ∷ is) (f ∷ fs) have = ap suc (length-HaveTypes from is fs have.1)
-
-one_column : (cs : List Field) (t : Ty) → map ty_of cs ≡ t ∷ [] → length cs ≡ 1
-one_column [] t e = absurd cc
-one_column (c ∷ []) t e = refl
-one_column (c ∷ d ∷ cs) t e = absurd cc
-
-made_by : (lets from : List Field) (g : Aggregating) (cs : List Field) → FitsAggregate lets from g cs → length cs ≡ columns_made g
-made_by lets from rows_counted cs fits = one_column cs _ fits
-made_by lets from (summed e) cs (t, one, has, kind) = one_column cs t one
-made_by lets from (least_of e) cs (t, one, has, plain) = one_column cs t one
-made_by lets from (greatest_of e) cs (t, one, has, plain) = one_column cs t one
-made_by lets from (at_greatest e is) [] fits = absurd fits
-made_by lets from (at_greatest e is) (c ∷ cs) (has, plain, have) = ap suc (sym (length-HaveTypes from is cs have))
-made_by lets from (at_least e is) [] fits = absurd fits
-made_by lets from (at_least e is) (c ∷ cs) (has, plain, have) = ap suc (sym (length-HaveTypes from is cs have))
-made_by lets from (any_of is) cs fits = sym (length-HaveTypes from is cs fits)
-made_by lets from (set_of e n) cs (t, has, one) = one_column cs _ one
-
-pub all_made_by : (lets from : List Field) (gs : List Aggregating) (made : List Field) → FitAggregates lets from gs made → length made ≡ all_made gs
-all_made_by lets from [] made fit = ap length fit
-all_made_by lets from (g ∷ gs) made (own, more, apart, fits, fit) =
-    let a = made_by lets from g own fits in
-    let b = all_made_by lets from gs more fit in
-    let c : length made ≡ length own + length more = ap length apart ∙ length-append own more in
-    omega (arith, a, b, c)
 
 -- ---- the types of arguments
 

@@ -1,17 +1,17 @@
 -- Stretches: steps in a row that take rows of one another, of which no others take any, and what comes of them as a whole.
 use Rattle.std.specs.Prelude.{◌≡◌, ◌≢◌, ◌<◌, ◌≤◌, ◌+◌, ℕ, zero, suc, Bool, true, false, List, [], ◌∷◌, ◌++◌, Contains, Option, Some, None, get_or, length, map, slice_get}
+use Rattle.kq_grouping.specs.Steps.{flows_from, is_rowwise, last_of, stage_at}
 use Rattle.kq_plan.specs.Fits.{FitAfter}
 use Rattle.kq_plan.specs.Names.{Known}
 use Rattle.kq_plan.specs.declared.plan.Step.{Step}
 use Rattle.kq_plan.specs.Plans.{Doing, Filling, Planned, Stepping, stepping_of, written, kept, mapped, cut, counted, sorted, topped, apart, summarized, joined, united, expanded}
 use Rattle.kq_scalar.specs.Val.{Surroundings}
-use Rattle.kq_stretch.specs.Operators.{Rowwise, keeping, making, spreading}
 use Rattle.kq_stretch.specs.Ran.{Ran, came, failed}
 use Rattle.kq_value.specs.declared.schema.Field.{Field}
 use Rattle.kq_pipe.specs.declared.outcome.Outcome.{Outcome}
 use Rattle.kq_pipe.specs.declared.outcome.Outcome.TheVariants as outcome
 use Rattle.kq_pipe.specs.Gives.{World}
-use Rattle.kq_pipe.specs.Grouping.{GroupsTo, all_made}
+use Rattle.kq_pipe.specs.Grouping.{GroupsTo}
 use Rattle.kq_pipe.specs.Operators.{tally}
 use Rattle.kq_pipe.specs.Outcomes.{Row}
 use Rattle.kq_pipe.specs.Typed.{Stood, TypedWorld}
@@ -62,28 +62,6 @@ pub record Shares (place : ℕ) (is : List ℕ) (old new : List Bool) : Type 0 w
 
 -- ---- stretches
 
--- it makes its rows of one row at a time
-abbrev pub is_rowwise : Doing → Bool
-is_rowwise (kept i e) = true
-is_rowwise (mapped i es) = true
-is_rowwise (expanded i e c t) = true
-is_rowwise d = false
-
--- the number of the step whose rows may flow into it
-abbrev pub flows_from : Doing → Option ℕ
-flows_from (kept i e) = Some i
-flows_from (mapped i es) = Some i
-flows_from (expanded i e c t) = Some i
-flows_from (counted i) = Some i
-flows_from (summarized i es gs) = Some i
-flows_from d = None
-
--- all but the last make their rows of one row at a time, and these flow into the next; the first has this number
-abbrev pub Linked : ℕ → List Stepping → Type 0
-Linked n [] = ⊥
-Linked n (s ∷ []) = Unit {0}
-Linked n (s ∷ t ∷ ss) = (is_rowwise s.doing ≡ true) × (flows_from t.doing ≡ Some n) × Linked (suc n) (t ∷ ss)
-
 -- the rows of the step of this number flow into the next, and are unshared
 pub record GoesOn (ss : List Stepping) (marks : List Bool) (m : ℕ) : Type 0 where
   pub linked : (s t : Stepping) → slice_get ss m ≡ Some s → slice_get ss (m + 1) ≡ Some t → (is_rowwise s.doing ≡ true) × (flows_from t.doing ≡ Some m)
@@ -103,16 +81,6 @@ pub record AreNext (known : List ℕ → Option Known) (w : World) (before : Lis
 
 -- ---- what comes of a stretch
 
-abbrev pub operator_in : Doing → List Rowwise
-operator_in (kept i e) = keeping e ∷ []
-operator_in (mapped i es) = making es ∷ []
-operator_in (expanded i e c t) = spreading e c t ∷ []
-operator_in d = []
-
-abbrev pub operators_of : List Stepping → List Rowwise
-operators_of [] = []
-operators_of (s ∷ ss) = operator_in s.doing ++ operators_of ss
-
 -- an expansion's rows are in no order
 abbrev pub order_by : Doing → Bool → Bool
 order_by (expanded i e c t) ordered = false
@@ -122,29 +90,11 @@ abbrev pub order_after : List Stepping → Bool → Bool
 order_after [] ordered = ordered
 order_after (s ∷ ss) ordered = order_after ss (order_by s.doing ordered)
 
-abbrev pub nothing_done : Stepping
-nothing_done = record { stage = 0; doing = written []; columns = [] }
-
-abbrev pub last_of : List Stepping → Stepping
-last_of [] = nothing_done
-last_of (s ∷ []) = s
-last_of (s ∷ t ∷ ss) = last_of (t ∷ ss)
-
-abbrev pub stage_at : List Stepping → ℕ → ℕ
-stage_at [] n = 0
-stage_at (s ∷ ss) zero = s.stage
-stage_at (s ∷ ss) (suc n) = stage_at ss n
-
 -- what the last step makes of all rows that came to it: the row-wise ones have made them already
 abbrev pub Closes : Doing → ℕ → List Field → Surroundings → Bool → List Row → Outcome → Type 0
 Closes (counted i) stage cs s ordered rows o = o ≡ outcome.Table false (tally rows)
 Closes (summarized i es gs) stage cs s ordered rows o = GroupsTo es gs cs s rows stage o
 Closes d stage cs s ordered rows o = o ≡ outcome.Table ordered rows
-
--- a summarize has a column for each key, and those of its aggregates
-abbrev pub HasColumns : Doing → List Field → Type 0
-HasColumns (summarized i es gs) cs = length cs ≡ length es + all_made gs
-HasColumns d cs = Unit {0}
 
 -- an end of the rows that came, or an overflow at the stage of the step that failed
 abbrev pub EndsIn : (List Row → Outcome → Type 0) → (ℕ → ℕ) → Ran → Outcome → Type 0

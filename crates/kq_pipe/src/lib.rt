@@ -1,7 +1,6 @@
 //! What a plan gives over a world: its steps run one after another, and rows that only the next step takes flow into it by pieces. How a query becomes a plan is left to the crates beside it, and where the rows of a name come from to those above.
 #![tactic(auto)]
 
-mod grouping;
 mod joined;
 mod leaves;
 mod outcome;

@@ -8,14 +8,15 @@ ghost use Rattle.kq_scalar.specs.Val.{surroundings};
 ghost use Rattle.kq_value.specs.declared.value.Value.TheVariants.{Long};
 ghost use Rattle.kq_pipe.specs.declared.outcome.Outcome.TheVariants as outcome;
 ghost use Rattle.kq_pipe.specs.Ended.{EndsAs};
-ghost use Rattle.kq_pipe.specs.Grouping.{GroupsTo, all_made};
+ghost use Rattle.kq_grouping.specs.Grouping.{all_made};
+ghost use Rattle.kq_pipe.specs.Grouping.{GroupsTo};
 ghost use Rattle.kq_pipe.specs.Operators.{in_stage, tally};
 
-use crate::grouping::{add_piece, typed};
 use crate::outcome::Outcome;
 use kq_computed::EvalFault;
 use kq_expr::Expr;
 use kq_group::Groups;
+use kq_grouping::{Arrived, gather_groups};
 use kq_lent::{Flow, Held, Next};
 use kq_piecewise::Relation;
 use kq_plan::Aggregate;
@@ -104,30 +105,10 @@ pub(crate) fn group_all(
     requires { length columns.now ≡ length keys.now + all_made (map aggregating_of aggregates.now) }
     ensures { IfOk result (EndsAs (λ rows. GroupsTo (map term_of keys.now) (map aggregating_of aggregates.now) columns.now (surroundings now lets.now) rows stage) flow.old.to_come) }
 {
-    let made = typed(alloc, aggregates, &columns[keys.len()..])?;
-    let mut groups = Groups::new(alloc, keys.len(), made.as_slice())?;
-    loop {
-        match flow.next()? {
-            Next::Piece(piece) => {
-                match add_piece(alloc, &mut groups, &piece, keys, aggregates, lets, now) {
-                    Ok(()) => {}
-                    Err(EvalFault::Overflow) => return overflow(flow, stage),
-                    Err(EvalFault::Memory) => return Err(AllocError),
-                }
-            }
-            Next::End => return Ok(Ended::Gave(rows_of(alloc, stage, &groups)?)),
-            Next::Failed(n) => return Ok(Ended::Failed(n)),
-        }
-    }
-}
-
-// An overflow at this stage, unless an operator fails on rows that are still to come: its failure goes first.
-fn overflow(flow: &mut Flow, stage: u32) -> Result<Ended, Memory>
-    ensures { IfOk result (EndsAs (λ rows o. o ≡ outcome.Overflow stage) flow.old.to_come) }
-{
-    match flow.drain()? {
-        Some(n) => Ok(Ended::Failed(n)),
-        None => Ok(Ended::Gave(Outcome::Overflow { stage })),
+    match gather_groups(alloc, flow, keys, aggregates, columns, lets, now)? {
+        Arrived::Groups(groups) => Ok(Ended::Gave(rows_of(alloc, stage, &groups)?)),
+        Arrived::Overflow => Ok(Ended::Gave(Outcome::Overflow { stage })),
+        Arrived::Failed(n) => Ok(Ended::Failed(n)),
     }
 }
 

@@ -2,24 +2,24 @@
 ghost use Rattle.std.specs.Prelude.{◌≡◌, ◌+◌, ◌-◌, ◌<◌, ℕ, IfOk, Some, false, true, length, map};
 ghost use Rattle.kq_plan.specs.Plans.{counted, doing_of, stepping_of};
 ghost use Rattle.kq_scalar.specs.Val.{surroundings};
-ghost use Rattle.kq_stretch.specs.Operators.{rowwise_of};
 ghost use Rattle.kq_stretch.specs.Ran.{ran};
 ghost use Rattle.kq_pipe.specs.declared.outcome.Outcome.TheVariants as outcome;
 ghost use Rattle.kq_pipe.specs.Ended.{EndsAs};
 ghost use Rattle.kq_pipe.specs.Gives.{Follows, around};
 ghost use Rattle.kq_pipe.specs.Operators.{tally};
 ghost use Rattle.kq_pipe.specs.Outcomes.{order_of, rows_of};
-ghost use Rattle.kq_pipe.specs.Stretches.{AreNext, Closes, ComesTo, GoesOn, HasColumns, IsStretch, Linked, flows_from, is_rowwise, last_of, operators_of, order_after, stage_at};
+ghost use Rattle.kq_grouping.specs.Steps.{HasColumns, Linked, flows_from, is_rowwise, last_of, operators_of};
+ghost use Rattle.kq_pipe.specs.Stretches.{AreNext, Closes, ComesTo, GoesOn, IsStretch, order_after};
 
 use crate::leaves::Leaves;
 use crate::outcome::{Outcome, cells, order_at, rows_at};
 use crate::single::tally_row;
 use crate::sinks::{Ended, count_all, group_all, keep_all};
 use crate::step::run_step;
+use kq_grouping::{operators, stage_in};
 use kq_lent::{Flow, Held};
 use kq_plan::{Step, Work};
 use kq_rows::Rows;
-use kq_stretch::Operator;
 use kq_value::{Memory, Value};
 use std::alloc::Global;
 
@@ -172,31 +172,6 @@ fn flow(
             stage: stage_in(stretch, n),
         }),
     }
-}
-
-// The stage of the step of this number.
-#[tactic(auto, using(crate::proofs::Stretched::stage_is))]
-fn stage_in(steps: &[Step], n: usize) -> u32
-    requires { n < length steps.now }
-    ensures { result ≡ stage_at (map stepping_of steps.now) n }
-{
-    steps[n].stage
-}
-
-// The operators of the row-wise steps.
-fn operators<'a>(alloc: Global, stretch: &'a [Step]) -> Result<Vec<Operator<'a>>, Memory>
-    ensures { IfOk result (λ os. map rowwise_of os.items ≡ operators_of (map stepping_of stretch.now)) }
-{
-    let mut operators = Vec::new(alloc);
-    for step in stretch {
-        match &step.work {
-            Work::Where(_, condition) => operators.push(Operator::Keep(condition))?,
-            Work::Project(_, exprs) => operators.push(Operator::Make(exprs.as_slice()))?,
-            Work::Expand(_, expr, at, ty) => operators.push(Operator::Spread(expr, *at, *ty))?,
-            _ => {}
-        }
-    }
-    Ok(operators)
 }
 
 fn keeps_order(stretch: &[Step], ordered: bool) -> bool

@@ -5,8 +5,10 @@ use Rattle.kq_scalar.specs.Val.{surroundings}
 use Rattle.kq_stretch.specs.Operators.{rowwise_of}
 use Rattle.kq_stretch.specs.Ran.{ran}
 use Rattle.kq_pipe.specs.declared.outcome.Outcome.TheVariants as outcome
-use Rattle.kq_pipe.specs.Stretches.{ComesTo, HasColumns, operators_of}
-use Rattle.kq_pipe.proofs.Stretched.{comes_failed, comes_gave, ends_so, failed_within, last_step}
+use Rattle.kq_grouping.proofs.Stepped.{last_step}
+use Rattle.kq_grouping.specs.Steps.{HasColumns, operators_of}
+use Rattle.kq_pipe.specs.Stretches.{ComesTo}
+use Rattle.kq_pipe.proofs.Stretched.{comes_failed, comes_gave, ends_so, failed_within}
 use Rattle.kq_pipe.proofs.stretch.flow.Goals as goal
 
 pub close-requires : goal.close-requires

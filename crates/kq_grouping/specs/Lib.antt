@@ -1,0 +1,4 @@
+pub mod Steps
+pub mod Grouping
+pub mod Arriving
+pub mod Bodies
