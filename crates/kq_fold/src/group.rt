@@ -1,0 +1,57 @@
+// The groups of rows that go through the operators of a view's body.
+ghost use Rattle.std.specs.Prelude.{IfOk};
+ghost use Rattle.kq_plan.specs.Plans.{planned_of};
+ghost use Rattle.kq_grouping.specs.Bodies.{IsViewBody};
+ghost use Rattle.kq_fold.specs.Folds.{Arrives, GroupsTo};
+
+use crate::body::{aggregates_in, behind_source, keys_in, last_step};
+use kq_group::Groups;
+use kq_grouping::{Arrived, gather_groups, operators, stage_in};
+use kq_lent::Held;
+use kq_plan::Plan;
+use kq_value::Memory;
+use std::alloc::Global;
+
+/// Why there are no groups of rows.
+#[derive(Clone, Copy, Debug, PartialEq, Eq, Drop)]
+pub enum GroupFault {
+    /// A result was outside its type, at the stage of this number.
+    Overflow { stage: u32 },
+    Memory,
+}
+
+/// The groups of rows of a body's table.
+pub fn group_rows(alloc: Global, body: &Plan, rows: &Held) -> Result<Groups, GroupFault>
+    requires { IsViewBody (planned_of body.now) }
+    ensures { GroupsTo (planned_of body.now) rows.now result }
+{
+    match arrived(alloc, body, rows) {
+        Ok(Arrived::Groups(groups)) => Ok(groups),
+        Ok(Arrived::Overflow) => Err(GroupFault::Overflow {
+            stage: last_step(body).stage,
+        }),
+        Ok(Arrived::Failed(n)) => Err(GroupFault::Overflow {
+            stage: stage_in(behind_source(body), n),
+        }),
+        Err(_) => Err(GroupFault::Memory),
+    }
+}
+
+// What the rows come to.
+fn arrived(alloc: Global, body: &Plan, rows: &Held) -> Result<Arrived, Memory>
+    requires { IsViewBody (planned_of body.now) }
+    ensures { IfOk result (Arrives (planned_of body.now) rows.now) }
+{
+    let operators = operators(alloc, behind_source(body))?;
+    let mut flow = rows.flow(alloc, operators.as_slice(), &[], 0);
+    let last = last_step(body);
+    gather_groups(
+        alloc,
+        &mut flow,
+        keys_in(last),
+        aggregates_in(last),
+        last.columns.as_slice(),
+        &[],
+        0,
+    )
+}
