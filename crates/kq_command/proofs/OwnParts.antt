@@ -125,7 +125,7 @@ module _ (text : List ℕ) where
   control_in (show_extents m) = behind (behind (before (behind (name_in m))))
   control_in show_journal = λ ts q all. tt
   control_in (fold m) = λ ts q all. tt
-  control_in (merge m) = λ ts q all. tt
+  control_in (merge m) = behind (behind (name_in m))
   control_in (export t e) = λ ts q all. tt
 
 pub stands : (text : List ℕ) (c : ControlTree) → IsUtf8 text → IsStatement text (control c) → ControlIn text c

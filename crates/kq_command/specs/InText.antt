@@ -4,7 +4,7 @@ use Rattle.std.specs.List.{All}
 use Rattle.std.specs.Str.{IsCharBoundary}
 use Rattle.kq_command.specs.Meanings.{piece, string_form}
 use Rattle.kq_command.specs.Unsupported.{is_string}
-use Rattle.kq_control.specs.ControlTrees.{ColumnsTree, PropertiesTree, ControlTree, create_table, ingest, alter_merge, create_view, show_extents}
+use Rattle.kq_control.specs.ControlTrees.{ColumnsTree, PropertiesTree, ControlTree, create_table, ingest, alter_merge, create_view, show_extents, merge}
 use Rattle.kq_control.specs.declared.tree.Property.{Property}
 use Rattle.kq_grammar.specs.declared.clause.Column.{Column}
 use Rattle.kq_grammar.specs.declared.expression.Name.{Name}
@@ -49,4 +49,5 @@ ControlIn text (ingest n ps t) = NameIn text n × PropertiesIn text ps × IsPiec
 ControlIn text (alter_merge n cs) = NameIn text n × ColumnsIn text cs
 ControlIn text (create_view v) = PropertiesIn text v.properties
 ControlIn text (show_extents n) = NameIn text n
+ControlIn text (merge n) = NameIn text n
 ControlIn text _ = ⊤

@@ -6,7 +6,7 @@ use Rattle.kq_command.specs.declared.columns.Column.{Column}
 use Rattle.kq_command.specs.declared.columns.Identifier.{Identifier}
 use Rattle.kq_command.specs.declared.command.Change.TheVariants.{CreateTable, AlterMerge, Ingest}
 use Rattle.kq_command.specs.declared.command.Command.{Command}
-use Rattle.kq_command.specs.declared.command.Command.TheVariants.{Query, Show, Change, Unbuilt}
+use Rattle.kq_command.specs.declared.command.Command.TheVariants.{Query, Show, Change, Merge, Unbuilt}
 use Rattle.kq_command.specs.declared.command.CommandFault.{CommandFault}
 use Rattle.kq_command.specs.declared.command.CommandFault.TheVariants as fault
 use Rattle.kq_command.specs.declared.command.Show.TheVariants.{Extents, Journal}
@@ -15,7 +15,7 @@ use Rattle.kq_command.specs.Ingestions.{properties_of}
 use Rattle.kq_command.specs.Meanings.{identifier_of, columns_of}
 use Rattle.kq_command.specs.Rows.{rows_after}
 use Rattle.kq_command.specs.Unsupported.{unsupported}
-use Rattle.kq_control.specs.ControlTrees.{PropertiesTree, ControlTree, create_table, alter_merge, ingest, show_extents, show_journal, StatementTree, query, control}
+use Rattle.kq_control.specs.ControlTrees.{PropertiesTree, ControlTree, create_table, alter_merge, ingest, show_extents, show_journal, merge, StatementTree, query, control}
 use Rattle.kq_control.specs.Statements.{IsStatement, IsRefused}
 use Rattle.kq_grammar.specs.declared.expression.Name.{Name}
 use Rattle.kq_grammar.specs.TabularViews.{query_of}
@@ -41,6 +41,7 @@ control_command text (alter_merge n cs) = widening_of (identifier_of text n) (co
 control_command text (ingest n ps t) = Change (Ingest (ingestion_of text n ps t))
 control_command text (show_extents n) = Show (Extents (identifier_of text n))
 control_command text show_journal = Show Journal
+control_command text (merge n) = Merge (identifier_of text n)
 control_command text _ = Unbuilt
 
 -- A query is handed on with its text, whatever its form.

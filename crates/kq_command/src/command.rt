@@ -17,6 +17,8 @@ pub enum Command {
     Show(Show),
     /// What changes the catalogue by a commit.
     Change(Change),
+    /// `#merge NAME`
+    Merge(Identifier),
     /// A form that isn't built yet.
     Unbuilt,
 }

@@ -108,6 +108,7 @@ fn built(memory: &mut Requests, text: &str, control: &Control) -> Result<Command
             memory, text, *table,
         )?))),
         Control::ShowJournal => Ok(Command::Show(Show::Journal)),
+        Control::Merge(table) => Ok(Command::Merge(identifier(memory, text, *table)?)),
         _ => Ok(Command::Unbuilt),
     }
 }

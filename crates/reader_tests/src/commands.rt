@@ -66,6 +66,10 @@ pub fn put_command(page: &mut Page<'_>, command: &Command) {
             put_identifier(page, name);
             put_columns(page, columns.as_slice());
         }
+        Command::Merge(table) => {
+            page.put("merge ");
+            put_identifier(page, table);
+        }
     }
 }
 
@@ -88,6 +92,8 @@ fn texts_read_as_their_commands(rt: HostRuntime) -> Result<(), Fail> {
 .alter-merge table ['my table'] (['by']:date, s:string) => wider my table@19 by@33:4 s@46:2
 .show table ['my table'] extents => extents my table@12
 .show journal => journal
+#merge E => merge E@7
+# merge ['my table'] => merge my table@8
 E => query E
 count | count; => query count|Count
 let x = E; print x.y => query x=E:E; Print {x .y}
@@ -117,6 +123,10 @@ fn commands_go_over_lines(rt: HostRuntime) -> Result<(), Fail> {
             "['by'] // rows\n|\n\n// their number\ncount",
             "query ['by']|Count",
         ),
+        (
+            "#\nmerge // all\n[ 'my table' ] // of it",
+            "merge my table@15",
+        ),
     ] {
         assert_reads(&rt, rt.alloc(), Reader::Command, text, want)?;
     }
@@ -132,7 +142,6 @@ fn other_forms_are_not_built_yet(rt: HostRuntime) -> Result<(), Fail> {
 .show materialized-view V
 .show ingestion failures
 # fold V
-#merge E
 #export X
 #export X over E { E }
 ";
