@@ -5,7 +5,7 @@ use Rattle.kq_model.specs.declared.event.Commit.TheVariants as commits
 use Rattle.kq_model.specs.declared.limits.Limits.{Limits}
 use Rattle.kq_model.specs.History.{Log}
 use Rattle.kq_command.specs.declared.command.Command.{Command}
-use Rattle.kq_command.specs.declared.command.Command.TheVariants.{Query, Show, Change, Unbuilt}
+use Rattle.kq_command.specs.declared.command.Command.TheVariants.{Query, Show, Change, Merge, Unbuilt}
 use Rattle.kq_reply.specs.declared.reply.Reply.{Reply}
 use Rattle.kq_reply.specs.Number.{kind_of}
 use Rattle.kq_engine.specs.Due.{reply_to}
@@ -21,4 +21,5 @@ pub Accept-commit : (limits : Limits) (l : Log) (asked : Command) (reply : Reply
 Accept-commit limits l (Query query) reply c makes = absurd makes
 Accept-commit limits l (Show show) reply c makes = absurd makes
 Accept-commit limits l (Change change) reply c makes = ap kind_of makes.1 ∙ granted c _
+Accept-commit limits l (Merge table) reply c makes = absurd makes
 Accept-commit limits l Unbuilt reply c makes = absurd makes

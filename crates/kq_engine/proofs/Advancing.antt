@@ -1,30 +1,37 @@
 -- One call advances a history; what fitted goes on to fit.
-use Rattle.std.proofs.Common.{◌≡◌, ◌≤◌, ◌+◌, ℕ, ℤ, Bool, true, false, Some, None, ◌⊎◌, inl, inr, ◌++◌, length, ap, sym, ◌∙◌, subst, arith, append-nil, length-append}
+use Rattle.std.proofs.Common.{◌≡◌, ◌≤◌, ◌+◌, ℕ, ℤ, Bool, true, false, List, [], Some, None, ◌⊎◌, inl, inr, ◌++◌, length, map, refl, take, ap, sym, ◌∙◌, subst, arith, append-nil, length-append}
 use Rattle.std.proofs.lemmas.List.{take_all, take-append-le, length_push}
 use Rattle.kq_model.specs.declared.event.By.{By}
+use Rattle.kq_model.specs.declared.event.Commit.{Commit}
+use Rattle.kq_model.specs.declared.event.Event.{Event}
 use Rattle.kq_model.specs.declared.event.Operation.{Operation}
 use Rattle.kq_model.specs.declared.event.Operation.TheVariants as operation
 use Rattle.kq_model.specs.declared.limits.Limits.{Limits}
-use Rattle.kq_model.specs.History.{History, commits_at}
+use Rattle.kq_model.specs.History.{History, CommitAt, commit_at, commits_at, commits_of, log}
 use Rattle.kq_model.proofs.Histories.{commits_at-push}
 use Rattle.kq_command.specs.declared.command.Command.{Command}
 use Rattle.kq_engine.specs.declared.work.Outcome.{Outcome}
 use Rattle.kq_reply.specs.declared.reply.Reply.{Reply}
 use Rattle.kq_engine.specs.declared.work.Work.{Work}
 use Rattle.kq_engine.specs.Fits.{Answers, FitsNow, Fits, Tends, Tended, Acts, Appends, Advances, own_commit}
+use Rattle.kq_engine.specs.Merges.{IsMarked, IsStill, NamesAll}
+use Rattle.kq_engine.proofs.Acting.{Acts-since}
+use Rattle.kq_engine.proofs.Telling.{Makes-still, still_marked, still_names}
 
 -- what fits a history fits each that begins with it
 pub Fits-append : (limits : Limits) (h more : History) (mark : By) (command : Command) (now : ℤ) (place : ℕ) (own : Bool) (reply : Reply) → Fits limits h mark command now place own reply → Fits limits (h ++ more) mark command now place own reply
 Fits-append limits h more mark command now place own reply fits = record {
   within = omega (arith, fits.within, length-append h more);
   at = subst (λ (t : History). FitsNow limits t mark command now own reply) (sym (take-append-le place h more fits.within)) fits.at;
+  marked = subst (λ (t : History). IsMarked t mark reply) (sym (take-append-le place h more fits.within)) fits.marked;
 }
 
 -- at the end of the history
-pub Fits-end : (limits : Limits) (h : History) (mark : By) (command : Command) (now : ℤ) (place : ℕ) (own : Bool) (reply : Reply) → place ≡ length h → FitsNow limits h mark command now own reply → Fits limits h mark command now place own reply
-Fits-end limits h mark command now place own reply at_end fits = record {
+pub Fits-end : (limits : Limits) (h : History) (mark : By) (command : Command) (now : ℤ) (place : ℕ) (own : Bool) (reply : Reply) → place ≡ length h → FitsNow limits h mark command now own reply → IsMarked h mark reply → Fits limits h mark command now place own reply
+Fits-end limits h mark command now place own reply at_end fits marked = record {
   within = omega arith;
   at = subst (λ (t : History). FitsNow limits t mark command now own reply) (sym (take_all place h (omega arith))) fits;
+  marked = subst (λ (t : History). IsMarked t mark reply) (sym (take_all place h (omega arith))) marked;
 }
 
 -- nothing is appended
@@ -36,16 +43,29 @@ Appends-none limits h mark command place reply = record {
   commits = sym (append-nil (commits_at h));
 }
 
-none_tends : (limits : Limits) (old : History) (command : Command) (reply : Reply) (made : Operation) → Tends limits old command reply made → ⊥
-none_tends limits old command reply (operation.Commit c) tends = tends
-none_tends limits old command reply (operation.Fold view to) tends = tends
-none_tends limits old command reply (operation.Merge table ids new) tends = tends
+-- what a command makes beside its reply is no commit
+tends_no_commit : (limits : Limits) (old : History) (command : Command) (reply : Reply) (made : Operation) → Tends limits old command reply made → commits_of made ≡ []
+tends_no_commit limits old command reply (operation.Commit c) tends = absurd tends
+tends_no_commit limits old command reply (operation.Fold view to) tends = absurd tends
+tends_no_commit limits old command reply (operation.Merge table ids new) tends = refl
 
-acts_at : (limits : Limits) (old new : History) (work : Work) (began : ℕ) (place : ℕ) (own : Bool) (reply : Reply) → began ≤ length old → Acts limits old new work (record { place = place; own = own; reply = reply }) → Advances limits old new work began (record { place = place; own = own; reply = reply })
+tended_appends : (limits : Limits) (old new : History) (work : Work) (began place : ℕ) (reply : Reply) → Tended limits old new work began reply → Appends limits old new work.by work.command (record { place = place; own = false; reply = reply })
+tended_appends limits old new work began place reply tended =
+    let event : Event = record { by = work.by; operation = tended.made } in
+    let none : commit_at event (length old + 1) ≡ [] = ap (map (λ (c : Commit). let m : CommitAt = record { place = length old + 1; by = work.by } in m)) (tends_no_commit limits old work.command reply tended.made tended.tends) in
+    record {
+      made = Some tended.made;
+      may_make = inr (tended.tends, tended.granted);
+      appended = tended.appended;
+      commits = ap commits_at tended.appended ∙ commits_at-push old event ∙ ap (λ (more : List CommitAt). commits_at old ++ more) none;
+    }
+
+acts_at : (limits : Limits) (old new : History) (work : Work) (began : ℕ) (place : ℕ) (own : Bool) (reply : Reply) → began ≤ length old → Acts limits old new work began (record { place = place; own = own; reply = reply }) → Advances limits old new work began (record { place = place; own = own; reply = reply })
 acts_at limits old new work began place true reply since acts =
     let c = acts.1.0 in
     let is = acts.1.1 in
     let longer : length new ≡ length old + 1 = ap length is ∙ length_push old _ in
+    let still = Makes-still limits (log old) work.command reply c acts.1.2 in
     record {
       appends = record {
         made = Some (operation.Commit c);
@@ -53,18 +73,29 @@ acts_at limits old new work began place true reply since acts =
         appended = is;
         commits = ap commits_at is ∙ commits_at-push old _ ∙ ap (λ (n : ℕ). commits_at old ++ own_commit true n work.by) (sym longer ∙ sym acts.0);
       };
-      fits = Fits-end limits new work.by work.command work.now place true reply acts.0 (old, c, is, acts.1.2);
+      fits = Fits-end limits new work.by work.command work.now place true reply acts.0 (old, c, is, acts.1.2) (still_marked new work.by reply still);
       since = omega arith;
+      names_all = still_names (take place new) began reply still;
     }
 acts_at limits old new work began place false reply since acts = by_case acts.1
   where
-    by_case : ((new ≡ old) × Answers limits old work.now work.command reply) ⊎ Tended limits old new work reply → Advances limits old new work began (record { place = place; own = false; reply = reply })
+    by_case : ((new ≡ old) × Answers limits old work.now work.command reply × IsStill reply) ⊎ Tended limits old new work began reply → Advances limits old new work began (record { place = place; own = false; reply = reply })
     by_case (inl stays) = record {
       appends = subst (λ (h : History). Appends limits old h work.by work.command (record { place = place; own = false; reply = reply })) (sym stays.0) (Appends-none limits old work.by work.command place reply);
-      fits = Fits-end limits new work.by work.command work.now place false reply acts.0 (subst (λ (h : History). Answers limits h work.now work.command reply) (sym stays.0) stays.1);
+      fits = Fits-end limits new work.by work.command work.now place false reply acts.0 (subst (λ (h : History). Answers limits h work.now work.command reply) (sym stays.0) stays.1) (still_marked new work.by reply stays.2);
       since = omega (arith, ap length stays.0);
+      names_all = still_names (take place new) began reply stays.2;
     }
-    by_case (inr tended) = absurd (none_tends limits old work.command reply tended.made tended.tends)
+    by_case (inr tended) = let longer : length new ≡ length old + 1 = ap length tended.appended ∙ length_push old _ in record {
+      appends = tended_appends limits old new work began place reply tended;
+      fits = Fits-end limits new work.by work.command work.now place false reply acts.0 tended.answers (λ extents e. record { before = old; made = tended.made; last = tended.appended });
+      since = omega (arith, longer, acts.0);
+      names_all = subst (λ (h : History). NamesAll h began reply) (sym (take_all place new (omega (arith, acts.0)))) tended.names_all;
+    }
 
-pub Advances-acts : (limits : Limits) (old new : History) (work : Work) (began : ℕ) (outcome : Outcome) → began ≤ length old → Acts limits old new work outcome → Advances limits old new work began outcome
+pub Advances-acts : (limits : Limits) (old new : History) (work : Work) (began : ℕ) (outcome : Outcome) → began ≤ length old → Acts limits old new work began outcome → Advances limits old new work began outcome
 Advances-acts limits old new work began outcome since acts = acts_at limits old new work began outcome.place outcome.own outcome.reply since acts
+
+-- what was decided at the end of the history
+pub Advances-decided : (limits : Limits) (old new : History) (work : Work) (began : ℕ) (outcome : Outcome) → began ≤ length old → Acts limits old new work (length old) outcome → Advances limits old new work began outcome
+Advances-decided limits old new work began outcome since acts = Advances-acts limits old new work began outcome since (Acts-since limits old new work began (length old) outcome since acts)

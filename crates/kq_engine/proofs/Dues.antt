@@ -147,4 +147,5 @@ pub Commit-lawful : (limits : Limits) (l : Log) (command : Command) (c : Commit)
 Commit-lawful limits l (commands.Query query) c due = absurd due
 Commit-lawful limits l (commands.Show show) c due = absurd due
 Commit-lawful limits l (commands.Change change) c due = Due-lawful limits l change c due.0
+Commit-lawful limits l (commands.Merge table) c due = absurd due
 Commit-lawful limits l commands.Unbuilt c due = absurd due

@@ -1,5 +1,5 @@
 -- What was found stays due, or is skipped, as the log grows.
-use Rattle.std.proofs.Common.{◌≡◌, ℕ, ℤ, ◌+◌, Bool, true, false, cond, List, [], ◌∷◌, ◌++◌, length, take, drop, nat_lt, Option, Some, None, Result, Ok, Err, IfOk, refl, ap, sym, ◌∙◌, subst, append_assoc, append-nil}
+use Rattle.std.proofs.Common.{◌≡◌, ℕ, ℤ, Bool, true, false, cond, List, ◌++◌, length, take, drop, nat_lt, Option, Some, None, Result, Ok, Err, IfOk, refl, ap, sym, ◌∙◌, subst}
 use Rattle.std.specs.List.{slice_get}
 use Rattle.std.proofs.lemmas.Bool.{eqb-true, false≢true}
 use Rattle.std.proofs.lemmas.List.{take-append-drop}
@@ -13,7 +13,7 @@ use Rattle.kq_catalog.specs.Intents.{commit_of}
 use Rattle.kq_command.specs.declared.command.Change.{Change as Changing}
 use Rattle.kq_command.specs.declared.command.Change.TheVariants.{CreateTable, AlterMerge, Ingest}
 use Rattle.kq_command.specs.declared.command.Command.{Command}
-use Rattle.kq_command.specs.declared.command.Command.TheVariants.{Query, Show, Change, Unbuilt}
+use Rattle.kq_command.specs.declared.command.Command.TheVariants.{Query, Show, Change, Merge, Unbuilt}
 use Rattle.kq_command.specs.declared.ingestion.Ingestion.{Ingestion}
 use Rattle.kq_reply.specs.declared.refusal.Refusal.{Refusal}
 use Rattle.kq_reply.specs.declared.refusal.Refusal.TheVariants as refusals
@@ -28,6 +28,7 @@ use Rattle.kq_engine.specs.Fits.{IsDue}
 use Rattle.kq_engine.specs.Found.{Finds, IsCommitDue, IsDueTo, IsFound, IsGoodText, IsOffered, IsReadFor, OffersChange, OffersInto, barred_at, is_as_read, is_prepared_outside, is_widened_at, offer_due}
 use Rattle.kq_engine.proofs.Dues.{Due-is_good}
 use Rattle.kq_engine.proofs.Fit.{no_commit}
+use Rattle.kq_engine.proofs.Telling.{change_still}
 
 -- ---- tables for which rows were read
 
@@ -58,6 +59,7 @@ commit_good : (limits : Limits) (l : Log) (command : Command) (c : Commit) → I
 commit_good limits l (Query query) c due = absurd due
 commit_good limits l (Show show) c due = absurd due
 commit_good limits l (Change change) c due = (Due-is_good limits l change c due.0).0
+commit_good limits l (Merge table) c due = absurd due
 commit_good limits l Unbuilt c due = absurd due
 
 -- a commit that was found for a change
@@ -77,8 +79,9 @@ Offered-change limits l (Ingest i) offer good due offers = record {
 
 -- what was found for a change of a good text
 pub Found-change : (limits : Limits) (h : History) (now : ℤ) (change : Changing) (result : Result Found Refusal) → text_refusal change ≡ None → Finds (IsDueByLog limits (log h) change) result → IfOk result (OffersChange limits (log h) change) → IfOk result (IsFound limits h now (Change change))
-Found-change limits h now change (Ok (founds.Says reply)) good due offers = good_due limits (log h) change (Says reply) good due
+Found-change limits h now change (Ok (founds.Says reply)) good due offers = (good_due limits (log h) change (Says reply) good due, change_still limits (log h) change reply due)
 Found-change limits h now change (Ok (founds.Commits offer)) good due offers = Offered-change limits (log h) change offer good due offers
+Found-change limits h now change (Ok (founds.Merges merging)) good due offers = absurd due
 Found-change limits h now change (Err r) good due offers = offers
 
 -- what the offer that was found at a place comes to is due
@@ -98,12 +101,14 @@ pub says_due : (limits : Limits) (h : History) (now : ℤ) (command : Command) (
 says_due limits h now (Query query) reply due = absurd due
 says_due limits h now (Show show) reply due = absurd due
 says_due limits h now (Change change) reply due = due
+says_due limits h now (Merge table) reply due = absurd due
 says_due limits h now Unbuilt reply due = absurd due
 
 commits_due : (limits : Limits) (l : Log) (command : Command) (c : Commit) → IsDueTo limits l command (Commits c) → IsCommitDue limits l command c
 commits_due limits l (Query query) c due = absurd due
 commits_due limits l (Show show) c due = absurd due
 commits_due limits l (Change change) c due = (due, refl)
+commits_due limits l (Merge table) c due = absurd due
 commits_due limits l Unbuilt c due = absurd due
 
 -- a tag bars it

@@ -21,7 +21,9 @@ use Rattle.kq_engine.specs.declared.work.Ready.{Ready}
 use Rattle.kq_engine.specs.declared.work.Ready.TheVariants as readies
 use Rattle.kq_engine.specs.Fits.{Fits, FitsNow, Advances, event_by, own_commit}
 use Rattle.kq_engine.specs.Found.{IsPrepared, IsReady, MayWantMemory, TakesMemory, TakesToFinish, WantsToFinish}
-use Rattle.kq_engine.proofs.Wanting.{commit_finds, found_wants}
+use Rattle.kq_engine.specs.Merges.{IsStill, NamesAll}
+use Rattle.kq_engine.proofs.Telling.{still_marked, still_names}
+use Rattle.kq_engine.proofs.Wanting.{commit_finds, found_wants, merging_finds, merging_outside}
 use Rattle.kq_catalog.specs.Intents.{commit_of}
 use Rattle.kq_command.specs.declared.command.Command.{Command}
 use Rattle.kq_reply.specs.declared.refusal.Refusal.{Refusal}
@@ -46,6 +48,7 @@ Tells-later limits xs ys found more h new made os all is t told = record {
   found = place_of-append t.by xs ys found more t.began told.found;
   fits = subst (λ (n : History). Fits limits n t.by told.work.command told.work.now t.outcome.place t.outcome.own t.outcome.reply) (sym is) (Fits-append limits h made t.by told.work.command told.work.now t.outcome.place t.outcome.own t.outcome.reply told.fits);
   since = told.since;
+  names_all = subst (λ (n : History). NamesAll n t.began t.outcome.reply) (sym (ap (take t.outcome.place) is ∙ take-append-le t.outcome.place h made told.fits.within)) told.names_all;
   memory = λ wants.
       let began : take t.began new ≡ take t.began h = ap (take t.began) is ∙ take-append-le t.began h made (omega (arith, told.since, told.fits.within)) in
       let place : take t.outcome.place new ≡ take t.outcome.place h = ap (take t.outcome.place) is ∙ take-append-le t.outcome.place h made told.fits.within in
@@ -196,8 +199,8 @@ not_begun : (m : Option Work) (gave : List Told) → one_if_some m ≡ 0 → (fi
 not_begun m gave none first asked = let one : one_if_some m ≡ 1 = ap one_if_some asked in absurd (omega arith)
 
 -- new work that was refused on a snapshot
-pub begin_refused : (limits : Limits) (xs : List Step) (w : Work) (catalog : CatalogView) (open_ones : List Prepared) (outcomes : List Told) (place : ℕ) (reply : Reply) → count_by (opens w.by) open_ones ≡ 0 → count_by (tells w.by) outcomes ≡ 0 → place ≡ length catalog.history → FitsNow catalog.limits catalog.history w.by w.command w.now false reply → (reply ≡ replies.Refused refusals.Memory → TakesMemory catalog.history w.command) → IsRun limits xs catalog open_ones outcomes → IsRun limits (xs ++ Begin w ∷ []) catalog open_ones (outcomes ++ record { by = w.by; began = place; outcome = record { place = place; own = false; reply = reply } } ∷ [])
-begin_refused limits xs w catalog open_ones outcomes place reply none_open none_told at_end fits takes run =
+pub begin_refused : (limits : Limits) (xs : List Step) (w : Work) (catalog : CatalogView) (open_ones : List Prepared) (outcomes : List Told) (place : ℕ) (reply : Reply) → count_by (opens w.by) open_ones ≡ 0 → count_by (tells w.by) outcomes ≡ 0 → place ≡ length catalog.history → FitsNow catalog.limits catalog.history w.by w.command w.now false reply → IsStill reply → (reply ≡ replies.Refused refusals.Memory → TakesMemory catalog.history w.command) → IsRun limits xs catalog open_ones outcomes → IsRun limits (xs ++ Begin w ∷ []) catalog open_ones (outcomes ++ record { by = w.by; began = place; outcome = record { place = place; own = false; reply = reply } } ∷ [])
+begin_refused limits xs w catalog open_ones outcomes place reply none_open none_told at_end fits still takes run =
     let t : Told = record { by = w.by; began = place; outcome = record { place = place; own = false; reply = reply } } in
     let zero : one_if_some (work_of w.by xs) ≡ 0 = sym (run.once w.by) ∙ omega (arith, none_open, none_told) in
     let stays : catalog.history ≡ catalog.history ++ [] = sym (append-nil catalog.history) in
@@ -213,8 +216,9 @@ begin_refused limits xs w catalog open_ones outcomes place reply none_open none_
       work = w;
       asked = work_new w.by xs w zero (same_by-itself w.by);
       found = subst (λ (n : ℕ). place_of w.by (xs ++ Begin w ∷ []) found ≡ Some n) (sym at_end) (place_of-new w.by xs run.found w (length catalog.history) run.counted (nothing_yet (work_of w.by xs) zero) (same_by-itself w.by));
-      fits = Fits-end limits catalog.history w.by w.command w.now place false reply at_end (subst (λ (l : Limits). FitsNow l catalog.history w.by w.command w.now false reply) run.same_limits fits);
+      fits = Fits-end limits catalog.history w.by w.command w.now place false reply at_end (subst (λ (l : Limits). FitsNow l catalog.history w.by w.command w.now false reply) run.same_limits fits) (still_marked catalog.history w.by reply still);
       since = omega arith;
+      names_all = still_names (take place catalog.history) place reply still;
       memory = λ wants. inl (subst (λ (n : History). TakesMemory n w.command) (sym (take_all place catalog.history (omega (arith, at_end)))) (takes wants));
       finished = inr (record { not_own = refl; place = refl });
     }))
@@ -237,6 +241,7 @@ some_given t made e = cc
 ready_wants : (limits : Limits) (h later : History) (now : ℤ) (command : Command) (ready : Ready) → IsReady limits h now command ready → TakesToFinish later command ready → MayWantMemory h later command
 ready_wants limits h later now command (readies.Answered reply) is takes = absurd takes
 ready_wants limits h later now command (readies.ToCommit offer) is takes = inl (found_wants h command is.0 (commit_finds limits h command (commit_of offer.intent) is.1.due))
+ready_wants limits h later now command (readies.ToMerge merging) is takes = inl (found_wants h command (merging_outside h command merging is) (merging_finds h command merging is))
 ready_wants limits h later now command readies.Pending is takes = inr takes
 
 -- open work is finished
@@ -267,6 +272,7 @@ finish_open limits xs c old new open_ones outcomes i p outcome is_at value kept 
       found = place_of-append c xs (Finish c ∷ []) run.found (length old.history ∷ []) p.place (subst (λ (m : By). place_of m xs run.found ≡ Some p.place) mark open_one.found);
       fits = subst (λ (m : By). Fits limits new.history m p.work.command p.work.now outcome.place outcome.own outcome.reply) mark (subst (λ (l : Limits). Fits l new.history p.work.by p.work.command p.work.now outcome.place outcome.own outcome.reply) run.same_limits step.fits);
       since = step.since;
+      names_all = step.names_all;
       memory = λ wants. subst (λ (n : History). MayWantMemory n (take outcome.place new.history) p.work.command) (sym (ap (take p.place) is ∙ take-append-le p.place old.history made (omega (arith, open_one.prepared.at, length-take p.place old.history)))) (ready_wants limits (take p.place old.history) (take outcome.place new.history) p.work.now p.work.command p.ready open_one.prepared.is_ready (takes wants));
       finished = inl (is_finished-now c xs p.work asked);
     }))

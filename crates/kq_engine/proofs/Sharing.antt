@@ -1,5 +1,5 @@
 -- What one take of the catalogue does to a pass.
-use Rattle.std.proofs.Common.{◌≡◌, ◌+◌, ℕ, false, List, [], ◌∷◌, ◌++◌, length, refl, ap, sym, subst, append-nil, arith, inr}
+use Rattle.std.proofs.Common.{◌≡◌, ◌≤◌, ◌+◌, ℕ, false, List, [], ◌∷◌, ◌++◌, length, take, refl, ap, sym, ◌∙◌, subst, append-nil, append_assoc, length-append, arith, inr}
 use mathlib.Core.List.{IsPrefix}
 use Rattle.kq_turn.specs.Histories.{gained}
 use Rattle.kq_turn.specs.Passes.{TurnId}
@@ -13,9 +13,11 @@ use Rattle.kq_engine.specs.Found.{IsPrepared, IsReady}
 use Rattle.kq_reply.specs.declared.reply.Reply.{Reply}
 use Rattle.kq_engine.specs.declared.work.Prepared.{Prepared}
 use Rattle.kq_engine.specs.declared.work.Ready.TheVariants as readies
-use Rattle.kq_engine.specs.Shared.{PassView, Finishes, IsFresh, Concludes}
+use Rattle.kq_engine.specs.Shared.{PassView, Applies, Finishes, IsFresh, Concludes, made_by}
 use Rattle.kq_engine.proofs.Advancing.{Appends-none, Fits-end}
 use Rattle.kq_engine.proofs.Counting.{cursor-gained}
+use Rattle.kq_engine.specs.Merges.{NamesAll}
+use Rattle.kq_engine.proofs.Telling.{NamesAll-since, still_marked, still_names}
 
 -- a step that began on what was seen
 pub Finishes-step : (limits : Limits) (of : TurnId) (seen old new : History) (worth made : ℕ) (taken : List ℕ) (work : Work) (began : ℕ) (outcome : Outcome) → began ≡ length seen → IsPrefix seen old → Advances limits old new work began outcome
@@ -33,6 +35,7 @@ Finishes-step limits of seen old new worth made taken work began outcome here be
       made = ap (λ (k : ℕ). made + k) (cursor-gained old new outcome.own outcome.place work.by goes_on step.appends.commits);
       fits = step.fits;
       since = omega (arith, here, step.since);
+      names_all = subst (λ (n : ℕ). NamesAll (take outcome.place new) n outcome.reply) here step.names_all;
     }
 
 -- what was answered on a snapshot of what was seen concludes with no take
@@ -47,6 +50,41 @@ Concludes-answered limits pass prepared reply fresh is answered = record {
   taken = sym (append-nil pass.taken);
   last = record { found = pass.seen; begins = IsPrefix-refl pass.seen; before = fresh.before; last = fresh.last; appends = Appends-none limits pass.seen prepared.work.by prepared.work.command prepared.place reply };
   made = omega arith;
-  fits = Fits-end limits pass.seen prepared.work.by prepared.work.command prepared.work.now prepared.place false reply is.at (inr (subst (IsReady limits pass.seen prepared.work.now prepared.work.command) answered is.is_ready));
+  fits = Fits-end limits pass.seen prepared.work.by prepared.work.command prepared.work.now prepared.place false reply is.at (inr due.0) (still_marked pass.seen prepared.work.by reply due.1);
   since = omega (arith, is.at);
+  names_all = still_names (take prepared.place pass.seen) (length pass.seen) reply due.1;
 }
+  where
+    due : IsReady limits pass.seen prepared.work.now prepared.work.command (readies.Answered reply)
+    due = subst (IsReady limits pass.seen prepared.work.now prepared.work.command) answered is.is_ready
+
+longer : (old new : History) → IsPrefix old new → length old ≤ length new
+longer old new begins = let whole = ap length begins.1 in omega (arith, whole, length-append old begins.0)
+
+-- prepared on what one take found, and concluded
+pub Applies-concluded : (limits : Limits) (old mid new : PassView) (work : Work) (outcome : Outcome) → IsPrefix old.seen mid.seen → mid ≡ record old { seen = mid.seen; taken = old.taken ++ length mid.seen ∷ [] } → Concludes limits mid new work outcome → Applies limits old new work outcome
+Applies-concluded limits old mid new work outcome begins took concludes =
+    let low = longer old.seen mid.seen begins in
+    record {
+      of = concludes.of ∙ ap (λ (p : PassView). p.of) took;
+      worth = concludes.worth ∙ ap (λ (p : PassView). p.worth) took;
+      seen = IsPrefix-trans old.seen mid.seen new.seen begins concludes.seen;
+      takes = record {
+        first = length mid.seen;
+        more = concludes.more;
+        gains = concludes.taken ∙ ap (λ (p : PassView). p.taken ++ concludes.more) took ∙ append_assoc old.taken (length mid.seen ∷ []) concludes.more;
+        few = concludes.few;
+        since = concludes.since;
+      };
+      last = record {
+        found = concludes.last.found;
+        begins = IsPrefix-trans old.seen mid.seen concludes.last.found begins concludes.last.begins;
+        before = concludes.last.before;
+        last = concludes.last.last;
+        appends = concludes.last.appends;
+      };
+      made = concludes.made ∙ ap (λ (p : PassView). p.made + made_by outcome.own) took;
+      fits = concludes.fits;
+      since = omega (arith, low, concludes.since);
+      names_all = NamesAll-since (take outcome.place new.seen) (length old.seen) (length mid.seen) outcome.reply low concludes.names_all;
+    }

@@ -1,5 +1,5 @@
 -- Where preparing a command takes memory.
-use Rattle.std.proofs.Common.{◌≡◌, ◌+◌, ℕ, ℤ, Bool, true, false, cond, List, [], ◌∷◌, length, nat_lt, Option, Some, None, ap, arith}
+use Rattle.std.proofs.Common.{◌≡◌, ◌+◌, ℕ, ℤ, Bool, true, false, cond, List, [], ◌∷◌, length, nat_lt, Option, Some, None, refl, ap, sym, subst, arith}
 use Rattle.std.specs.Option.{option_map}
 use Rattle.std.proofs.lemmas.Bool.{false≢true}
 use Rattle.kq_value.specs.declared.schema.Field.{Field}
@@ -9,11 +9,12 @@ use Rattle.kq_model.specs.declared.event.Commit.TheVariants as commits
 use Rattle.kq_model.specs.declared.limits.Limits.{Limits}
 use Rattle.kq_model.specs.declared.table.Table.{Table}
 use Rattle.kq_model.specs.History.{History, Log, Numbered, log, tables, table_named, table_numbered}
+use Rattle.kq_catalog.specs.declared.merging.Merging.{Merging}
 use Rattle.kq_command.specs.declared.columns.Column.{Column}
 use Rattle.kq_command.specs.declared.columns.Identifier.{Identifier}
 use Rattle.kq_command.specs.declared.command.Change.TheVariants.{CreateTable, AlterMerge, Ingest}
 use Rattle.kq_command.specs.declared.command.Command.{Command}
-use Rattle.kq_command.specs.declared.command.Command.TheVariants.{Query, Show, Change, Unbuilt}
+use Rattle.kq_command.specs.declared.command.Command.TheVariants.{Query, Show, Change, Merge, Unbuilt}
 use Rattle.kq_command.specs.declared.ingestion.Ingestion.{Ingestion}
 use Rattle.kq_command.specs.declared.command.Show.{Show as Showing}
 use Rattle.kq_command.specs.declared.command.Show.TheVariants as shows
@@ -24,6 +25,7 @@ use Rattle.kq_reply.specs.declared.reply.Reply.TheVariants as replies
 use Rattle.kq_engine.specs.Due.{Due, Says, Commits, IsDueByText, clash_due, counted, ingest_due, lacking_due, named_due, refused, repeated_place, widening_due}
 use Rattle.kq_engine.specs.Fits.{IsDue}
 use Rattle.kq_engine.specs.Found.{Gains, IsCommitDue, Stands, TakesMemory, TakesToFind, TakesToShow, is_prepared_outside}
+use Rattle.kq_engine.specs.Merges.{IsMergingFor, MergesNamed}
 use Rattle.kq_engine.specs.Shows.{ShowsExtents, AnswersShow}
 use Rattle.kq_engine.proofs.Dues.{Due-is_good, table_due-unnamed}
 use Rattle.kq_engine.proofs.Fit.{no_commit}
@@ -48,6 +50,7 @@ commit_finds limits h (Show show) c due = absurd due
 commit_finds limits h (Change (CreateTable name columns)) c due = table_due-unnamed limits (log h) name (schema_of columns) c (Due-is_good limits (log h) (CreateTable name columns) c due.0).1.1
 commit_finds limits h (Change (AlterMerge name columns)) c due = columns_wanted limits (log h) name columns (table_numbered name.text (tables (log h))) c (Due-is_good limits (log h) (AlterMerge name columns) c due.0).1
 commit_finds limits h (Change (Ingest i)) c due = rows_wanted limits (log h) i (table_numbered i.table.text (tables (log h))) c (Due-is_good limits (log h) (Ingest i) c due.0).1
+commit_finds limits h (Merge table) c due = absurd due
 commit_finds limits h Unbuilt c due = absurd due
 
 -- ---- want of memory isn't due to `.create table` or `.alter-merge table`
@@ -121,6 +124,10 @@ show_finds : (h : History) (asked : Showing) → AnswersShow h asked (replies.Re
 show_finds h (shows.Extents table) due = extents_find h table (table_numbered table.text (tables (log h))) due
 show_finds h shows.Journal due = tt
 
+named_finds : (h : History) (table : Identifier) (o : Option Numbered) → MergesNamed h table o (replies.Refused refusals.Memory) → Stands o
+named_finds h table None due = cc
+named_finds h table (Some found) due = absurd due
+
 rows_find : (limits : Limits) (l : Log) (i : Ingestion) (o : Option Numbered) → memory_due ≡ ingest_due limits l i o → Stands o
 rows_find limits l i None due = cc
 rows_find limits l i (Some found) due = tt
@@ -135,6 +142,7 @@ due_finds limits h now (Show asked) due = show_finds h asked due
 due_finds limits h now (Change (CreateTable name columns)) due = absurd (not_table limits (log h) name columns (repeated_place columns) due)
 due_finds limits h now (Change (AlterMerge name columns)) due = absurd (not_columns limits (log h) name columns (repeated_place columns) due)
 due_finds limits h now (Change (Ingest i)) due = ingest_finds limits (log h) i i.properties.repeated due
+due_finds limits h now (Merge table) due = named_finds h table (table_numbered table.text (tables (log h))) due
 due_finds limits h now Unbuilt due = cc
 
 -- what is found outside the lock takes the memory of preparing
@@ -144,4 +152,21 @@ found_wants h (Show asked) outside takes = takes
 found_wants h (Change (CreateTable name columns)) outside takes = absurd (false≢true outside)
 found_wants h (Change (AlterMerge name columns)) outside takes = absurd (false≢true outside)
 found_wants h (Change (Ingest i)) outside takes = takes
+found_wants h (Merge table) outside takes = takes
 found_wants h Unbuilt outside takes = takes
+
+-- what is merged takes the memory of finding it
+pub merging_finds : (h : History) (command : Command) (m : Merging) → IsMergingFor h command m → TakesToFind h command
+merging_finds h (Query query) m is = absurd is
+merging_finds h (Show show) m is = absurd is
+merging_finds h (Change change) m is = absurd is
+merging_finds h (Merge table) m is = subst Stands (sym is.named) tt
+merging_finds h Unbuilt m is = absurd is
+
+-- and is prepared outside the lock
+pub merging_outside : (h : History) (command : Command) (m : Merging) → IsMergingFor h command m → is_prepared_outside command ≡ true
+merging_outside h (Query query) m is = absurd is
+merging_outside h (Show show) m is = absurd is
+merging_outside h (Change change) m is = absurd is
+merging_outside h (Merge table) m is = refl
+merging_outside h Unbuilt m is = absurd is

@@ -7,7 +7,7 @@ use Rattle.kq_model.specs.declared.event.Operation.TheVariants as operation
 use Rattle.kq_model.specs.declared.limits.Limits.{Limits}
 use Rattle.kq_model.specs.History.{History, Log, CommitAt, log, commits_at}
 use Rattle.kq_command.specs.declared.command.Command.{Command}
-use Rattle.kq_command.specs.declared.command.Command.TheVariants.{Query, Show, Change, Unbuilt}
+use Rattle.kq_command.specs.declared.command.Command.TheVariants.{Query, Show, Change, Merge, Unbuilt}
 use Rattle.kq_grammar.specs.TabularViews.{query_of}
 use Rattle.kq_query.specs.Answers.{AnswersQuery}
 use Rattle.kq_reply.specs.declared.refusal.Refusal.{Refusal}
@@ -17,13 +17,15 @@ use Rattle.kq_reply.specs.declared.reply.Reply.TheVariants as replies
 use Rattle.kq_engine.specs.declared.work.Outcome.{Outcome}
 use Rattle.kq_engine.specs.declared.work.Work.{Work}
 use Rattle.kq_engine.specs.Due.{Accept}
+use Rattle.kq_engine.specs.Merges.{AnswersMerge, IsMarked, IsStill, NamesAll, TendsMerge}
 use Rattle.kq_engine.specs.Shows.{AnswersShow}
 
--- the reply that is due at a moment without a commit
+-- the reply that is due at a moment without a commit; to a merge over a history with its own event
 abbrev pub IsDue : Limits → History → ℤ → Command → Reply → Type 0
 IsDue limits h now (Query query) reply = AnswersQuery h now query.text (query_of query.tree) reply
 IsDue limits h now (Show show) reply = AnswersShow h show reply
 IsDue limits h now (Change change) reply = Accept limits (log h) change reply None
+IsDue limits h now (Merge table) reply = AnswersMerge h table reply
 IsDue limits h now Unbuilt reply = reply ≡ replies.Refused refusals.Unbuilt
 
 -- the log admits this reply to the command with this commit, so it is a change
@@ -31,6 +33,7 @@ abbrev pub Makes : Limits → Log → Command → Reply → Commit → Type 0
 Makes limits l (Query query) reply c = ⊥
 Makes limits l (Show show) reply c = ⊥
 Makes limits l (Change change) reply c = Accept limits l change reply (Some c)
+Makes limits l (Merge table) reply c = ⊥
 Makes limits l Unbuilt reply c = ⊥
 
 -- a reply without a commit: the one that is due, or want of memory
@@ -42,10 +45,11 @@ abbrev pub FitsNow : Limits → History → By → Command → ℤ → Bool → 
 FitsNow limits h mark command now false reply = Answers limits h now command reply
 FitsNow limits h mark command now true reply = (before : History) × (c : Commit) × (h ≡ before ++ record { by = mark; operation = operation.Commit c } ∷ []) × Makes limits (log before) command reply c
 
--- the reply fits the command at a place of the history
+-- the reply fits the command at a place of the history; a merge that it tells has the mark
 pub record Fits (limits : Limits) (h : History) (mark : By) (command : Command) (now : ℤ) (place : ℕ) (own : Bool) (reply : Reply) : Type 0 where
   pub within : place ≤ length h
   pub at : FitsNow limits (take place h) mark command now own reply
+  pub marked : IsMarked (take place h) mark reply
 
 -- the outcome of an answer: that of a refusal is at the end of the history
 abbrev pub outcome_of : History → Result Outcome Refusal → Outcome
@@ -57,32 +61,33 @@ abbrev pub event_by : By → Option Operation → History
 event_by mark None = []
 event_by mark (Some made) = record { by = mark; operation = made } ∷ []
 
--- the operation that a command without a commit may make beside its reply: no commit, and no command folds or merges yet
+-- the operation that a command without a commit may make beside its reply: no commit, and no command folds yet
 abbrev pub Tends : Limits → History → Command → Reply → Operation → Type 0
 Tends limits old command reply (operation.Commit c) = ⊥
 Tends limits old command reply (operation.Fold view to) = ⊥
-Tends limits old command reply (operation.Merge table ids new) = ⊥
+Tends limits old command reply (operation.Merge table ids new) = TendsMerge old command reply table ids
 
 -- the reply is no refusal
 abbrev pub IsGranted : Reply → Type 0
 IsGranted reply = (r : Refusal) → reply ≢ replies.Refused r
 
--- such an operation was appended beside the reply that is due, which is no refusal
-pub record Tended (limits : Limits) (old new : History) (work : Work) (reply : Reply) : Type 0 where
+-- such an operation was appended beside the reply that is due with it, which is no refusal; a merge is of all that were picked since the work began
+pub record Tended (limits : Limits) (old new : History) (work : Work) (began : ℕ) (reply : Reply) : Type 0 where
   pub made : Operation
   pub tends : Tends limits old work.command reply made
   pub granted : IsGranted reply
-  pub answers : Answers limits old work.now work.command reply
+  pub answers : Answers limits new work.now work.command reply
+  pub names_all : NamesAll new began reply
   pub appended : new ≡ old ++ event_by work.by (Some made)
 
 -- with `own` the command's commit was appended; without it the history stayed, or it gained the one operation of another kind that is the command's
-abbrev pub Did : Limits → History → History → Work → Bool → Reply → Type 0
-Did limits old new work true reply = (c : Commit) × (new ≡ old ++ record { by = work.by; operation = operation.Commit c } ∷ []) × Makes limits (log old) work.command reply c
-Did limits old new work false reply = ((new ≡ old) × Answers limits old work.now work.command reply) ⊎ Tended limits old new work reply
+abbrev pub Did : Limits → History → History → Work → ℕ → Bool → Reply → Type 0
+Did limits old new work began true reply = (c : Commit) × (new ≡ old ++ record { by = work.by; operation = operation.Commit c } ∷ []) × Makes limits (log old) work.command reply c
+Did limits old new work began false reply = ((new ≡ old) × Answers limits old work.now work.command reply × IsStill reply) ⊎ Tended limits old new work began reply
 
 -- at most the command's own event, at the new end of the history
-abbrev pub Acts : Limits → History → History → Work → Outcome → Type 0
-Acts limits old new work outcome = (outcome.place ≡ length new) × Did limits old new work outcome.own outcome.reply
+abbrev pub Acts : Limits → History → History → Work → ℕ → Outcome → Type 0
+Acts limits old new work began outcome = (outcome.place ≡ length new) × Did limits old new work began outcome.own outcome.reply
 
 -- the commit of an outcome, if it made one
 abbrev pub own_commit : Bool → ℕ → By → List CommitAt
@@ -106,8 +111,9 @@ pub record Appends (limits : Limits) (old new : History) (mark : By) (command : 
   pub appended : new ≡ old ++ event_by mark made
   pub commits : commits_at new ≡ commits_at old ++ own_commit outcome.own outcome.place mark
 
--- one step of the engine: at most one event is appended, and the outcome fits the history
+-- one step of the engine: at most one event is appended, the outcome fits the history, and a merge is of all that were picked since the work began
 pub record Advances (limits : Limits) (old new : History) (work : Work) (began : ℕ) (outcome : Outcome) : Type 0 where
   pub appends : Appends limits old new work.by work.command outcome
   pub fits : Fits limits new work.by work.command work.now outcome.place outcome.own outcome.reply
   pub since : began ≤ outcome.place
+  pub names_all : NamesAll (take outcome.place new) began outcome.reply

@@ -9,17 +9,17 @@ use Rattle.kq_model.specs.History.{History, Log, log, tables, table_named, Numbe
 use Rattle.kq_model.specs.Tagged.{least_tagged}
 use Rattle.kq_catalog.specs.Intents.{commit_of}
 use Rattle.kq_command.specs.declared.columns.Column.{Column}
+use Rattle.kq_command.specs.declared.columns.Identifier.{Identifier}
 use Rattle.kq_command.specs.Widening.{new_columns}
 use Rattle.kq_command.specs.declared.command.Change.{Change as Changing}
 use Rattle.kq_command.specs.declared.command.Change.TheVariants.{CreateTable, AlterMerge, Ingest}
 use Rattle.kq_command.specs.declared.command.Command.{Command}
-use Rattle.kq_command.specs.declared.command.Command.TheVariants.{Query, Show, Change, Unbuilt}
+use Rattle.kq_command.specs.declared.command.Command.TheVariants.{Query, Show, Change, Merge, Unbuilt}
 use Rattle.kq_command.specs.declared.ingestion.Ingestion.{Ingestion}
 use Rattle.kq_command.specs.declared.command.Show.{Show as Showing}
 use Rattle.kq_command.specs.declared.command.Show.TheVariants as shows
 use Rattle.kq_reply.specs.declared.refusal.Refusal.{Refusal}
 use Rattle.kq_reply.specs.declared.refusal.Refusal.TheVariants as refusals
-use Rattle.kq_reply.specs.declared.reply.Reply.{Reply}
 use Rattle.kq_reply.specs.declared.reply.Reply.TheVariants as replies
 use Rattle.kq_engine.specs.declared.work.Barring.{Barring}
 use Rattle.kq_engine.specs.declared.work.Found.{Found}
@@ -32,16 +32,19 @@ use Rattle.kq_engine.specs.declared.work.Ready.TheVariants as readies
 use Rattle.kq_engine.specs.declared.work.Work.{Work}
 use Rattle.kq_engine.specs.Due.{Due, Says, Commits, IsChangeDue, batch_due, counted, refused, reply_to, rows_due, text_refusal, unless_tagged}
 use Rattle.kq_engine.specs.Fits.{IsDue, Makes}
+use Rattle.kq_engine.specs.Merges.{AnswersMerge, IsMergingFor, IsMergingOf, IsStill}
 
 -- ---- what was found
 
-abbrev pub due_of : Found → Due
-due_of (founds.Says reply) = Says reply
-due_of (founds.Commits offer) = Commits (commit_of offer.intent)
+-- what was found for a change
+abbrev pub FindsDue : (Due → Type 0) → Found → Type 0
+FindsDue IsSo (founds.Says reply) = IsSo (Says reply)
+FindsDue IsSo (founds.Commits offer) = IsSo (Commits (commit_of offer.intent))
+FindsDue IsSo (founds.Merges merging) = ⊥
 
 -- what was found is so due; a refusal is, or memory was wanting
 abbrev pub Finds : (Due → Type 0) → Result Found Refusal → Type 0
-Finds IsSo (Ok found) = IsSo (due_of found)
+Finds IsSo (Ok found) = FindsDue IsSo found
 Finds IsSo (Err r) = (r ≡ refusals.Memory) ⊎ IsSo (refused r)
 
 -- the least cursor of a commit that gave the table one of the tags
@@ -70,11 +73,13 @@ offer_due limits l offer = unless_tagged (barred_at l offer.unless) (counted lim
 -- a commit that was found for a batch of rows that were read for a table: whatever the log, the batch is due what the offer comes to
 abbrev pub IsOfferOf : Limits → Numbered → Batch → List (List ℕ) → Found → Type 0
 IsOfferOf limits table own barring (founds.Says reply) = Unit {0}
+IsOfferOf limits table own barring (founds.Merges merging) = ⊥
 IsOfferOf limits table own barring (founds.Commits offer) = IsReadFor table offer.unless × ((l : Log) → batch_due limits l own barring ≡ offer_due limits l offer)
 
 -- a commit that was found for an ingestion into a table: whatever the log, the ingestion is due what the offer comes to
 abbrev pub OffersRows : Limits → Ingestion → Numbered → Found → Type 0
 OffersRows limits i table (founds.Says reply) = Unit {0}
+OffersRows limits i table (founds.Merges merging) = ⊥
 OffersRows limits i table (founds.Commits offer) = IsReadFor table offer.unless × ((l : Log) → rows_due limits l i table ≡ offer_due limits l offer)
 
 -- the same for a table that stands under its name
@@ -86,13 +91,14 @@ OffersChange limits l (CreateTable name columns) found = Unit {0}
 OffersChange limits l (AlterMerge name columns) found = Unit {0}
 OffersChange limits l (Ingest ingestion) found = OffersInto limits l ingestion found
 
--- whether a command is prepared outside the lock, on a snapshot: what only asks is, and what reads rows
+-- whether a command is prepared outside the lock, on a snapshot: what only asks is, what reads rows, and what copies records
 abbrev pub is_prepared_outside : Command → Bool
 is_prepared_outside (Query query) = true
 is_prepared_outside (Show show) = true
 is_prepared_outside (Change (CreateTable name columns)) = false
 is_prepared_outside (Change (AlterMerge name columns)) = false
 is_prepared_outside (Change (Ingest ingestion)) = true
+is_prepared_outside (Merge table) = true
 is_prepared_outside Unbuilt = true
 
 -- the commit is due, with its reply
@@ -103,6 +109,7 @@ abbrev pub IsDueTo : Limits → Log → Command → Due → Type 0
 IsDueTo limits l (Query query) due = ⊥
 IsDueTo limits l (Show show) due = ⊥
 IsDueTo limits l (Change change) due = IsChangeDue limits l change due
+IsDueTo limits l (Merge table) due = ⊥
 IsDueTo limits l Unbuilt due = ⊥
 
 -- the commit is due; and after more commits, if the command is prepared outside the lock and its rows are as they would be read, it is due what the offer comes to
@@ -110,10 +117,17 @@ pub record IsOffered (limits : Limits) (l : Log) (command : Command) (offer : Of
   pub due : IsCommitDue limits l command (commit_of offer.intent)
   pub later : is_prepared_outside command ≡ true → (more : Log) → is_as_read (l ++ more) offer.unless ≡ true → IsDueTo limits (l ++ more) command (offer_due limits (l ++ more) offer)
 
--- what was found is due to the command at a moment
+-- what was found is due to the command at a moment; no merge is told before it is made
 abbrev pub IsFound : Limits → History → ℤ → Command → Found → Type 0
-IsFound limits h now command (founds.Says reply) = IsDue limits h now command reply
+IsFound limits h now command (founds.Says reply) = IsDue limits h now command reply × IsStill reply
 IsFound limits h now command (founds.Commits offer) = IsOffered limits (log h) command offer
+IsFound limits h now command (founds.Merges merging) = IsMergingFor h command merging
+
+-- the same of a merge of the table that has a name
+abbrev pub FindsMerge : History → Identifier → Found → Type 0
+FindsMerge h table (founds.Says reply) = AnswersMerge h table reply × IsStill reply
+FindsMerge h table (founds.Commits offer) = ⊥
+FindsMerge h table (founds.Merges merging) = IsMergingOf h table merging
 
 -- ---- what a snapshot tells
 
@@ -122,6 +136,7 @@ abbrev pub IsGoodText : Command → Type 0
 IsGoodText (Query query) = Unit {0}
 IsGoodText (Show show) = Unit {0}
 IsGoodText (Change change) = text_refusal change ≡ None
+IsGoodText (Merge table) = Unit {0}
 IsGoodText Unbuilt = Unit {0}
 
 -- looking at the text of a change takes memory: a repeated column is looked for among more than 256
@@ -135,6 +150,7 @@ abbrev pub RefusesText : Command → Refusal → Type 0
 RefusesText (Query query) r = ⊥
 RefusesText (Show show) r = ⊥
 RefusesText (Change change) r = ((r ≡ refusals.Memory) × TakesToRead change) ⊎ (text_refusal change ≡ Some r)
+RefusesText (Merge table) r = ⊥
 RefusesText Unbuilt r = ⊥
 
 -- a command of a good text that isn't prepared outside the lock
@@ -144,8 +160,9 @@ pub record IsPending (command : Command) : Type 0 where
 
 -- what a snapshot of this history told holds over it: a commit is found outside the lock alone, and want of memory is no answer
 abbrev pub IsReady : Limits → History → ℤ → Command → Ready → Type 0
-IsReady limits h now command (readies.Answered reply) = IsDue limits h now command reply
+IsReady limits h now command (readies.Answered reply) = IsDue limits h now command reply × IsStill reply
 IsReady limits h now command (readies.ToCommit offer) = (is_prepared_outside command ≡ true) × IsOffered limits (log h) command offer
+IsReady limits h now command (readies.ToMerge merging) = IsMergingFor h command merging
 IsReady limits h now command readies.Pending = IsPending command
 
 -- prepared on a snapshot of this history
@@ -181,6 +198,7 @@ TakesToFind h (Show show) = TakesToShow h show
 TakesToFind h (Change (CreateTable name columns)) = table_named name.text (tables (log h)) ≡ None
 TakesToFind h (Change (AlterMerge name columns)) = Gains columns (table_numbered name.text (tables (log h)))
 TakesToFind h (Change (Ingest ingestion)) = Stands (table_numbered ingestion.table.text (tables (log h)))
+TakesToFind h (Merge table) = Stands (table_numbered table.text (tables (log h)))
 TakesToFind h Unbuilt = ⊥
 
 -- preparing the command on this history takes memory: to look at its text does, or to find what it is due outside the lock
@@ -190,6 +208,7 @@ TakesMemory h (Show show) = TakesToFind h (Show show)
 TakesMemory h (Change (CreateTable name columns)) = TakesToRead (CreateTable name columns)
 TakesMemory h (Change (AlterMerge name columns)) = TakesToRead (AlterMerge name columns)
 TakesMemory h (Change (Ingest ingestion)) = TakesToFind h (Change (Ingest ingestion))
+TakesMemory h (Merge table) = TakesToFind h (Merge table)
 TakesMemory h Unbuilt = ⊥
 
 -- deciding a command on this history, of which a snapshot told nothing, takes memory
@@ -197,10 +216,11 @@ pub record TakesToDecide (h : History) (command : Command) : Type 0 where
   pub pending : IsPending command
   pub takes : TakesToFind h command
 
--- finishing on this history takes memory: a commit that was found is put in, or its rows are read again
+-- finishing on this history takes memory: a commit or a merge that was found is put in, or its rows are read again, or extents are picked again
 abbrev pub TakesToFinish : History → Command → Ready → Type 0
 TakesToFinish h command (readies.Answered reply) = ⊥
 TakesToFinish h command (readies.ToCommit offer) = Unit {0}
+TakesToFinish h command (readies.ToMerge merging) = Unit {0}
 TakesToFinish h command readies.Pending = TakesToDecide h command
 
 -- an outcome that tells of want of memory has its place where finishing takes some

@@ -1,5 +1,5 @@
 -- What contracts see of the shared engine and of its passes, and what a call does to a pass.
-use Rattle.std.specs.Prelude.{◌≡◌, ◌+◌, ◌≤◌, ℕ, ℤ, Bool, false, List, [], ◌∷◌, ◌++◌, length, if◌then◌else◌}
+use Rattle.std.specs.Prelude.{◌≡◌, ◌+◌, ◌≤◌, ℕ, ℤ, Bool, false, List, [], ◌∷◌, ◌++◌, length, take, if◌then◌else◌}
 use mathlib.Core.List.{IsPrefix}
 use Rattle.kq_turn.specs.Passes.{TurnId}
 use Rattle.kq_model.specs.declared.limits.Limits.{Limits}
@@ -9,6 +9,7 @@ use Rattle.kq_engine.specs.declared.work.Work.{Work}
 use Rattle.kq_command.specs.declared.command.Command.TheVariants as commands
 use Rattle.kq_command.specs.declared.command.Query.{Query}
 use Rattle.kq_engine.specs.Fits.{Answers, Appends, Fits}
+use Rattle.kq_engine.specs.Merges.{NamesAll}
 
 -- which lock it is, and the limits of the catalogue behind it
 pub record SharedView : Type 0 where
@@ -54,6 +55,7 @@ pub record Applies (limits : Limits) (old new : PassView) (work : Work) (outcome
   pub made : new.made ≡ old.made + made_by outcome.own
   pub fits : Fits limits new.seen work.by work.command work.now outcome.place outcome.own outcome.reply
   pub since : length old.seen ≤ outcome.place
+  pub names_all : NamesAll (take outcome.place new.seen) (length old.seen) outcome.reply
 
 -- prepared work was finished under one take, which found a history that goes on from what was seen
 pub record Finishes (limits : Limits) (old new : PassView) (work : Work) (outcome : Outcome) : Type 0 where
@@ -67,6 +69,7 @@ pub record Finishes (limits : Limits) (old new : PassView) (work : Work) (outcom
   pub made : new.made ≡ old.made + made_by outcome.own
   pub fits : Fits limits new.seen work.by work.command work.now outcome.place outcome.own outcome.reply
   pub since : length old.seen ≤ outcome.place
+  pub names_all : NamesAll (take outcome.place new.seen) (length old.seen) outcome.reply
 
 -- the pass's last take found what it has seen
 pub record IsFresh (pass : PassView) : Type 0 where
@@ -85,6 +88,7 @@ pub record Concludes (limits : Limits) (old new : PassView) (work : Work) (outco
   pub made : new.made ≡ old.made + made_by outcome.own
   pub fits : Fits limits new.seen work.by work.command work.now outcome.place outcome.own outcome.reply
   pub since : length old.seen ≤ outcome.place
+  pub names_all : NamesAll (take outcome.place new.seen) (length old.seen) outcome.reply
 
 -- a query went through the pass at a moment: one take, no commit, and the outcome is an answer over what the pass has then seen
 pub record Queries (limits : Limits) (old new : PassView) (query : Query) (now : ℤ) (outcome : Outcome) : Type 0 where

@@ -15,6 +15,7 @@ use Rattle.kq_engine.specs.declared.work.Prepared.{Prepared}
 use Rattle.kq_engine.specs.declared.work.Work.{Work}
 use Rattle.kq_engine.specs.Fits.{Fits, event_by, own_commit}
 use Rattle.kq_engine.specs.Found.{IsPrepared, MayWantMemory}
+use Rattle.kq_engine.specs.Merges.{NamesAll}
 use Rattle.kq_reply.specs.declared.refusal.Refusal.TheVariants as refusals
 use Rattle.kq_reply.specs.declared.reply.Reply.TheVariants as replies
 
@@ -69,13 +70,14 @@ pub record IsBare (t : Told) : Type 0 where
   pub not_own : t.outcome.own ≡ false
   pub place : t.outcome.place ≡ t.began
 
--- an outcome fits the history, for the work of its mark's first Begin, which found the place `began`; one that no Finish asked for is bare, and want of memory is told only where the command takes memory
+-- an outcome fits the history, for the work of its mark's first Begin, which found the place `began`; a merge that it tells is of all that were picked since the work began, one that no Finish asked for is bare, and want of memory is told only where the command takes memory
 pub record Tells (limits : Limits) (m : Moment) (t : Told) : Type 0 where
   pub work : Work
   pub asked : work_of t.by m.steps ≡ Some work
   pub found : place_of t.by m.steps m.found ≡ Some t.began
   pub fits : Fits limits m.history t.by work.command work.now t.outcome.place t.outcome.own t.outcome.reply
   pub since : t.began ≤ t.outcome.place
+  pub names_all : NamesAll (take t.outcome.place m.history) t.began t.outcome.reply
   pub memory : t.outcome.reply ≡ replies.Refused refusals.Memory → MayWantMemory (take t.began m.history) (take t.outcome.place m.history) work.command
   pub finished : (is_finished t.by m.steps ≡ true) ⊎ IsBare t
 

@@ -6,6 +6,7 @@
 #![tactic(auto)]
 
 mod changes;
+mod merges;
 mod on_catalog;
 mod on_snapshot;
 mod query;

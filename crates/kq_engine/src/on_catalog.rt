@@ -1,10 +1,12 @@
 // What a command does to the catalogue.
-ghost use Rattle.std.specs.Prelude.{◌≡◌, true, take, map};
+ghost use Rattle.std.specs.Prelude.{◌≡◌, IfErr, IfOk, OnErr, true, length, take, map};
 ghost use Rattle.kq_catalog.specs.Intents.{batch_of, commit_of};
+ghost use Rattle.kq_catalog.specs.Merges.{Moves, WasPicked};
 ghost use Rattle.kq_catalog.specs.Seen.{hist};
 ghost use Rattle.kq_engine.specs.Due.{reply_to};
 ghost use Rattle.kq_engine.specs.Fits.{Acts, Advances, outcome_of};
 ghost use Rattle.kq_engine.specs.Found.{IsCommitDue, IsDueTo, IsGoodText, IsPrepared, TakesToFind, WantsToFinish, offer_due};
+ghost use Rattle.kq_engine.specs.Merges.{IsMergingFor, PutsMerge};
 ghost use Rattle.kq_model.specs.History.{log};
 ghost use Rattle.kq_model.specs.Lawful.{own_rows as own_rows_of};
 ghost use Rattle.kq_reply.specs.declared.refusal.Refusal.TheVariants as refusals;
@@ -14,12 +16,14 @@ use crate::changes::{has_room, is_as_read};
 use crate::on_snapshot::find;
 use crate::tags::barring_cursor;
 use crate::work::{Found, Offer, Outcome, Prepared, Ready, Work};
-use kq_catalog::{Catalog, Intent, Part};
+use kq_catalog::{Catalog, Intent, MergeFault, Merging, Part};
+use kq_model::By;
 use kq_reply::{Refusal, Reply};
 
 /// Makes at most one event. A commit that was found on a snapshot is put in unless a tag has come to bar it, or no more
-/// commits are allowed; its rows are read again only where the table was widened since. What the snapshot told nothing of is decided on the catalogue as it
-/// stands. A refusal makes no event, and its place is the catalogue's. Want of memory is told of a commit that was found,
+/// commits are allowed; its rows are read again only where the table was widened since. A merge that was found is put in unless
+/// its extents were merged since: then they are picked again. What the snapshot told nothing of is decided on the catalogue as it
+/// stands. A refusal makes no event, and its place is the catalogue's. Want of memory is told of a commit or a merge that was found,
 /// or of a command of which the snapshot told nothing.
 pub fn finish(catalog: &mut Catalog, prepared: Prepared) -> Result<Outcome, Refusal>
     requires { IsPrepared catalog.old.limits (take prepared.place (hist catalog.old)) prepared }
@@ -41,6 +45,11 @@ pub fn finish(catalog: &mut Catalog, prepared: Prepared) -> Result<Outcome, Refu
                 decide(catalog, &work)
             }
         }
+        Ready::ToMerge(merging) => match merge(catalog, work.by, merging) {
+            Ok(outcome) => Ok(outcome),
+            Err(MergeFault::Moved { .. }) => decide(catalog, &work),
+            Err(MergeFault::Memory) => Err(Refusal::Memory),
+        },
         Ready::Pending => decide(catalog, &work),
     }
 }
@@ -49,7 +58,7 @@ pub fn finish(catalog: &mut Catalog, prepared: Prepared) -> Result<Outcome, Refu
 fn commit(catalog: &mut Catalog, work: &Work, offer: Offer) -> Result<Outcome, Refusal>
     requires { IsDueTo catalog.old.limits (log (hist catalog.old)) work.now.command (offer_due catalog.old.limits (log (hist catalog.old)) offer) }
     ensures limits { catalog.new.limits ≡ catalog.old.limits }
-    ensures acts { Acts catalog.old.limits (hist catalog.old) (hist catalog.new) work.entry.now (outcome_of (hist catalog.new) result) }
+    ensures acts { Acts catalog.old.limits (hist catalog.old) (hist catalog.new) work.entry.now (length (hist catalog.old)) (outcome_of (hist catalog.new) result) }
 {
     let Offer { intent, unless } = offer;
     let present = catalog.present();
@@ -72,7 +81,7 @@ fn commit(catalog: &mut Catalog, work: &Work, offer: Offer) -> Result<Outcome, R
 fn decide(catalog: &mut Catalog, work: &Work) -> Result<Outcome, Refusal>
     requires { IsGoodText work.now.command }
     ensures limits { catalog.new.limits ≡ catalog.old.limits }
-    ensures acts { Acts catalog.old.limits (hist catalog.old) (hist catalog.new) work.entry.now (outcome_of (hist catalog.new) result) }
+    ensures acts { Acts catalog.old.limits (hist catalog.old) (hist catalog.new) work.entry.now (length (hist catalog.old)) (outcome_of (hist catalog.new) result) }
     ensures memory { (outcome_of (hist catalog.new) result).reply ≡ replies.Refused refusals.Memory → TakesToFind (hist catalog.old) work.entry.now.command }
 {
     match find(catalog.present(), &work.command, work.now)? {
@@ -82,14 +91,46 @@ fn decide(catalog: &mut Catalog, work: &Work) -> Result<Outcome, Refusal>
             reply,
         }),
         Found::Commits(offer) => put_in(catalog, work, offer.intent),
+        Found::Merges(merging) => merge_now(catalog, work, merging),
     }
+}
+
+// Makes the merge of what was picked on the catalogue as it stands.
+fn merge_now(catalog: &mut Catalog, work: &Work, merging: Merging) -> Result<Outcome, Refusal>
+    requires { IsMergingFor (hist catalog.old) work.now.command merging }
+    ensures limits { catalog.new.limits ≡ catalog.old.limits }
+    ensures acts { Acts catalog.old.limits (hist catalog.old) (hist catalog.new) work.entry.now (length (hist catalog.old)) (outcome_of (hist catalog.new) result) }
+{
+    match merge(catalog, work.by, merging) {
+        Ok(outcome) => Ok(outcome),
+        Err(MergeFault::Moved { .. }) => unreachable!(),
+        Err(MergeFault::Memory) => Err(Refusal::Memory),
+    }
+}
+
+// Makes the merge unless the first of its extents is gone.
+fn merge(catalog: &mut Catalog, by: By, merging: Merging) -> Result<Outcome, MergeFault>
+    requires { WasPicked (hist catalog.old) merging }
+    ensures limits { catalog.new.limits ≡ catalog.old.limits }
+    ensures puts { IfOk result (PutsMerge (hist catalog.old) (hist catalog.new) by merging) }
+    ensures moved { IfErr result (Moves (hist catalog.old) merging) }
+    ensures kept { OnErr result (hist catalog.new ≡ hist catalog.old) }
+{
+    let extents = merging.old.len() as u64;
+    let staged = catalog.stage_merge(by, merging)?;
+    catalog.commit_ready(staged);
+    Ok(Outcome {
+        place: catalog.place(),
+        own: false,
+        reply: Reply::Merged { extents },
+    })
 }
 
 // Puts in the commit that is due.
 fn put_in(catalog: &mut Catalog, work: &Work, intent: Intent) -> Result<Outcome, Refusal>
     requires { IsCommitDue catalog.old.limits (log (hist catalog.old)) work.now.command (commit_of intent) }
     ensures limits { catalog.new.limits ≡ catalog.old.limits }
-    ensures acts { Acts catalog.old.limits (hist catalog.old) (hist catalog.new) work.entry.now (outcome_of (hist catalog.new) result) }
+    ensures acts { Acts catalog.old.limits (hist catalog.old) (hist catalog.new) work.entry.now (length (hist catalog.old)) (outcome_of (hist catalog.new) result) }
 {
     let reply = reply_for(&intent, catalog.cursor() + 1);
     let staged = catalog.stage(work.by, intent)?;

@@ -13,6 +13,7 @@ ghost use Rattle.kq_reply.specs.declared.reply.Reply.TheVariants as replies;
 ghost use Rattle.kq_value.specs.Typed.{IsMoment};
 
 use crate::changes::prepare;
+use crate::merges::find_merge;
 use crate::query::answer;
 use crate::shows::show;
 use crate::work::{Found, Prepared, Ready, Work};
@@ -22,8 +23,8 @@ use kq_reply::Refusal;
 use kq_value::Memory;
 
 /// Prepares the work on the snapshot. A refusal is what the snapshot's history gives, or want of memory where the
-/// command takes some here; its place is the snapshot's. Queries and shows are answered here, and the rows of an ingestion
-/// are read here and laid out in columns.
+/// command takes some here; its place is the snapshot's. Queries and shows are answered here, the rows of an ingestion
+/// are read here and laid out in columns, and the extents of a merge are picked here and made into one.
 pub fn begin(snapshot: &Snapshot, work: Work) -> Result<Prepared, Refusal>
     ensures prepared { IfOk result (Begins snapshot.now.limits snapshot.now.history work) }
     ensures refused { IfErr result (λ r. FitsNow snapshot.now.limits snapshot.now.history work.by work.command work.now false (replies.Refused r)) }
@@ -50,6 +51,7 @@ fn look(snapshot: &Snapshot, command: &Command, now: i64) -> Result<Ready, Refus
     match find(snapshot, command, now)? {
         Found::Says(reply) => Ok(Ready::Answered(reply)),
         Found::Commits(offer) => Ok(Ready::ToCommit(offer)),
+        Found::Merges(merging) => Ok(Ready::ToMerge(merging)),
     }
 }
 
@@ -61,7 +63,7 @@ fn check_text(command: &Command) -> Result<(), Refusal>
 {
     match command {
         Command::Change(change) => check_change(change),
-        Command::Query(_) | Command::Show(_) | Command::Unbuilt => Ok(()),
+        Command::Query(_) | Command::Show(_) | Command::Merge(_) | Command::Unbuilt => Ok(()),
     }
 }
 
@@ -103,6 +105,7 @@ pub(crate) fn find(snapshot: &Snapshot, command: &Command, now: i64) -> Result<F
         Command::Query(query) => Ok(Found::Says(answer(snapshot, query, now)?)),
         Command::Show(asked) => Ok(Found::Says(show(snapshot, asked)?)),
         Command::Change(change) => prepare(snapshot, change),
+        Command::Merge(table) => find_merge(snapshot, table),
         Command::Unbuilt => Err(Refusal::Unbuilt),
     }
 }

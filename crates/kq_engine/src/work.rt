@@ -1,7 +1,7 @@
 // Work and its outcome.
 ghost use Rattle.kq_value.specs.Typed.{IsMoment};
 
-use kq_catalog::Intent;
+use kq_catalog::{Intent, Merging};
 use kq_command::Command;
 use kq_model::By;
 use kq_reply::Reply;
@@ -16,8 +16,8 @@ pub struct Work {
     ghost is_moment: { IsMoment now },
 }
 
-/// The reply to a command. `own` says that the command made the event at `place`; without it the reply is what the
-/// history up to `place` gives. A place is a number of events.
+/// The reply to a command. `own` says that the command made the commit at `place`; without it the reply is what the
+/// history up to `place` gives, whose last event is the command's where the reply tells of a merge. A place is a number of events.
 #[derive(Drop)]
 pub struct Outcome {
     pub place: u64,
@@ -41,11 +41,12 @@ pub struct Offer {
     pub unless: Option<Barring>,
 }
 
-/// What is due: a reply alone, or a commit.
+/// What is due: a reply alone, or a commit or a merge with its reply.
 #[derive(Drop)]
 pub(crate) enum Found {
     Says(Reply),
     Commits(Offer),
+    Merges(Merging),
 }
 
 /// What was found on a snapshot.
@@ -55,6 +56,8 @@ pub enum Ready {
     Answered(Reply),
     /// The commit that is due while its table isn't widened, no tag bars it and one more is allowed.
     ToCommit(Offer),
+    /// The merge of the extents that were picked, which is due while the first of them is in its table.
+    ToMerge(Merging),
     /// Nothing: the catalogue alone tells what is due.
     Pending,
 }

@@ -1,5 +1,5 @@
 -- What fits a block goes on to fit.
-use Rattle.std.proofs.Common.{◌≡◌, ℕ, ℤ, Bool, ◌++◌, ◌∷◌, List, length, [], true, false, refl, inl, inr, subst, sym, arith, length-append, append-nil, add-zero, Result, Ok, Err}
+use Rattle.std.proofs.Common.{◌≡◌, ℕ, ℤ, Bool, ◌++◌, ◌∷◌, List, length, take, [], true, false, refl, inl, inr, subst, sym, arith, length-append, append-nil, add-zero, Result, Ok, Err}
 use Rattle.kq_turn.proofs.Beginnings.{IsPrefix-refl}
 use Rattle.kq_model.specs.declared.event.By.{By}
 use Rattle.kq_model.specs.declared.limits.Limits.{Limits}
@@ -18,6 +18,7 @@ use Rattle.kq_engine.specs.declared.work.Work.{Work}
 use Rattle.kq_engine.specs.Shared.{PassView, Applies}
 use Rattle.kq_script.specs.Script.{Block, command, too_long}
 use Rattle.kq_engine.proofs.Advancing.{Fits-append}
+use Rattle.kq_engine.proofs.Telling.{refused_still, still_names}
 use Rattle.kq_session.specs.Blocks.{Refuses, FitsRead, FitsBlock, Steps, is_early, refusal_of}
 
 Refuses-append : (h more : History) (place : ℕ) (own : Bool) (reply : Reply) (r : Refusal) → Refuses h place own reply r → Refuses (h ++ more) place own reply r
@@ -56,6 +57,7 @@ Steps-refused limits p by block now r outcome is early fits = subst (λ (o : Out
   enough = early;
   fits = fits;
   since = omega arith;
+  names_all = still_names (take (length p.seen) p.seen) (length p.seen) (replies.Refused r) (refused_still r);
   within = omega arith;
 })
 
@@ -94,5 +96,6 @@ Steps-applied limits old new work text outcome reads applies = record {
   enough = (applies.takes.since, applies.takes.few);
   fits = record { read = Ok work.command; reads = reads; fits = applies.fits };
   since = applies.since;
+  names_all = applies.names_all;
   within = applies.fits.within;
 }

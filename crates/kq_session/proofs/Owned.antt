@@ -57,7 +57,7 @@ AreTurns-owned : (limits : Limits) (h : History) (actor n q : ℕ) (ts : List Tu
 AreTurns-owned limits h actor n q [] all = record { follows = tt; in_it = tt }
 AreTurns-owned limits h actor n q (t ∷ ts) all =
     let r = t.receipt in
-    own_more limits h (record { actor = actor; number = r.number }) t.block r.moment r.place r.own t.reply q n _ all.1 all.0 all.2.fits (AreTurns-owned limits h actor (n + 1) r.place ts all.3)
+    own_more limits h (record { actor = actor; number = r.number }) t.block r.moment r.place r.own t.reply q n _ all.1.since all.0 all.2.fits (AreTurns-owned limits h actor (n + 1) r.place ts all.3)
 
 -- those of a session that is explained
 pub Explained-owned : (limits : Limits) (h : History) (actor : ℕ) (before : Contents) (s : SessionView) → Explained limits h actor before s → AreOwned 0 0 (commits_at h) (own_commits actor s.receipts)

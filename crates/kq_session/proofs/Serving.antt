@@ -3,7 +3,7 @@ use Rattle.std.proofs.Common.{◌≡◌, ◌≤◌, ◌+◌, ℕ, Bool, List, []
 use mathlib.Core.List.{IsPrefix}
 use Rattle.kq_turn.proofs.Beginnings.{IsPrefix-refl, IsPrefix-trans}
 use Rattle.std.proofs.lemmas.List.Sums.{sum_by-append}
-use Rattle.std.proofs.lemmas.List.{map_push, flat_map_more, length_push}
+use Rattle.std.proofs.lemmas.List.{map_push, flat_map_more, length_push, take-append-le}
 use Rattle.kq_world.specs.Told.{Adds}
 use Rattle.kq_world.specs.Outside.{Contents, Gives}
 use Rattle.kq_world.proofs.Told.{Adds-none, Adds-trans, Gives-none, Gives-trans}
@@ -16,13 +16,15 @@ use Rattle.kq_reply.specs.Text.{text_of}
 use Rattle.kq_script.specs.Script.{Block, script_blocks}
 use Rattle.kq_script.specs.Reading.{IsReading, IsPrefix as Begins}
 use Rattle.kq_script.specs.declared.reader.ScriptReader.{ScriptReader}
+use Rattle.kq_engine.specs.Merges.{NamesAll}
 use Rattle.kq_engine.specs.Shared.{PassView, made_by}
+use Rattle.kq_engine.proofs.Telling.{NamesAll-since}
 use Rattle.kq_session.specs.declared.end.End.{End}
 use Rattle.kq_session.specs.declared.end.End.TheVariants.{Finished, Short, SourceFault, SinkFault, InputLimit}
 use Rattle.kq_session.specs.declared.receipt.Receipt.{Receipt}
 use Rattle.kq_session.specs.Blocks.{FitsBlock, Steps, AreTakes}
 use Rattle.kq_session.specs.Objects.{SessionView}
-use Rattle.kq_session.specs.Session.{Turn, IsTurn, AreTurns, AreWritten, Ends, Explained, GoesOn, blocks_of, moments_of, texts_of, owns, AreTaken, command_bytes, input_bytes}
+use Rattle.kq_session.specs.Session.{Turn, IsTurn, ComesAfter, AreTurns, AreWritten, Ends, Explained, GoesOn, blocks_of, moments_of, texts_of, owns, AreTaken, command_bytes, input_bytes}
 use Rattle.kq_session.specs.Turns.{State, Progress, Went, Idle, TurnBy, Comes}
 use Rattle.kq_session.proofs.Blocks.{FitsBlock-append}
 use Rattle.kq_session.proofs.Turning.{given_at_end, open_still}
@@ -34,16 +36,22 @@ IsTurn-later limits actor h new more is t turn = subst (λ (n : History). IsTurn
   kind = turn.kind;
 })
 
+ComesAfter-later : (h new more : History) (q : ℕ) → new ≡ h ++ more → (t : Turn) → t.receipt.place ≤ length h → ComesAfter h q t → ComesAfter new q t
+ComesAfter-later h new more q is t within after = record {
+  since = after.since;
+  names_all = subst (λ (n : History). NamesAll n q t.reply) (sym (ap (take t.receipt.place) is ∙ take-append-le t.receipt.place h more within)) after.names_all;
+}
+
 AreTurns-later : (limits : Limits) (actor : ℕ) (h new more : History) (n q : ℕ) → new ≡ h ++ more → (ts : List Turn) → AreTurns limits h actor n q ts → AreTurns limits new actor n q ts
 AreTurns-later limits actor h new more n q is [] all = tt
-AreTurns-later limits actor h new more n q is (t ∷ ts) all = (all.0, all.1, IsTurn-later limits actor h new more is t all.2, AreTurns-later limits actor h new more (n + 1) t.receipt.place is ts all.3)
+AreTurns-later limits actor h new more n q is (t ∷ ts) all = (all.0, ComesAfter-later h new more q is t all.2.within all.1, IsTurn-later limits actor h new more is t all.2, AreTurns-later limits actor h new more (n + 1) t.receipt.place is ts all.3)
 
 -- the place of the last turn, or the one before the turns
 abbrev last_place : ℕ → List Turn → ℕ
 last_place q [] = q
 last_place q (t ∷ ts) = last_place t.receipt.place ts
 
-AreTurns-push : (limits : Limits) (actor : ℕ) (h : History) (n q : ℕ) (ts : List Turn) (t : Turn) → AreTurns limits h actor n q ts → t.receipt.number ≡ n + length ts + 1 → last_place q ts ≤ t.receipt.place → IsTurn limits h actor t → AreTurns limits h actor n q (ts ++ t ∷ [])
+AreTurns-push : (limits : Limits) (actor : ℕ) (h : History) (n q : ℕ) (ts : List Turn) (t : Turn) → AreTurns limits h actor n q ts → t.receipt.number ≡ n + length ts + 1 → ComesAfter h (last_place q ts) t → IsTurn limits h actor t → AreTurns limits h actor n q (ts ++ t ∷ [])
 AreTurns-push limits actor h n q [] t all number place turn = (omega arith, place, turn, tt)
 AreTurns-push limits actor h n q (x ∷ ts) t all number place turn = (all.0, all.1, all.2, AreTurns-push limits actor h (n + 1) x.receipt.place ts t all.3 (omega arith) place turn)
 
@@ -144,7 +152,7 @@ more_by limits actor n start old new was reader so_far result went =
     record {
       bytes = so_far.bytes ++ went.reads.bytes;
       of_turns = answered.receipt ∙ ap (λ (l : List Receipt). l ++ r ∷ []) so_far.of_turns ∙ sym (map_push (λ (u : Turn). u.receipt) turns t);
-      each = AreTurns-push limits actor new.pass.seen 0 0 turns t (AreTurns-later limits actor old.pass.seen new.pass.seen grown.0 0 0 (sym grown.1) turns so_far.each) number (omega (arith, low, step.since))
+      each = AreTurns-push limits actor new.pass.seen 0 0 turns t (AreTurns-later limits actor old.pass.seen new.pass.seen grown.0 0 0 (sym grown.1) turns so_far.each) number (record { since = omega (arith, low, step.since); names_all = NamesAll-since (take r.place new.pass.seen) (last_place 0 turns) (length old.pass.seen) t.reply low step.names_all })
           (record {
             fits = subst (λ (m : ℕ). FitsBlock limits new.pass.seen (record { actor = actor; number = m }) t.block r.moment r.place r.own t.reply) (sym answered.number) step.fits;
             within = step.within;

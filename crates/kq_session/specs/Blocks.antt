@@ -1,5 +1,5 @@
 -- When a reply fits a block of a script.
-use Rattle.std.specs.Prelude.{◌≡◌, ◌≤◌, ◌⊎◌, ◌+◌, ℕ, ℤ, Bool, true, false, List, [], ◌∷◌, ◌++◌, length, Result, Ok, Err, nat_eq}
+use Rattle.std.specs.Prelude.{◌≡◌, ◌≤◌, ◌⊎◌, ◌+◌, ℕ, ℤ, Bool, true, false, List, [], ◌∷◌, ◌++◌, length, take, Result, Ok, Err, nat_eq}
 use Rattle.std.specs.List.{list_any}
 use mathlib.Core.List.{IsPrefix}
 use Rattle.kq_model.specs.declared.event.By.{By}
@@ -17,6 +17,7 @@ use Rattle.kq_reply.specs.Number.{kind_of}
 use Rattle.kq_script.specs.Script.{Block, command, too_long}
 use Rattle.kq_engine.specs.declared.work.Outcome.{Outcome}
 use Rattle.kq_engine.specs.Fits.{Fits}
+use Rattle.kq_engine.specs.Merges.{NamesAll}
 use Rattle.kq_engine.specs.Shared.{PassView, made_by}
 
 -- refused for the text alone, or for want of memory
@@ -65,7 +66,8 @@ abbrev pub AreTakes : ℕ → ℕ → List ℕ → Type 0
 AreTakes kind place [] = is_early kind ≡ true
 AreTakes kind place (first ∷ more) = (first ≤ place) × (length more ≤ 1)
 
--- one block was answered through a pass: the outcome fits what it has then seen, at a place not below what it had seen
+-- one block was answered through a pass: the outcome fits what it has then seen, at a place not below what it had seen, and
+-- a merge that it tells is of all that were picked at such a place
 pub record Steps (limits : Limits) (old new : PassView) (by : By) (block : Block) (now : ℤ) (outcome : Outcome) : Type 0 where
   pub of : new.of ≡ old.of
   pub worth : new.worth ≡ old.worth
@@ -76,4 +78,5 @@ pub record Steps (limits : Limits) (old new : PassView) (by : By) (block : Block
   pub enough : AreTakes (kind_of outcome.reply) outcome.place takes
   pub fits : FitsBlock limits new.seen by block now outcome.place outcome.own outcome.reply
   pub since : length old.seen ≤ outcome.place
+  pub names_all : NamesAll (take outcome.place new.seen) (length old.seen) outcome.reply
   pub within : outcome.place ≤ length new.seen

@@ -13,6 +13,7 @@ use Rattle.kq_script.specs.Script.{Block, script_blocks}
 use Rattle.kq_script.specs.Reading.{IsPrefix as Begins}
 use Rattle.kq_script.specs.State.{IsAtEnd}
 use Rattle.kq_engine.specs.Fits.{own_commit}
+use Rattle.kq_engine.specs.Merges.{NamesAll}
 use Rattle.kq_engine.specs.Shared.{PassView}
 use Rattle.kq_session.specs.declared.end.End.{End}
 use Rattle.kq_session.specs.declared.end.End.TheVariants.{Finished, Short, SourceFault, SinkFault, InputLimit}
@@ -39,10 +40,16 @@ pub record IsTurn (limits : Limits) (h : History) (actor : ℕ) (t : Turn) : Typ
   pub within : t.receipt.place ≤ length h
   pub kind : t.receipt.kind ≡ kind_of t.reply
 
--- turns after n others, the last of which stood at the place q: they are numbered on, and the places never fall
+-- the turn isn't before the place q, and a merge that it tells is of all that were picked at a place from q on
+pub record ComesAfter (h : History) (q : ℕ) (t : Turn) : Type 0 where
+  pub since : q ≤ t.receipt.place
+  pub names_all : NamesAll (take t.receipt.place h) q t.reply
+
+-- turns after n others, the last of which stood at the place q: they are numbered on, the places never fall, and no merge
+-- leaves out what stood at the place before
 abbrev pub AreTurns : Limits → History → ℕ → ℕ → ℕ → List Turn → Type 0
 AreTurns limits h actor n q [] = Unit {0}
-AreTurns limits h actor n q (t ∷ ts) = (t.receipt.number ≡ n + 1) × (q ≤ t.receipt.place) × IsTurn limits h actor t × AreTurns limits h actor (n + 1) t.receipt.place ts
+AreTurns limits h actor n q (t ∷ ts) = (t.receipt.number ≡ n + 1) × ComesAfter h q t × IsTurn limits h actor t × AreTurns limits h actor (n + 1) t.receipt.place ts
 
 abbrev pub blocks_of : List Turn → List Block
 blocks_of = map (λ (t : Turn). t.block)

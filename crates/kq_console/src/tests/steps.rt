@@ -35,6 +35,8 @@ fn code(reply: &Reply) -> (u8, u64) {
         Reply::Kept { cursor } => (b'k', *cursor),
         Reply::Ingested { cursor, rows: _ } => (b'i', *cursor),
         Reply::Skipped { cursor } => (b's', *cursor),
+        Reply::Merged { extents } => (b'm', *extents),
+        Reply::Nothing => (b'n', 0),
         Reply::Refused(Refusal::Exists { at }) => (b'e', *at),
         Reply::Refused(Refusal::Full { limit }) => (b'f', *limit),
         _ => (b'?', 0),
@@ -74,6 +76,10 @@ const OTHER_E: &str = ".create table E (j:long)";
 const F: &str = ".create table F (k:long)";
 
 const INTO_E: &str = ".ingest inline into table E <|\n1";
+
+const MERGE_E: &str = "#merge E";
+
+const WIDER_E: &str = ".alter-merge table E (v:long)";
 
 const ONCE_INTO_E: &str =
     ".ingest inline into table E with (tags='[\"ingest-by:a\"]', ingestIfNotExists='[\"a\"]') <|\n1";
@@ -151,6 +157,66 @@ fn of_two_ingestions_by_one_tag_the_second_to_finish_is_skipped(
     ];
     let expected = [(0, b'd', 1), (2, b'i', 2), (1, b's', 2)];
     let holds = come_to(rt.alloc(), Limits::full(), &rows, &expected, 2)?;
+    assert!(rt; holds);
+    Ok(())
+}
+
+#[test]
+fn a_merge_takes_what_was_picked_when_it_began(rt: HostRuntime) -> Result<(), Fail> {
+    for (between, letter) in [(INTO_E, b'i'), (WIDER_E, b'd')] {
+        let rows = [
+            (0, E),
+            (0, ""),
+            (1, INTO_E),
+            (1, ""),
+            (2, INTO_E),
+            (2, ""),
+            (3, MERGE_E),
+            (4, between),
+            (4, ""),
+            (3, ""),
+        ];
+        let expected = [
+            (0, b'd', 1),
+            (1, b'i', 2),
+            (2, b'i', 3),
+            (4, letter, 4),
+            (3, b'm', 2),
+        ];
+        let holds = come_to(rt.alloc(), Limits::full(), &rows, &expected, 5)?;
+        assert!(rt; holds, "{between} between");
+    }
+    Ok(())
+}
+
+#[test]
+fn of_two_merges_the_second_to_finish_picks_again(rt: HostRuntime) -> Result<(), Fail> {
+    let rows = [
+        (0, E),
+        (0, ""),
+        (1, INTO_E),
+        (1, ""),
+        (2, INTO_E),
+        (2, ""),
+        (3, MERGE_E),
+        (4, MERGE_E),
+        (5, MERGE_E),
+        (4, ""),
+        (3, ""),
+        (6, INTO_E),
+        (6, ""),
+        (5, ""),
+    ];
+    let expected = [
+        (0, b'd', 1),
+        (1, b'i', 2),
+        (2, b'i', 3),
+        (4, b'm', 2),
+        (3, b'n', 0),
+        (6, b'i', 4),
+        (5, b'm', 2),
+    ];
+    let holds = come_to(rt.alloc(), Limits::full(), &rows, &expected, 6)?;
     assert!(rt; holds);
     Ok(())
 }

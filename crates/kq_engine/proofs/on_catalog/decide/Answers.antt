@@ -1,4 +1,4 @@
-use Rattle.std.proofs.Common.{ℤ, ◌≡◌, inr, subst, rules, w64, to_z, of_z}
+use Rattle.std.proofs.Common.{ℤ, ◌≡◌, inr, length, subst, rules, w64, to_z, of_z}
 use Rattle.std.proofs.lemmas.Int.{to_z-of_z}
 use Rattle.kq_model.specs.History.{log}
 use Rattle.kq_catalog.specs.Intents.{commit_of}
@@ -21,8 +21,8 @@ returns-in-Says-clause-acts c =
     let now = c.args.catalog.now in
     let same : to_z w64 (of_z w64 c.args.work.now.now) ≡ c.args.work.now.now = search (rules, to_z-of_z) in
     let found = subst (IsFound c.present.result.now.limits c.present.result.now.history (to_z w64 (of_z w64 c.args.work.now.now)) command) c.in-Says.is c.in_ok-reply.ensures.found in
-    let here = subst (λ (v : CatalogView). IsDue v.limits v.history (to_z w64 (of_z w64 c.args.work.now.now)) command c.in-Says.reply) c.present.ensures found in
-    Acts-answer now.limits (hist now) c.args.work.now c.place.result c.in-Says.reply c.place.ensures.place (inr (subst (λ (t : ℤ). IsDue now.limits (hist now) t command c.in-Says.reply) same here))
+    let here = subst (λ (v : CatalogView). IsDue v.limits v.history (to_z w64 (of_z w64 c.args.work.now.now)) command c.in-Says.reply) c.present.ensures found.0 in
+    Acts-answer now.limits (hist now) c.args.work.now (length (hist now)) c.place.result c.in-Says.reply c.place.ensures.place (inr (subst (λ (t : ℤ). IsDue now.limits (hist now) t command c.in-Says.reply) same here)) found.1
 
 pub returns-in-Says-clause-memory : goal.returns-in-Says-clause-memory
 returns-in-Says-clause-memory c = λ wants.
@@ -30,7 +30,7 @@ returns-in-Says-clause-memory c = λ wants.
     let now = c.args.catalog.now in
     let moment = to_z w64 (of_z w64 c.args.work.now.now) in
     let found = subst (IsFound c.present.result.now.limits c.present.result.now.history moment command) c.in-Says.is c.in_ok-reply.ensures.found in
-    let due = subst (λ (v : CatalogView). IsDue v.limits v.history moment command c.in-Says.reply) c.present.ensures found in
+    let due = subst (λ (v : CatalogView). IsDue v.limits v.history moment command c.in-Says.reply) c.present.ensures found.0 in
     due_finds now.limits (hist now) moment command (subst (IsDue now.limits (hist now) moment command) wants due)
 
 pub returns-in-Commits-clause-memory : goal.returns-in-Commits-clause-memory

@@ -1,4 +1,4 @@
-use Rattle.std.proofs.Common.{arith, ◌∙◌, ◌+◌, ℕ, ap}
+use Rattle.std.proofs.Common.{arith, ◌∙◌, ◌+◌, ℕ, ap, length}
 use Rattle.kq_model.specs.History.{log}
 use Rattle.kq_catalog.specs.Intents.{commit_of, event_by}
 use Rattle.kq_catalog.specs.Seen.{hist}
@@ -25,6 +25,6 @@ pub returns-clause-acts : goal.returns-clause-acts
 returns-clause-acts c =
     let old = c.args.catalog.now in
     let new = c.commit_ready.new.self in
-    Acts-commit old.limits (hist old) (hist new) c.args.work.now (commit_of c.args.intent) c.place-end.result c.reply_for-reply.result c.requires
+    Acts-commit old.limits (hist old) (hist new) c.args.work.now (length (hist old)) (commit_of c.args.intent) c.place-end.result c.reply_for-reply.result c.requires
     (c.commit_ready.ensures.history ∙ c.in_ok-staged.ensures.staged.history) c.place-end.ensures.place
     (c.reply_for-reply.ensures ∙ ap (λ (n : ℕ). reply_to (commit_of c.args.intent) (n + 1)) c.cursor.ensures.cursor)

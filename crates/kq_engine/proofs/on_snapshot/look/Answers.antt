@@ -10,8 +10,8 @@ pub returns-in-Says-clause-ready : goal.returns-in-Says-clause-ready
 returns-in-Says-clause-ready c =
     let now = c.args.snapshot.now in
     let same : to_z w64 (of_z w64 c.args.now) ≡ c.args.now = search (rules, to_z-of_z) in
-    subst (λ (t : ℤ). IsDue now.limits now.history t c.args.command.now c.in-Says.reply) same
-    (subst (IsFound now.limits now.history (to_z w64 (of_z w64 c.args.now)) c.args.command.now) c.in-Says.is c.in_ok-reply.ensures.found)
+    let found = subst (IsFound now.limits now.history (to_z w64 (of_z w64 c.args.now)) c.args.command.now) c.in-Says.is c.in_ok-reply.ensures.found in
+    (subst (λ (t : ℤ). IsDue now.limits now.history t c.args.command.now c.in-Says.reply) same found.0, found.1)
 
 pub returns-in-Commits-clause-ready : goal.returns-in-Commits-clause-ready
 returns-in-Commits-clause-ready c =

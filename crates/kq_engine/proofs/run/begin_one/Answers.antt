@@ -7,6 +7,7 @@ use Rattle.kq_engine.specs.Fits.{FitsNow}
 use Rattle.kq_engine.specs.Found.{IsPrepared, TakesMemory}
 use Rattle.kq_engine.specs.Steps.{opens, tells}
 use Rattle.kq_engine.proofs.Running.{skip_begin, begin_open, begin_refused, count_by-at, same_refusal}
+use Rattle.kq_engine.proofs.Telling.{refused_still}
 use Rattle.kq_engine.proofs.run.begin_one.Goals as goal
 
 pub returns-in-Some : goal.returns-in-Some
@@ -39,4 +40,4 @@ returns c = λ limits done run.
     let here = subst (λ (h : History). FitsNow catalog.limits h c.args.work.by c.args.work.command c.args.work.now false reply) c.in_ok-snapshot.ensures.history (subst (λ (l : Limits). FitsNow l c.in_ok-snapshot.snapshot.history c.args.work.by c.args.work.command c.args.work.now false reply) c.in_ok-snapshot.ensures.limits refused) in
     let takes = λ (e : reply ≡ replies.Refused refusals.Memory). subst (λ (h : History). TakesMemory h c.args.work.command) c.in_ok-snapshot.ensures.history (c.in-Err.ensures.memory (same_refusal c.in-Err.refusal refusals.Memory e)) in
     rw c.in_ok-push-in-Err.ensures.items
-    (begin_refused limits done c.args.work catalog c.args.running.now.waiting.items c.args.running.now.outcomes.items c.place-began.result reply none_open none_told (cc (c.place-began.ensures, c.in_ok-snapshot.ensures.history)) here takes run)
+    (begin_refused limits done c.args.work catalog c.args.running.now.waiting.items c.args.running.now.outcomes.items c.place-began.result reply none_open none_told (cc (c.place-began.ensures, c.in_ok-snapshot.ensures.history)) here (refused_still c.in-Err.refusal) takes run)
