@@ -1,6 +1,6 @@
 -- The extents that are held are those that a merge picks, and what they become is their union.
 use Rattle.std.proofs.Common.{◌≡◌, ◌<◌, ◌≤◌, ◌+◌, ℕ, Bool, true, false, cond, List, [], ◌∷◌, ◌++◌, All, Contains, get_or, length, map, take, min, nat_lt, Option, Some, None, refl, ap, sym, ◌∙◌, subst, arith}
-use Rattle.std.specs.List.{filter, flat_map, slice_get}
+use Rattle.std.specs.List.{flat_map, slice_get}
 use Rattle.std.specs.List.Sorted.{IsPermutation}
 use Rattle.std.specs.Option.{option_map, unwrap_or}
 use Rattle.std.proofs.lemmas.Bool.{ltb-true, ltb-false}
@@ -17,7 +17,7 @@ use Rattle.kq_extent.specs.Wide.{wide, wide_held}
 use Rattle.kq_merge.specs.Merges.{merge_of, picked_of, tags_in}
 use Rattle.kq_model.specs.declared.table.Table.{Table}
 use Rattle.kq_model.specs.History.{History, log, tables}
-use Rattle.kq_model.specs.Records.{ExtentItem, each_once, extents, is_small_item, item_ids, picked, records, rows_in, schema_of, united}
+use Rattle.kq_model.specs.Records.{ExtentItem, each_once, extents, item_ids, picked, records, rows_in, schema_of, united}
 use Rattle.kq_catalog.specs.declared.merging.Merging.{Merging}
 use Rattle.kq_catalog.specs.Held.{AreItems, item_by}
 use Rattle.kq_catalog.specs.Merges.{IsUnion}

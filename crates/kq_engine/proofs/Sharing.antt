@@ -1,6 +1,5 @@
 -- What one take of the catalogue does to a pass.
 use Rattle.std.proofs.Common.{◌≡◌, ◌≤◌, ◌+◌, ℕ, false, List, [], ◌∷◌, ◌++◌, length, take, refl, ap, sym, ◌∙◌, subst, append-nil, append_assoc, length-append, arith, inr}
-use Rattle.std.proofs.lemmas.List.{take_all}
 use mathlib.Core.List.{IsPrefix}
 use Rattle.kq_turn.specs.Histories.{gained}
 use Rattle.kq_turn.specs.Passes.{TurnId}
@@ -18,7 +17,7 @@ use Rattle.kq_engine.specs.Shared.{PassView, Applies, Finishes, IsFresh, Conclud
 use Rattle.kq_engine.proofs.Advancing.{Appends-none, Fits-end}
 use Rattle.kq_engine.proofs.Counting.{cursor-gained}
 use Rattle.kq_engine.specs.Merges.{NamesAll}
-use Rattle.kq_engine.proofs.Telling.{NamesAll-since, cursor_take, settled_marked, settled_names}
+use Rattle.kq_engine.proofs.Telling.{NamesAll-since, still_marked, still_names}
 
 -- a step that began on what was seen
 pub Finishes-step : (limits : Limits) (of : TurnId) (seen old new : History) (worth made : ℕ) (taken : List ℕ) (work : Work) (began : ℕ) (outcome : Outcome) → began ≡ length seen → IsPrefix seen old → Advances limits old new work began outcome
@@ -51,14 +50,11 @@ Concludes-answered limits pass prepared reply fresh is answered = record {
   taken = sym (append-nil pass.taken);
   last = record { found = pass.seen; begins = IsPrefix-refl pass.seen; before = fresh.before; last = fresh.last; appends = Appends-none limits pass.seen prepared.work.by prepared.work.command prepared.place reply };
   made = omega arith;
-  fits = Fits-end limits pass.seen prepared.work.by prepared.work.command prepared.work.now prepared.place false reply is.at (inr due.0) (settled_marked (cursor pass.seen) pass.seen prepared.work.by reply due.1);
+  fits = Fits-end limits pass.seen prepared.work.by prepared.work.command prepared.work.now prepared.place false reply is.at (inr due.0) (still_marked pass.seen prepared.work.by reply due.1);
   since = omega (arith, is.at);
-  names_all = settled_names (cursor pass.seen) (take prepared.place pass.seen) (length pass.seen) reply (below (take_all prepared.place pass.seen (omega (arith, is.at)))) due.1;
+  names_all = still_names (take prepared.place pass.seen) (length pass.seen) reply due.1;
 }
   where
-    below : take prepared.place pass.seen ≡ pass.seen → cursor (take (length pass.seen) (take prepared.place pass.seen)) ≤ cursor pass.seen
-    below whole = let fewer = cursor_take (length pass.seen) (take prepared.place pass.seen) in let same = ap cursor whole in omega (arith, fewer, same)
-
     due : IsReady limits pass.seen prepared.work.now prepared.work.command (readies.Answered reply)
     due = subst (IsReady limits pass.seen prepared.work.now prepared.work.command) answered is.is_ready
 

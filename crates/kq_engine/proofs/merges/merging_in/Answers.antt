@@ -3,7 +3,7 @@ use Rattle.kq_value.specs.Typed.{HasTypes}
 use Rattle.kq_extent.specs.Seen.{ExtentView, records_in, row_of}
 use Rattle.kq_extent.specs.Wide.{wide}
 use Rattle.kq_merge.specs.Merges.{merge_of, picked_of}
-use Rattle.kq_engine.proofs.Picking.{ArePicked, some_picked, typed_picked, union_picked}
+use Rattle.kq_engine.proofs.Picking.{some_picked, typed_picked, union_picked}
 use Rattle.kq_engine.proofs.merges.merging_in.Goals as goal
 
 pub merged-requires : goal.merged-requires

@@ -1,4 +1,4 @@
-use Rattle.std.proofs.Common.{◌≡◌, arith, length, refl, subst, sym, take}
+use Rattle.std.proofs.Common.{◌≡◌, arith, length, subst, sym, take}
 use Rattle.std.proofs.lemmas.List.{take_all}
 use Rattle.kq_model.specs.History.{History}
 use Rattle.kq_catalog.specs.declared.merging.MergeFault.{MergeFault}
