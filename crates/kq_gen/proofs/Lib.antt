@@ -1,0 +1,3 @@
+pub mod Cutting
+mod Examples
+pub mod Putting

@@ -1,0 +1,2 @@
+pub mod PolicyExamples
+pub mod PolicyLemmas
