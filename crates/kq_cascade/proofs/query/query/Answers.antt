@@ -1,0 +1,18 @@
+use Rattle.std.proofs.Common.{subst, ◌<◌, length, arith}
+use Rattle.kq_cascade.specs.Derived.{gave_too_many}
+use Rattle.kq_cascade.specs.Queried.{Answers}
+use Rattle.kq_cascade.proofs.Querying.{Queried-err}
+use Rattle.kq_cascade.proofs.query.query.Goals as goal
+
+pub returns-in-Ok-clause-answer : goal.returns-in-Ok-clause-answer
+returns-in-Ok-clause-answer g c =
+    let q = g.T.Tables.gives c.args.tables.now in
+    let d = c.args.due in
+    let rows = c.args.rows.now in
+    let many : 1048576 < length c.in-Ok.given = omega (arith, c.if-len-gt-MOST_ROWS.true, c.len.ensures.count) in
+    gave_too_many c.in-Ok.given (subst (Answers (q d rows)) c.in-Ok.is c.run.ensures.answer) many
+
+pub returns-in-Err-clause-answer : goal.returns-in-Err-clause-answer
+returns-in-Err-clause-answer g c =
+    let q = g.T.Tables.gives c.args.tables.now in
+    Queried-err q c.args.due c.args.rows.now c.in-Err.fault (subst (Answers (q c.args.due c.args.rows.now)) c.in-Err.is c.run.ensures.answer)
