@@ -1,5 +1,4 @@
 pub mod Columns
-pub mod Definitions
 pub mod Faults
 pub mod Ingestions
 pub mod InText

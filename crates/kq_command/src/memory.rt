@@ -60,8 +60,7 @@ impl Requests {
         }
     }
 
-    /// A list of nothing, which takes no memory.
-    pub(crate) fn empty<T: Drop>(&self) -> Vec<T>
+    pub(crate) fn columns(&self) -> Vec<Column>
         ensures { result.items ≡ [] }
     {
         Vec::new(self.alloc)

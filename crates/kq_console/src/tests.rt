@@ -1,5 +1,4 @@
 mod feeds;
 mod scripts;
 mod steps;
-mod views;
 mod worlds;

@@ -63,11 +63,10 @@ impl Model for Pass {
     ghost use Rattle.kq_engine.specs.Shared.{PassView};
     ghost use Rattle.std.specs.Coded.{codes};
     ghost use Rattle.kq_value.specs.contracts.value.Value as cell;
-    ghost use Rattle.kq_expr.specs.contracts.expr.Expr as expr;
 
     ghost Value = { PassView };
 
-    ghost coded = { Prim.hlevel (codes, cell.the_row.coded, expr.the_row.coded) };
+    ghost coded = { Prim.hlevel (codes, cell.the_row.coded) };
 
     ghost view = { λ p. record { of = p.pass.of; seen = p.pass.seen; worth = p.pass.worth; made = p.pass.made; taken = p.pass.taken } };
 

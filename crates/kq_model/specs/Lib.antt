@@ -9,4 +9,3 @@ pub mod Names
 pub mod Records
 pub mod Tables
 pub mod Tagged
-pub mod Views

@@ -9,7 +9,6 @@ mod event;
 mod ids;
 mod limits;
 mod table;
-mod view;
 
 pub use answer::Answer;
 pub use batch::{Batch, Batches, Failure, Failures};
@@ -18,4 +17,3 @@ pub use event::{By, Commit, Event, Operation};
 pub use ids::Ids;
 pub use limits::Limits;
 pub use table::Table;
-pub use view::{SharedView, View};

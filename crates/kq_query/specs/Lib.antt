@@ -1,4 +1,3 @@
-pub mod Views
 pub mod Worlds
 pub mod Printed
 pub mod Answers

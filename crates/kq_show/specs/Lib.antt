@@ -1,4 +1,3 @@
 pub mod Cells
 pub mod ExtentRows
 pub mod JournalRows
-pub mod ViewRows
