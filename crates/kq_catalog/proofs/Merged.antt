@@ -42,6 +42,7 @@ use Rattle.kq_catalog.specs.Seen.{CatalogView, Holds, Sound, hist}
 use Rattle.kq_catalog.specs.Tagged.{TellsTags}
 use Rattle.kq_catalog.proofs.Keeping.{AllZip-changed_at, items-put, records-put}
 use Rattle.kq_catalog.proofs.Standing.{count_held, held_at, schema_held}
+use Rattle.kq_catalog.proofs.Viewing.{views-merge}
 
 -- ---- one table
 
@@ -339,6 +340,7 @@ pub Holds-merge : (c : CatalogView) (cursor made : ℕ) (by : By) (m : Merging) 
       limits = c.limits;
       history = hist c ++ merge_event by (1 + made_in (hist c)) m ∷ [];
       held = changed (with_merged (length m.old) (record { id = 1 + made_in (hist c); records = m.extent.records; tags = m.extent.tags })) m.table c.held;
+      views = c.views;
     }) cursor (made + 1) index
 Holds-merge c cursor made by m index holds picked_then front =
     let h = hist c in
@@ -356,6 +358,7 @@ Holds-merge c cursor made by m index holds picked_then front =
       sound = record {
         tables = subst (AllZip IsHeld (changed (with_merged (length m.old) e) m.table c.held)) (sym (table_states-merge h event m.table m.old new refl))
             (AllZip-changed_at IsHeld (with_merged (length m.old) e) (state_merged m.old new) m.table c.held (table_states h) keeps holds.sound.tables);
+        views = views-merge c.limits h event m.table m.old new c.views holds.sound.lawful holds.sound.views refl;
         lawful = AreLawful-push c.limits h event holds.sound.lawful (record { operation = merge_lawful c m holds.sound picked_then front });
       };
       count = holds.count ∙ ap length (sym logged);

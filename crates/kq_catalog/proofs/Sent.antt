@@ -13,10 +13,14 @@ use Rattle.kq_tagged.proofs.Sent.{index_send, index_sync}
 use Rattle.kq_model.specs.contracts.event.Event as event
 use Rattle.kq_catalog.specs.contracts.held.HeldTable as table
 use Rattle.kq_catalog.specs.contracts.tables.Tables as tables
+use Rattle.kq_catalog.specs.contracts.held_view.HeldView as held_view
+use Rattle.kq_catalog.specs.contracts.held_view.HeldView.TheInside as held_view_inside
+use Rattle.kq_catalog.specs.contracts.views.Views as views
 use Rattle.kq_catalog.specs.contracts.state.State as state
 use Rattle.kq_catalog.specs.contracts.snapshot.Snapshot as snapshot
 use Rattle.kq_catalog.specs.contracts.catalog.Catalog as catalog
 use Rattle.kq_catalog.specs.contracts.catalog.Staged as staged
+use Rattle.kq_catalog.proofs.SentViews.{parted_send, parted_sync, shared_view_send, shared_view_sync}
 
 text_send : IsSend text.the_row
 text_send = search (sendable, crosses) depth 40 fits 5000
@@ -54,11 +58,35 @@ tables_send = search (held_tables_send, names_send, names_sync, sendable, crosse
 tables_sync : IsSync tables.the_row
 tables_sync = search (held_tables_sync, names_send, names_sync, sendable, crosses) depth 40 fits 5000
 
+held_view_inside_send : IsSend held_view_inside.the_row
+held_view_inside_send = search (shared_view_send, parted_send, sendable, crosses) depth 40 fits 5000
+
+held_view_inside_sync : IsSync held_view_inside.the_row
+held_view_inside_sync = search (shared_view_sync, parted_sync, sendable, crosses) depth 40 fits 5000
+
+held_view_send : IsSend held_view.the_row
+held_view_send = search (held_view_inside_send, sendable, crosses) depth 40 fits 5000
+
+held_view_sync : IsSync held_view.the_row
+held_view_sync = search (held_view_inside_sync, sendable, crosses) depth 40 fits 5000
+
+held_views_send : IsSend (list.the_row held_view.the_row)
+held_views_send = list_send held_view.the_row held_view_send held_view_sync
+
+held_views_sync : IsSync (list.the_row held_view.the_row)
+held_views_sync = list_sync held_view.the_row held_view_send held_view_sync
+
+views_send : IsSend views.the_row
+views_send = search (held_views_send, names_send, names_sync, sendable, crosses) depth 40 fits 5000
+
+views_sync : IsSync views.the_row
+views_sync = search (held_views_sync, names_send, names_sync, sendable, crosses) depth 40 fits 5000
+
 event_send : IsSend event.the_row
-event_send = search (text_send, tags_send, recorded_send, sendable, crosses) depth 40 fits 5000
+event_send = search (text_send, tags_send, recorded_send, shared_view_send, sendable, crosses) depth 40 fits 5000
 
 event_sync : IsSync event.the_row
-event_sync = search (text_sync, tags_sync, recorded_sync, sendable, crosses) depth 40 fits 5000
+event_sync = search (text_sync, tags_sync, recorded_sync, shared_view_sync, sendable, crosses) depth 40 fits 5000
 
 journal_send : IsSend (list.the_row event.the_row)
 journal_send = list_send event.the_row event_send event_sync
@@ -67,10 +95,10 @@ journal_sync : IsSync (list.the_row event.the_row)
 journal_sync = list_sync event.the_row event_send event_sync
 
 state_send : IsSend state.the_row
-state_send = search (journal_send, tables_send, index_send, sendable, crosses) depth 40 fits 5000
+state_send = search (journal_send, tables_send, views_send, index_send, sendable, crosses) depth 40 fits 5000
 
 state_sync : IsSync state.the_row
-state_sync = search (journal_sync, tables_sync, index_sync, sendable, crosses) depth 40 fits 5000
+state_sync = search (journal_sync, tables_sync, views_sync, index_sync, sendable, crosses) depth 40 fits 5000
 
 pub snapshot_send : IsSend snapshot.the_row
 snapshot_send = search (state_send, state_sync, sendable, crosses) depth 40 fits 5000

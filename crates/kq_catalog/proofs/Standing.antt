@@ -26,12 +26,16 @@ use Rattle.kq_model.specs.Tagged.{is_tagged_by}
 use Rattle.kq_tagged.specs.declared.entry.Entry.{Entry}
 use Rattle.kq_tagged.specs.Index.{Adds}
 use Rattle.kq_catalog.specs.declared.edit.Change.{Change}
+use Rattle.kq_catalog.specs.declared.intent.Intent.{Intent}
 use Rattle.kq_catalog.specs.Edits.{edits_by, put_all}
 use Rattle.kq_catalog.specs.Held.{HeldTable, IsHeld, tables_in}
+use Rattle.kq_catalog.specs.Intents.{Begins, commit_of, view_by}
 use Rattle.kq_catalog.specs.Seen.{CatalogView, Holds, Sound, hist}
 use Rattle.kq_catalog.specs.Tagged.{TellsTags}
+use Rattle.kq_catalog.specs.Views.{with_new}
 use Rattle.kq_catalog.proofs.Keeping.{all_changes}
 use Rattle.kq_catalog.proofs.Tagged.{TellsTags-push}
+use Rattle.kq_catalog.proofs.Viewing.{views-commit}
 
 same_tables : (hs : List HeldTable) (ss : List TableState) → AllZip IsHeld hs ss → tables_in hs ≡ map (λ (s : TableState). s.table) ss
 same_tables [] [] all = refl
@@ -102,13 +106,15 @@ changes_fit c cursor id commit cs sound lawful are =
     subst (λ (ts : List Table). FitAll ts (edits_by cs)) (sym (tables_held c sound))
     (subst (FitAll (tables (log (hist c)))) (sym are) (FitAll-lawful c.limits (log (hist c)) cursor id commit lawful))
 
--- a catalogue with one event more
-pub Holds-push : (c : CatalogView) (cursor made more : ℕ) (event : Event) (commit : Commit) (cs : List Change) (index tags : List Entry) → Holds c cursor made index → LawfulCommit c.limits (log (hist c)) commit → event.operation ≡ operation.Commit commit
-    → edits_by cs ≡ edits_of (cursor_of (hist c) + 1) (1 + made_in (hist c)) commit → more ≡ made_by commit
-    → Adds index (λ t tag. is_tagged_by t tag commit) (cursor + 1) tags
-    → Holds (record { limits = c.limits; history = hist c ++ event ∷ []; held = put_all c.held cs }) (cursor + 1) (made + more) tags
-Holds-push c cursor made more event commit cs index tags holds lawful is are count adds =
+-- a catalogue with one commit more
+pub Holds-push : (c : CatalogView) (cursor made more : ℕ) (event : Event) (intent : Intent) (cs : List Change) (index tags : List Entry) → Holds c cursor made index → LawfulCommit c.limits (log (hist c)) (commit_of intent) → Begins intent
+    → event.operation ≡ operation.Commit (commit_of intent)
+    → edits_by cs ≡ edits_of (cursor_of (hist c) + 1) (1 + made_in (hist c)) (commit_of intent) → more ≡ made_by (commit_of intent)
+    → Adds index (λ t tag. is_tagged_by t tag (commit_of intent)) (cursor + 1) tags
+    → Holds (record { limits = c.limits; history = hist c ++ event ∷ []; held = put_all c.held cs; views = with_new c.views (view_by (cursor_of (hist c) + 1) intent) }) (cursor + 1) (made + more) tags
+Holds-push c cursor made more event intent cs index tags holds lawful begins is are count adds =
     let h = hist c in
+    let commit = commit_of intent in
     let logged : log (h ++ event ∷ []) ≡ log h ++ commit ∷ [] = log-push h event ∙ ap (λ (o : Operation). log h ++ commits_of o) is in
     let next : table_states (h ++ event ∷ []) ≡ edited_by (table_states h) (edits_by cs) =
     table_states-push c.limits h event commit holds.sound.lawful is ∙ ap (edited_by (table_states h)) (sym are) in
@@ -116,6 +122,7 @@ Holds-push c cursor made more event commit cs index tags holds lawful is are cou
     record {
       sound = record {
         tables = subst (AllZip IsHeld (put_all c.held cs)) (sym next) (all_changes cs c.held (table_states h) holds.sound.tables fits);
+        views = views-commit c.limits h event intent c.views holds.sound.lawful holds.sound.views is begins;
         lawful = AreLawful-push c.limits h event holds.sound.lawful (record { operation = subst (LawfulOperation c.limits h) (sym is) lawful });
       };
       count = ap (λ (n : ℕ). n + 1) holds.count ∙ sym (ap length logged ∙ length_push (log h) commit);

@@ -7,7 +7,6 @@ use Rattle.kq_value.specs.declared.schema.Field.{Field}
 use Rattle.kq_extent.specs.Seen.{ExtentView}
 use Rattle.kq_extent.specs.Split.{put, without_first}
 use Rattle.kq_model.specs.declared.batch.Batch.{Batch}
-use Rattle.kq_model.specs.declared.event.Commit.{Commit}
 use Rattle.kq_model.specs.declared.table.Table.{Table}
 use Rattle.kq_model.specs.Edits.{Edit, edits_of, changed}
 use Rattle.kq_model.specs.Edits.Edit.{NewTable, NewColumns, NewExtent}
@@ -15,8 +14,10 @@ use Rattle.kq_model.specs.History.{widened_table}
 use Rattle.kq_model.specs.Records.{made_by}
 use Rattle.kq_catalog.specs.declared.edit.Change.{Change}
 use Rattle.kq_catalog.specs.declared.edit.Change.TheVariants.{PutTable, PutColumns, PutExtent}
+use Rattle.kq_catalog.specs.declared.intent.Intent.{Intent}
 use Rattle.kq_catalog.specs.declared.plan.Plan.{Plan}
 use Rattle.kq_catalog.specs.Held.{HeldTable}
+use Rattle.kq_catalog.specs.Intents.{commit_of, view_by}
 
 abbrev pub edit_with : ℕ → ExtentView → Edit
 edit_with n e = NewExtent n e.id e.records e.tags
@@ -56,11 +57,12 @@ abbrev pub put_all : List HeldTable → List Change → List HeldTable
 put_all hs [] = hs
 put_all hs (c ∷ cs) = put_all (put_in hs c) cs
 
--- the plan has the commit, the changes that are its edits, and the number of extents that it makes
-pub record IsPlan (cursor id : ℕ) (commit : Commit) (plan : Plan) : Type 0 where
-  pub is : plan.commit ≡ commit
-  pub edits : edits_by plan.changes.items ≡ edits_of cursor id commit
-  pub made : plan.made ≡ made_by commit
+-- the plan has the commit, the changes that are its edits, the view that it makes, and the number of extents that it makes
+pub record IsPlan (cursor id : ℕ) (intent : Intent) (plan : Plan) : Type 0 where
+  pub is : plan.commit ≡ commit_of intent
+  pub edits : edits_by plan.changes.items ≡ edits_of cursor id (commit_of intent)
+  pub view : plan.view ≡ view_by cursor intent
+  pub made : plan.made ≡ made_by (commit_of intent)
 
 abbrev pub total_rows : List Batch → ℕ
 total_rows = sum_by (λ (b : Batch). length b.rows)

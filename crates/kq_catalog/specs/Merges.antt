@@ -6,7 +6,7 @@ use Rattle.kq_model.specs.declared.event.By.{By}
 use Rattle.kq_model.specs.declared.event.Event.{Event}
 use Rattle.kq_model.specs.declared.event.Operation.TheVariants as operation
 use Rattle.kq_model.specs.History.{History, log}
-use Rattle.kq_model.specs.Records.{ExtentItem, extents, item_ids, picked, records, united}
+use Rattle.kq_model.specs.Records.{ExtentItem, extents, item_ids, picked, records, small_items, united}
 use Rattle.kq_catalog.specs.declared.merging.Merging.{Merging}
 use Rattle.kq_catalog.specs.declared.merging.MergeFault.{MergeFault}
 use Rattle.kq_catalog.specs.declared.merging.MergeFault.TheVariants.{Moved, Memory}
@@ -48,7 +48,7 @@ pub record IsGone (h : History) (m : Merging) (id : ℕ) : Type 0 where
   pub is : m.old ≡ id ∷ others
   pub gone : list_any (nat_eq id) (item_ids (extents h m.table)) ≡ false
 
--- why a merge isn't staged: an old extent is gone, or memory was wanting
+-- why a merge isn't staged: an old extent is gone, or none is and memory was wanting
 abbrev pub Moves : History → Merging → MergeFault → Type 0
 Moves h m (Moved id) = IsGone h m id
-Moves h m Memory = Unit {0}
+Moves h m Memory = IsInFront (small_items h m.table) m.old

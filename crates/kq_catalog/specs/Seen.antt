@@ -10,12 +10,14 @@ use Rattle.kq_model.specs.Tables.{table_states}
 use Rattle.kq_tagged.specs.declared.entry.Entry.{Entry}
 use Rattle.kq_catalog.specs.Held.{HeldTable, IsHeld}
 use Rattle.kq_catalog.specs.Tagged.{TellsTags}
+use Rattle.kq_catalog.specs.Views.{AreHeldViews, HeldView}
 
--- the events in order, and the tables by number with what is held of them
+-- the events in order, and the tables and the views by number with what is held of them
 pub record CatalogView : Type 0 where
   pub limits : Limits
   pub history : List Event
   pub held : List HeldTable
+  pub views : List HeldView
 
 -- a snapshot is seen as the catalogue was
 abbrev pub SnapshotView : Type 0
@@ -30,9 +32,10 @@ pub record StagedView : Type 0 where
 abbrev pub hist : CatalogView → History
 hist c = c.history
 
--- of each table is held what the history says of it, and each event of the history is lawful over the events before it
+-- of each table and each view is held what the history says of it, and each event of the history is lawful over the events before it
 pub record Sound (c : CatalogView) : Type 0 where
   pub tables : AllZip IsHeld c.held (table_states (hist c))
+  pub views : AreHeldViews (hist c) c.views
   pub lawful : AreLawful c.limits (hist c)
 
 -- a sound catalogue, with the number of its commits, that of the extents that were made, and an index of their tags

@@ -1,18 +1,21 @@
 // The catalogue.
-ghost use Rattle.std.specs.Prelude.{◌≡◌, ◌+◌, [], IfErr, IfOk, length};
-ghost use Rattle.kq_model.specs.History.{log, cursor as cursor_of};
+ghost use Rattle.std.specs.Prelude.{◌≡◌, ◌<◌, ◌+◌, [], IfErr, IfOk, length};
+ghost use Rattle.kq_model.specs.History.{log, cursor as cursor_of, mark};
 ghost use Rattle.kq_model.specs.Lawful.{LawfulCommit};
 ghost use Rattle.kq_model.specs.Records.{made_in};
-ghost use Rattle.kq_catalog.specs.Intents.{commit_of, event_by};
+ghost use Rattle.kq_catalog.specs.Intents.{Begins, commit_of, event_by};
 ghost use Rattle.kq_catalog.specs.Merges.{Moves, WasPicked, merge_event};
 ghost use Rattle.kq_catalog.specs.Seen.{hist, Sound};
 ghost use Rattle.kq_catalog.specs.Staged.{IsNext, IsStaged};
+ghost use Rattle.kq_catalog.specs.Views.{Trails, WasFolded, fold_event};
 
+use crate::folding::FoldFault;
 use crate::intent::Intent;
 use crate::merging::{MergeFault, Merging};
 use crate::snapshot::Snapshot;
 use crate::state::State;
 use kq_model::{By, Limits};
+use kq_parted::Parted;
 use kq_value::Memory;
 use std::alloc::Global;
 use std::marker::Model;
@@ -27,11 +30,12 @@ pub struct Catalog {
 impl Model for Catalog {
     ghost use Rattle.std.specs.Coded.{codes};
     ghost use Rattle.kq_value.specs.contracts.value.Value as cell;
+    ghost use Rattle.kq_expr.specs.contracts.expr.Expr as expr;
     ghost use Rattle.kq_catalog.specs.Seen.{CatalogView};
 
     ghost Value = { CatalogView };
 
-    ghost coded = { Prim.hlevel (codes, cell.the_row.coded) };
+    ghost coded = { Prim.hlevel (codes, cell.the_row.coded, expr.the_row.coded) };
 
     ghost view = { λ c. c.present };
 }
@@ -45,11 +49,12 @@ pub struct Staged {
 impl Model for Staged {
     ghost use Rattle.std.specs.Coded.{codes};
     ghost use Rattle.kq_value.specs.contracts.value.Value as cell;
+    ghost use Rattle.kq_expr.specs.contracts.expr.Expr as expr;
     ghost use Rattle.kq_catalog.specs.Seen.{StagedView};
 
     ghost Value = { StagedView };
 
-    ghost coded = { Prim.hlevel (codes, cell.the_row.coded) };
+    ghost coded = { Prim.hlevel (codes, cell.the_row.coded, expr.the_row.coded) };
 
     ghost view = { λ s. record { limits = s.next.limits; history = s.next.history } };
 }
@@ -112,7 +117,8 @@ impl Catalog {
 
     /// Makes the next state beside the one that stands, which doesn't change.
     pub fn stage(&self, by: By, intent: Intent) -> Result<Staged, Memory>
-        requires { LawfulCommit self.now.limits (log (hist self.now)) (commit_of intent) }
+        requires lawful { LawfulCommit self.now.limits (log (hist self.now)) (commit_of intent) }
+        requires begins { Begins intent }
         ensures staged { IfOk result (IsStaged self.now (event_by by intent)) }
     {
         let present = &self.present;
@@ -134,6 +140,25 @@ impl Catalog {
             return Err(MergeFault::Moved { id });
         }
         let next = present.state.with_merge(by, merging)?;
+        let state = Arc::new(present.allocator(), next)?;
+        Ok(Staged {
+            next: Snapshot { state },
+        })
+    }
+
+    /// Makes the state in which a view is materialized up to a cursor, unless it is already.
+    pub fn stage_fold(&self, by: By, view: u32, to: u64, part: Parted) -> Result<Staged, FoldFault>
+        requires { WasFolded (hist self.now) view to part }
+        ensures staged { IfOk result (IsStaged self.now (fold_event by view to)) }
+        ensures ahead { IfOk result (λ s. mark (hist self.now) view < to) }
+        ensures behind { IfErr result (Trails (hist self.now) view to) }
+    {
+        let present = &self.present;
+        let cursor = present.state.view_cursor(view);
+        if to <= cursor {
+            return Err(FoldFault::Behind { cursor });
+        }
+        let next = present.state.with_fold(by, view, to, part)?;
         let state = Arc::new(present.allocator(), next)?;
         Ok(Staged {
             next: Snapshot { state },

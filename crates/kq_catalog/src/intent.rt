@@ -1,6 +1,7 @@
 // What commits are made from.
 use kq_extent::Draft;
-use kq_model::Failures;
+use kq_model::{Failures, SharedView};
+use kq_parted::Parted;
 use kq_value::{Schema, Text};
 
 /// What a commit is to make, with the extents that its batches become.
@@ -9,6 +10,11 @@ pub enum Intent {
     CreateTable {
         name: Text,
         schema: Schema,
+    },
+    /// A view, and its part, which is that of no records.
+    CreateView {
+        view: SharedView,
+        part: Parted,
     },
     /// Further columns of a table, which goes by its number.
     AlterMerge {

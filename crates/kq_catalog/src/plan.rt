@@ -1,23 +1,26 @@
 // Commits with their edits.
 ghost use Rattle.std.specs.Prelude.{ℕ, ◌≡◌, ◌<◌, ◌+◌, ◌^◌, IfOk, length, map};
-ghost use Rattle.kq_model.specs.declared.event.Commit.TheVariants.{CreateTable, AlterMerge, Ingest};
+ghost use Rattle.kq_catalog.specs.declared.intent.Intent.TheVariants.{CreateTable, CreateView, AlterMerge, Ingest};
 ghost use Rattle.kq_catalog.specs.Edits.{IsPlan, total_rows};
 ghost use Rattle.kq_catalog.specs.Intents.{batch_of};
 
 use crate::edit::Change;
+use crate::held_view::HeldView;
 use crate::intent::Part;
 use crate::ordinals::{give_rows, rows_given};
-use kq_model::{Batch, Batches, Commit, Failures, Table};
+use kq_model::{Batch, Batches, Commit, Failures, SharedView, Table};
+use kq_parted::Parted;
 use kq_value::{Memory, Schema, Text};
 use std::alloc::Global;
 use std::collections::HashMap;
 use std::sync::Arc;
 
-/// A commit, the changes that it makes, and the number of extents among them.
+/// A commit, the changes that it makes of tables, the view that it makes, and the number of extents among the changes.
 #[derive(Drop)]
 pub(crate) struct Plan {
     pub commit: Commit,
     pub changes: Vec<Change>,
+    pub view: Option<HeldView>,
     pub made: u64,
 }
 
@@ -41,6 +44,24 @@ pub(crate) fn plan_table(
     Ok(Plan {
         commit: Commit::CreateTable { name, schema },
         changes,
+        view: None,
+        made: 0,
+    })
+}
+
+/// The plan of a new view.
+pub(crate) fn plan_view(
+    alloc: Global,
+    cursor: u64,
+    view: SharedView,
+    part: Parted,
+) -> Result<Plan, Memory>
+    ensures { (id : ℕ) → IfOk result (IsPlan cursor id (CreateView view part)) }
+{
+    Ok(Plan {
+        commit: Commit::CreateView(view.share()?),
+        changes: Vec::new(alloc),
+        view: Some(HeldView::new(view, cursor, part)),
         made: 0,
     })
 }
@@ -63,6 +84,7 @@ pub(crate) fn plan_columns(
     Ok(Plan {
         commit: Commit::AlterMerge { table, columns },
         changes,
+        view: None,
         made: 0,
     })
 }
@@ -77,7 +99,7 @@ pub(crate) fn plan_parts(
 ) -> Result<Plan, Memory>
     requires rows { total_rows (map batch_of parts.items) < 2 ^ 63 }
     requires ids { id + length parts.items < 2 ^ 64 }
-    ensures { IfOk result (IsPlan cursor id (Ingest (map batch_of parts.items) failures)) }
+    ensures { IfOk result (IsPlan cursor id (Ingest parts failures)) }
 {
     let mut batches = Batches::new(alloc);
     let mut changes = Vec::with_capacity(alloc, parts.len())?;
@@ -99,5 +121,6 @@ pub(crate) fn plan_parts(
         commit: Commit::Ingest { batches, failures },
         made: changes.len() as u64,
         changes,
+        view: None,
     })
 }

@@ -7,14 +7,17 @@ ghost use Rattle.kq_shared.specs.Standing.{StandsAt};
 ghost use Rattle.kq_extent.specs.Seen.{held_records};
 ghost use Rattle.kq_extent.specs.Wide.{wide_held};
 ghost use Rattle.kq_model.specs.declared.table.Table.{Table as Described};
-ghost use Rattle.kq_model.specs.History.{log, cursor as cursor_of, tables};
+ghost use Rattle.kq_model.specs.History.{log, cursor as cursor_of, tables, Viewed, views, view_count, is_view, mark};
 ghost use Rattle.kq_model.specs.Records.{records, rows_in, extents, schema_of};
 ghost use Rattle.kq_model.specs.Tagged.{first_tagged};
 ghost use Rattle.kq_catalog.specs.Held.{AreItems, FindsTable};
+ghost use Rattle.kq_catalog.specs.Seen.{Sound};
+ghost use Rattle.kq_catalog.specs.Views.{FindsView, HoldsPart};
 
 use crate::state::State;
 use kq_extent::TableExtents;
-use kq_model::{Event, Limits, Table};
+use kq_model::{Event, Limits, Table, View};
+use kq_parted::Parted;
 use kq_value::{Memory, Text};
 use std::alloc::Global;
 use std::marker::Model;
@@ -30,11 +33,12 @@ impl Model for Snapshot {
     ghost use Rattle.std.specs.Arc.{arc_value};
     ghost use Rattle.std.specs.Coded.{codes};
     ghost use Rattle.kq_value.specs.contracts.value.Value as cell;
+    ghost use Rattle.kq_expr.specs.contracts.expr.Expr as expr;
     ghost use Rattle.kq_catalog.specs.Seen.{CatalogView};
 
     ghost Value = { CatalogView };
 
-    ghost coded = { Prim.hlevel (codes, cell.the_row.coded) };
+    ghost coded = { Prim.hlevel (codes, cell.the_row.coded, expr.the_row.coded) };
 
     ghost view = { λ s. arc_value s.state };
 }
@@ -49,7 +53,8 @@ impl Snapshot {
 
     /// The number of client commits.
     pub fn cursor(&self) -> u64
-        ensures { result ≡ cursor_of self.now.history }
+        ensures cursor { result ≡ cursor_of self.now.history }
+        ensures sound { Sound self.now }
     {
         self.state.cursor()
     }
@@ -91,6 +96,58 @@ impl Snapshot {
         ensures { result ≡ first_tagged (log self.now.history) table tag.now }
     {
         self.state.tagged(table, tag)
+    }
+
+    /// The number of views.
+    pub fn view_count(&self) -> u32
+        ensures { result ≡ view_count (log self.now.history) }
+    {
+        self.state.view_count()
+    }
+
+    /// The view of a name, with its number, found without a walk over the views.
+    pub fn view(&self, name: &Text) -> Option<(u32, &View)>
+        ensures { FindsView name.now (views (log self.now.history)) result }
+    {
+        self.state.view(name)
+    }
+
+    /// Whether a view has the name.
+    pub fn is_view(&self, name: &Text) -> bool
+        ensures { result ≡ is_view name.now (log self.now.history) }
+    {
+        self.state.is_view(name)
+    }
+
+    /// The view of a number.
+    pub fn view_at(&self, number: u32) -> Option<&View>
+        ensures { option_map (λ v. v.now) result ≡ option_map (λ (v : Viewed). v.view) (slice_get (views (log self.now.history)) number) }
+    {
+        self.state.view_at(number)
+    }
+
+    /// The cursor of the commit that made a view, by its number.
+    pub fn view_made(&self, view: u32) -> u64
+        requires { view < view_count (log self.now.history) }
+        ensures { (v : Viewed) → slice_get (views (log self.now.history)) view ≡ Some v → result ≡ v.made }
+    {
+        self.state.view_made(view)
+    }
+
+    /// The cursor up to which a view, by its number, is materialized.
+    pub fn view_cursor(&self, view: u32) -> u64
+        requires { view < view_count (log self.now.history) }
+        ensures { result ≡ mark self.now.history view }
+    {
+        self.state.view_cursor(view)
+    }
+
+    /// The part of a view by its number: it stands for the records that the view covers up to the view's cursor.
+    pub fn part(&self, view: u32) -> &Parted
+        requires { view < view_count (log self.now.history) }
+        ensures { (v : Viewed) → slice_get (views (log self.now.history)) view ≡ Some v → HoldsPart self.now.history view v.view result.now }
+    {
+        self.state.part(view)
     }
 
     /// Some events in a row, from a place on: a walk takes them, and goes on behind them.

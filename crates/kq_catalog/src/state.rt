@@ -7,23 +7,26 @@ ghost use Rattle.kq_shared.specs.Standing.{StandsAt};
 ghost use Rattle.kq_extent.specs.Seen.{held_records};
 ghost use Rattle.kq_extent.specs.Wide.{wide_held};
 ghost use Rattle.kq_model.specs.declared.table.Table.{Table as Described};
-ghost use Rattle.kq_model.specs.History.{log, cursor as cursor_of, tables};
+ghost use Rattle.kq_model.specs.History.{log, cursor as cursor_of, tables, Viewed, views, view_count, is_view, mark};
 ghost use Rattle.kq_model.specs.Lawful.{LawfulCommit};
 ghost use Rattle.kq_model.specs.Records.{records, rows_in, extents, made_in, small_items, schema_of};
 ghost use Rattle.kq_model.specs.Tagged.{first_tagged};
 ghost use Rattle.kq_catalog.specs.Edits.{IsPlan};
 ghost use Rattle.kq_catalog.specs.Held.{AreItems, FindsTable};
-ghost use Rattle.kq_catalog.specs.Intents.{commit_of, event_by};
+ghost use Rattle.kq_catalog.specs.Intents.{Begins, commit_of, event_by};
 ghost use Rattle.kq_catalog.specs.Merges.{IsGone, IsInFront, WasPicked, comes_first, merge_event};
 ghost use Rattle.kq_catalog.specs.Seen.{Sound};
+ghost use Rattle.kq_catalog.specs.Views.{FindsView, HoldsPart, WasFolded, fold_event};
 
 use crate::intent::Intent;
 use crate::merging::Merging;
-use crate::plan::{Plan, plan_columns, plan_parts, plan_table};
+use crate::plan::{Plan, plan_columns, plan_parts, plan_table, plan_view};
 use crate::tables::Tables;
 use crate::tagging::with_commit;
+use crate::views::Views;
 use kq_extent::TableExtents;
-use kq_model::{By, Event, Limits, Operation, Table};
+use kq_model::{By, Event, Limits, Operation, Table, View};
+use kq_parted::Parted;
 use kq_shared::SharedList;
 use kq_tagged::TagIndex;
 use kq_value::{Memory, Text};
@@ -38,6 +41,7 @@ pub(crate) struct State {
     limits: Limits,
     journal: SharedList<Event>,
     tables: Tables,
+    views: Views,
     tags: TagIndex,
     cursor: u64,
     made: u64,
@@ -46,18 +50,20 @@ pub(crate) struct State {
 impl Model for State {
     ghost use Rattle.std.specs.Coded.{codes};
     ghost use Rattle.kq_value.specs.contracts.value.Value as cell;
+    ghost use Rattle.kq_expr.specs.contracts.expr.Expr as expr;
     ghost use Rattle.kq_catalog.specs.Seen.{CatalogView, Holds};
 
     ghost Value = { CatalogView };
 
-    ghost coded = { Prim.hlevel (codes, cell.the_row.coded) };
+    ghost coded = { Prim.hlevel (codes, cell.the_row.coded, expr.the_row.coded) };
 
-    ghost view = { λ s. record { limits = s.limits; history = s.journal; held = s.tables } };
+    ghost view = { λ s. record { limits = s.limits; history = s.journal; held = s.tables; views = s.views } };
 
-    ghost invariant = { λ s. Holds (record { limits = s.limits; history = s.journal; held = s.tables }) s.cursor s.made s.tags };
+    ghost invariant = { λ s. Holds (record { limits = s.limits; history = s.journal; held = s.tables; views = s.views }) s.cursor s.made s.tags };
 }
 
 impl State {
+    #[tactic(auto, using(crate::proofs::Viewing::no_views))]
     pub(crate) fn new(alloc: Global, limits: Limits) -> Result<State, Memory>
         ensures limits { IfOk result (λ s. s.limits ≡ limits) }
         ensures history { IfOk result (λ s. s.history ≡ []) }
@@ -67,6 +73,7 @@ impl State {
             limits,
             journal: SharedList::new(alloc),
             tables: Tables::new(alloc)?,
+            views: Views::new(alloc)?,
             tags: TagIndex::new(alloc)?,
             cursor: 0,
             made: 0,
@@ -144,15 +151,68 @@ impl State {
         self.tables.get(table).extents()
     }
 
+    pub(crate) fn view_count(&self) -> u32
+        ensures { result ≡ view_count (log self.now.history) }
+    {
+        self.views.len() as u32
+    }
+
+    pub(crate) fn view(&self, name: &Text) -> Option<(u32, &View)>
+        ensures { FindsView name.now (views (log self.now.history)) result }
+    {
+        match self.views.find(name) {
+            Some(number) => Some((number, self.views.get(number).view())),
+            None => None,
+        }
+    }
+
+    pub(crate) fn is_view(&self, name: &Text) -> bool
+        ensures { result ≡ is_view name.now (log self.now.history) }
+    {
+        self.views.find(name).is_some()
+    }
+
+    pub(crate) fn view_at(&self, number: u32) -> Option<&View>
+        ensures { option_map (λ v. v.now) result ≡ option_map (λ (v : Viewed). v.view) (slice_get (views (log self.now.history)) number) }
+    {
+        if (number as usize) < self.views.len() {
+            Some(self.views.get(number).view())
+        } else {
+            None
+        }
+    }
+
+    pub(crate) fn view_made(&self, view: u32) -> u64
+        requires { view < view_count (log self.now.history) }
+        ensures { (v : Viewed) → slice_get (views (log self.now.history)) view ≡ Some v → result ≡ v.made }
+    {
+        self.views.get(view).made()
+    }
+
+    pub(crate) fn view_cursor(&self, view: u32) -> u64
+        requires { view < view_count (log self.now.history) }
+        ensures { result ≡ mark self.now.history view }
+    {
+        self.views.get(view).cursor()
+    }
+
+    pub(crate) fn part(&self, view: u32) -> &Parted
+        requires { view < view_count (log self.now.history) }
+        ensures { (v : Viewed) → slice_get (views (log self.now.history)) view ≡ Some v → HoldsPart self.now.history view v.view result.now }
+    {
+        self.views.get(view).part()
+    }
+
     // The commit with its edits, under the next cursor and the next ids of extents.
     fn plan(&self, intent: Intent) -> Result<Plan, Memory>
         requires { LawfulCommit self.now.limits (log self.now.history) (commit_of intent) }
-        ensures { IfOk result (IsPlan (cursor_of self.now.history + 1) (1 + made_in self.now.history) (commit_of intent)) }
+        ensures { IfOk result (IsPlan (cursor_of self.now.history + 1) (1 + made_in self.now.history) intent) }
     {
         let cursor = self.cursor + 1;
         let _place = self.place();
         match intent {
             Intent::CreateTable { name, schema } => plan_table(self.alloc, cursor, name, schema),
+            Intent::CreateView { view, part } => plan_view(self.alloc, cursor, view, part),
             Intent::AlterMerge { table, columns } => {
                 plan_columns(self.alloc, cursor, table, columns)
             }
@@ -164,7 +224,8 @@ impl State {
 
     /// The state after one event more.
     pub(crate) fn with_event(&self, by: By, intent: Intent) -> Result<State, Memory>
-        requires { LawfulCommit self.now.limits (log self.now.history) (commit_of intent) }
+        requires lawful { LawfulCommit self.now.limits (log self.now.history) (commit_of intent) }
+        requires begins { Begins intent }
         ensures limits { IfOk result (λ s. s.limits ≡ self.now.limits) }
         ensures history { IfOk result (λ s. s.history ≡ self.now.history ++ event_by by intent ∷ []) }
     {
@@ -172,9 +233,11 @@ impl State {
         let Plan {
             commit,
             changes,
+            view,
             made,
         } = self.plan(intent)?;
         let tables = self.tables.with_all(self.alloc, changes)?;
+        let views = self.views.with_new(self.alloc, view)?;
         let tags = with_commit(&self.tags, &commit, self.cursor + 1)?;
         let journal = self.journal_with(by, Operation::Commit(commit))?;
         Ok(State {
@@ -182,6 +245,7 @@ impl State {
             limits: self.limits,
             journal,
             tables,
+            views,
             tags,
             cursor: self.cursor + 1,
             made: self.made + made,
@@ -232,9 +296,39 @@ impl State {
             limits: self.limits,
             journal,
             tables,
+            views: self.views.share()?,
             tags: self.tags.share()?,
             cursor: self.cursor,
             made: new,
+        })
+    }
+
+    /// The state after a fold that brings a view forward.
+    pub(crate) fn with_fold(
+        &self,
+        by: By,
+        view: u32,
+        to: u64,
+        part: Parted,
+    ) -> Result<State, Memory>
+        requires folded { WasFolded self.now.history view to part }
+        requires ahead { mark self.now.history view < to }
+        ensures limits { IfOk result (λ s. s.limits ≡ self.now.limits) }
+        ensures history { IfOk result (λ s. s.history ≡ self.now.history ++ fold_event by view to ∷ []) }
+    {
+        let tables = self.tables.share()?;
+        let views = self.views.with_fold(self.alloc, view, to, part)?;
+        let tags = self.tags.share()?;
+        let journal = self.journal_with(by, Operation::Fold { view, to })?;
+        Ok(State {
+            alloc: self.alloc,
+            limits: self.limits,
+            journal,
+            tables,
+            views,
+            tags,
+            cursor: self.cursor,
+            made: self.made,
         })
     }
 

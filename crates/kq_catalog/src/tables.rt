@@ -179,7 +179,7 @@ impl Tables {
         Ok(tables)
     }
 
-    fn share(&self) -> Result<Tables, Memory>
+    pub(crate) fn share(&self) -> Result<Tables, Memory>
         ensures { IfOk result (λ tables. tables ≡ self.now) }
     {
         let held = self.held.share()?;

@@ -1,11 +1,12 @@
 -- The parts of a command that a text spells stand in it.
-use Rattle.std.proofs.Common.{◌≡◌, Bool, true, false, List, [], ◌∷◌, ◌++◌, Option, Some, None, All, ℕ, refl, subst}
+use Rattle.std.proofs.Common.{Bool, ◌-◌, List, [], ◌∷◌, ◌++◌, Option, Some, None, All, ℕ, length, subst}
 use Rattle.std.specs.Str.{IsUtf8}
 use Rattle.std.proofs.lemmas.List.Elements.{All-cons, All-head, All-nil, All-tail}
-use Rattle.kq_command.specs.InText.{IsPiece, IsString, NameIn, ColumnIn, ColumnsIn, PropertyIn, PropertiesIn, ControlIn}
+use Rattle.kq_command.specs.InText.{IsPiece, IsString, NameIn, ColumnIn, ColumnsIn, PropertyIn, PropertiesIn, BodyIn, ViewIn, ControlIn}
+use Rattle.kq_command.proofs.InOrder.{InOrder, element, first_before_last, left_all, left_in_order, right_in_order, symbols_in_order}
 use Rattle.kq_command.proofs.OwnSymbols.{SymbolIn, symbols_in}
-use Rattle.kq_control.specs.ControlTrees.{ColumnsTree, PropertiesTree, ControlTree, create_table, ingest, set_policy, alter_merge, create_view, show_view, show_failures, show_extents, show_journal, fold, merge, export, control}
-use Rattle.kq_control.specs.Controls.{control_text, properties_text, property_text, table_columns_text}
+use Rattle.kq_control.specs.ControlTrees.{ColumnsTree, PropertiesTree, BodyTree, ViewTree, ControlTree, create_table, ingest, set_policy, alter_merge, create_view, show_view, show_failures, show_extents, show_journal, fold, merge, export, control}
+use Rattle.kq_control.specs.Controls.{control_text, properties_text, property_text, table_columns_text, view_text}
 use Rattle.kq_control.specs.Statements.{IsStatement}
 use Rattle.kq_control.specs.Symbols.{symbols_of}
 use Rattle.kq_control.specs.declared.tree.Property.{Property}
@@ -14,46 +15,33 @@ use Rattle.kq_grammar.specs.declared.expression.Name.{Name}
 use Rattle.kq_grammar.specs.declared.expression.Name.TheVariants as n
 use Rattle.kq_grammar.specs.Clauses.{column_text, columns_text, listed}
 use Rattle.kq_grammar.specs.Expressions.{Text, name_text}
-use Rattle.kq_syntax.specs.declared.kind.Kind.{Kind}
-use Rattle.kq_syntax.specs.declared.kind.Kind.TheVariants as kind
+use Rattle.kq_grammar.specs.Tabulars.{tabular_text}
 use Rattle.kq_syntax.specs.declared.kind.Symbol.{Symbol}
 use Rattle.kq_syntax.specs.Classes as k
 use Rattle.kq_syntax.specs.Classes.{of}
-use Rattle.kq_syntax.specs.Forms.{one, ◌⨾◌, Many, Maybe}
+use Rattle.kq_syntax.specs.Forms.{one, some, ◌⨾◌, Many, Maybe}
+use Rattle.kq_syntax.specs.Spans.{Spanned}
+use Rattle.kq_token.specs.declared.kind.DashedWord.TheVariants as d
 use Rattle.kq_token.specs.declared.kind.Punctuation.TheVariants as p
 
-wrong : {A : Type 0} → false ≡ true → A
-wrong h = absurd (cc)
-
-bare_word : (x : Kind) → k.bare_name x ≡ true → k.any_word x ≡ true
-bare_word (kind.Word w) h = refl
-bare_word (kind.DashedWord w) h = wrong h
-bare_word (kind.Side s) h = wrong h
-bare_word kind.WholeNumber h = wrong h
-bare_word kind.Real h = wrong h
-bare_word kind.Timespan h = wrong h
-bare_word kind.TypedLiteral h = wrong h
-bare_word (kind.String q) h = wrong h
-bare_word (kind.WordOperator o) h = wrong h
-bare_word (kind.Punctuation p) h = wrong h
-bare_word (kind.Operator o) h = wrong h
-
 module _ (text : List ℕ) where
-  -- these symbols stand in the text
+  -- these symbols stand in the text, in order
   abbrev Own : List Symbol → Type 0
-  Own ts = All (SymbolIn text) ts
+  Own ts = All (SymbolIn text) ts × InOrder ts
 
   -- where such symbols spell the form, the fact holds
   abbrev Holds : Text → Type 0 → Type 0
   Holds form P = (ts : List Symbol) → form ts → Own ts → P
 
   left_own : (xs ys : List Symbol) → Own (xs ++ ys) → Own xs
-  left_own [] ys all = All-nil (SymbolIn text)
-  left_own (x ∷ xs) ys all = All-cons (SymbolIn text) x xs (All-head (SymbolIn text) x (xs ++ ys) all) (left_own xs ys (All-tail (SymbolIn text) x (xs ++ ys) all))
+  left_own xs ys own = (left_all (SymbolIn text) xs ys own.0, left_in_order xs ys own.1)
+
+  right_all : (xs ys : List Symbol) → All (SymbolIn text) (xs ++ ys) → All (SymbolIn text) ys
+  right_all [] ys all = all
+  right_all (x ∷ xs) ys all = right_all xs ys (All-tail (SymbolIn text) x (xs ++ ys) all)
 
   right_own : (xs ys : List Symbol) → Own (xs ++ ys) → Own ys
-  right_own [] ys all = all
-  right_own (x ∷ xs) ys all = right_own xs ys (All-tail (SymbolIn text) x (xs ++ ys) all)
+  right_own xs ys own = (right_all xs ys own.0, right_in_order xs ys own.1)
 
   -- ---- forms
 
@@ -79,10 +67,10 @@ module _ (text : List ℕ) where
   -- ---- symbols
 
   one_in : (is : Symbol → Bool) (t : Symbol) → Holds (one is t) (SymbolIn text t)
-  one_in is t ts o all = All-head (SymbolIn text) t [] (subst Own o.1 all)
+  one_in is t ts o all = All-head (SymbolIn text) t [] (subst Own o.1 all).0
 
-  word_in : (t : Symbol) → Holds (one (of k.any_word) t) (IsPiece text t)
-  word_in t ts o all = (one_in (of k.any_word) t ts o all).word o.0
+  piece_in : (is : Symbol → Bool) (t : Symbol) → Holds (one is t) (IsPiece text t)
+  piece_in is t ts o all = (one_in is t ts o all).is_piece
 
   string_in : (t : Symbol) → Holds (one (of k.text) t) (IsString text t)
   string_in t ts o all = (one_in (of k.text) t ts o all).string o.0
@@ -90,17 +78,17 @@ module _ (text : List ℕ) where
   -- ---- parts
 
   name_in : (m : Name) → Holds (name_text m) (NameIn text m)
-  name_in (n.Word t) = λ ts o all. (one_in (of k.bare_name) t ts o all).word (bare_word t.kind o.0)
+  name_in (n.Word t) = piece_in (of k.bare_name) t
   name_in (n.Bracketed first t) = behind (before (string_in t))
 
   column_in : (c : Column) → Holds (column_text c) (ColumnIn text c)
-  column_in c = both (name_in c.name) (behind (word_in c.ty))
+  column_in c = both (name_in c.name) (behind (piece_in (of k.any_word) c.ty))
 
   columns_in : (cs : ColumnsTree) → Holds (columns_text cs) (ColumnsIn text cs)
   columns_in cs = listed_in column_in cs
 
   property_in : (q : Property) → Holds (property_text q) (PropertyIn text q)
-  property_in q = both (word_in q.name) (behind (λ ts o all. (one_in (of k.property_value) q.value ts o all).string))
+  property_in q = both (piece_in (of k.any_word) q.name) (behind (λ ts o all. (one_in (of k.property_value) q.value ts o all).string))
 
   properties_in : (ps : Option PropertiesTree) → Holds (Maybe properties_text ps) (PropertiesIn text ps)
   properties_in None = λ ts e all. tt
@@ -109,24 +97,42 @@ module _ (text : List ℕ) where
   table_columns_in : (m : Name) (cs : ColumnsTree) → Holds (table_columns_text m cs) (NameIn text m × ColumnsIn text cs)
   table_columns_in m cs = behind (both (name_in m) (behind (before (columns_in cs))))
 
+  spanned_in : (b : BodyTree) → Holds (Spanned tabular_text b) (BodyIn text b)
+  spanned_in b ts s own =
+      let first = (element (SymbolIn text) ts 0 b.first own.0 s.1).is_piece in
+      let last = (element (SymbolIn text) ts (length ts - 1) b.last own.0 s.2).is_piece in
+      record { in_order = first_before_last ts b.first b.last own.1 s.1 s.2; from_boundary = first.from_boundary; to_boundary = last.to_boundary }
+
   -- ---- commands
 
   ingest_in : (m : Name) (ps : Option PropertiesTree) (t : Symbol) → Holds (control_text (ingest m ps t)) (NameIn text m × (PropertiesIn text ps × IsPiece text t))
-  ingest_in m ps t = behind (behind (behind (behind (both (behind (name_in m)) (both (properties_in ps) (λ ts o all. (one_in (of (k.sign p.BodyMark)) t ts o all).mark o.0))))))
+  ingest_in m ps t = behind (behind (behind (behind (both (behind (name_in m)) (both (properties_in ps) (piece_in (of (k.sign p.BodyMark)) t))))))
+
+  -- the properties and the name, the table, and the query
+  named_in : (v : ViewTree) → Holds (some (of (k.dashed d.MaterializedView)) ⨾ Maybe properties_text v.properties ⨾ name_text v.name) (PropertiesIn text v.properties × NameIn text v.name)
+  named_in v = behind (both (properties_in v.properties) (name_in v.name))
+
+  view_parts_in : (v : ViewTree) → Holds (view_text v) ((PropertiesIn text v.properties × NameIn text v.name) × (NameIn text v.table × BodyIn text v.body))
+  view_parts_in v = behind (behind (both (named_in v) (both (behind (behind (name_in v.table))) (behind (before (spanned_in v.body))))))
+
+  view_in : (v : ViewTree) → Holds (view_text v) (ViewIn text v)
+  view_in v ts q own =
+      let (a, b) = view_parts_in v ts q own in
+      record { name = a.1; table = b.0; properties = a.0; body = b.1 }
 
   control_in : (c : ControlTree) → Holds (control_text c) (ControlIn text c)
   control_in (create_table m cs) = behind (behind (table_columns_in m cs))
   control_in (ingest m ps t) = λ ts q all. (let (a, b) = ingest_in m ps t ts q all in (a, b.0, b.1))
   control_in (alter_merge m cs) = behind (behind (table_columns_in m cs))
-  control_in (create_view v) = behind (behind (behind (behind (before (behind (before (properties_in v.properties)))))))
+  control_in (create_view v) = behind (behind (view_in v))
   control_in (set_policy m t) = λ ts q all. tt
-  control_in (show_view m) = λ ts q all. tt
+  control_in (show_view m) = behind (behind (behind (name_in m)))
   control_in show_failures = λ ts q all. tt
   control_in (show_extents m) = behind (behind (before (behind (name_in m))))
   control_in show_journal = λ ts q all. tt
-  control_in (fold m) = λ ts q all. tt
+  control_in (fold m) = behind (behind (name_in m))
   control_in (merge m) = behind (behind (name_in m))
   control_in (export t e) = λ ts q all. tt
 
 pub stands : (text : List ℕ) (c : ControlTree) → IsUtf8 text → IsStatement text (control c) → ControlIn text c
-stands text c utf8 is = control_in text c (symbols_of text is.tokens) is.is.1.spelled (symbols_in text is.tokens utf8 is.are)
+stands text c utf8 is = control_in text c (symbols_of text is.tokens) is.is.1.spelled (symbols_in text is.tokens utf8 is.are, symbols_in_order text is.tokens is.are)

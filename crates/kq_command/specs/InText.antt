@@ -4,7 +4,7 @@ use Rattle.std.specs.List.{All}
 use Rattle.std.specs.Str.{IsCharBoundary}
 use Rattle.kq_command.specs.Meanings.{piece, string_form}
 use Rattle.kq_command.specs.Unsupported.{is_string}
-use Rattle.kq_control.specs.ControlTrees.{ColumnsTree, PropertiesTree, ControlTree, create_table, ingest, alter_merge, create_view, show_extents, merge}
+use Rattle.kq_control.specs.ControlTrees.{ColumnsTree, PropertiesTree, ControlTree, create_table, ingest, alter_merge, create_view, show_extents, merge, BodyTree, ViewTree, show_view, fold}
 use Rattle.kq_control.specs.declared.tree.Property.{Property}
 use Rattle.kq_grammar.specs.declared.clause.Column.{Column}
 use Rattle.kq_grammar.specs.declared.expression.Name.{Name}
@@ -41,13 +41,27 @@ abbrev pub PropertiesIn : List ℕ → Option PropertiesTree → Type 0
 PropertiesIn text None = ⊤
 PropertiesIn text (Some ps) = PropertyIn text ps.0 × All (PropertyIn text) ps.1
 
+-- The query is a piece of the text, cut between characters.
+pub record BodyIn (text : List ℕ) (b : BodyTree) : Type 0 where
+  pub in_order : b.first.from ≤ b.last.to
+  pub from_boundary : IsCharBoundary text b.first.from
+  pub to_boundary : IsCharBoundary text b.last.to
+
+pub record ViewIn (text : List ℕ) (v : ViewTree) : Type 0 where
+  pub name : NameIn text v.name
+  pub table : NameIn text v.table
+  pub properties : PropertiesIn text v.properties
+  pub body : BodyIn text v.body
+
 -- ---- what is looked up in the text of a command that is no query
 
 abbrev pub ControlIn : List ℕ → ControlTree → Type 0
 ControlIn text (create_table n cs) = NameIn text n × ColumnsIn text cs
 ControlIn text (ingest n ps t) = NameIn text n × PropertiesIn text ps × IsPiece text t
 ControlIn text (alter_merge n cs) = NameIn text n × ColumnsIn text cs
-ControlIn text (create_view v) = PropertiesIn text v.properties
+ControlIn text (create_view v) = ViewIn text v
+ControlIn text (show_view n) = NameIn text n
 ControlIn text (show_extents n) = NameIn text n
 ControlIn text (merge n) = NameIn text n
+ControlIn text (fold n) = NameIn text n
 ControlIn text _ = ⊤

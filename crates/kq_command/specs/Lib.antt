@@ -1,4 +1,5 @@
 pub mod Columns
+pub mod Definitions
 pub mod Faults
 pub mod Ingestions
 pub mod InText

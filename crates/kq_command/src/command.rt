@@ -2,6 +2,7 @@
 ghost use Rattle.std.specs.Prelude.{◌≡◌};
 
 use crate::columns::{Columns, Identifier};
+use crate::definition::NewView;
 use crate::ingestion::Ingestion;
 use kq_grammar::Query as WrittenQuery;
 use kq_parse::ParseFault;
@@ -19,6 +20,8 @@ pub enum Command {
     Change(Change),
     /// `#merge NAME`
     Merge(Identifier),
+    /// `#fold NAME`
+    Fold(Identifier),
     /// A form that isn't built yet.
     Unbuilt,
 }
@@ -33,6 +36,8 @@ pub struct Query {
 /// What is told of the catalogue.
 #[derive(Drop)]
 pub enum Show {
+    /// `.show materialized-view NAME`
+    View(Identifier),
     /// `.show table NAME extents`
     Extents(Identifier),
     /// `.show journal`
@@ -48,6 +53,8 @@ pub enum Change {
     AlterMerge { name: Identifier, columns: Columns },
     /// `.ingest inline into table NAME with (..) <|` and rows.
     Ingest(Ingestion),
+    /// `.create materialized-view NAME on table NAME { QUERY }`
+    CreateView(NewView),
 }
 
 /// Why a text is no command.

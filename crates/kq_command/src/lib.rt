@@ -3,6 +3,7 @@
 
 mod columns;
 mod command;
+mod definition;
 mod ingestion;
 mod meanings;
 mod memory;
@@ -11,9 +12,11 @@ mod read;
 mod rows;
 mod types;
 mod unsupported;
+mod views;
 mod widening;
 
 pub use columns::{Column, Columns, Identifier};
 pub use command::{Change, Command, CommandFault, Query, Show};
+pub use definition::NewView;
 pub use ingestion::{Ingestion, Properties, Quoted};
 pub use read::read_command;

@@ -60,7 +60,8 @@ impl Requests {
         }
     }
 
-    pub(crate) fn columns(&self) -> Vec<Column>
+    /// A list of nothing, which takes no memory.
+    pub(crate) fn empty<T: Drop>(&self) -> Vec<T>
         ensures { result.items ≡ [] }
     {
         Vec::new(self.alloc)

@@ -1,6 +1,7 @@
-// What the properties of an ingestion say.
+// What the properties of an ingestion or a view say.
 ghost use Rattle.std.specs.Prelude.{◌≡◌, ◌∷◌, None, true, All, IfOk, IfSome, OnErr};
 ghost use Rattle.std.specs.Option.{option_map};
+ghost use Rattle.kq_command.specs.Definitions.{given as given_of, is_backfilled as is_backfilled_by};
 ghost use Rattle.kq_command.specs.InText.{IsString, PropertiesIn, PropertyIn};
 ghost use Rattle.kq_command.specs.Ingestions.{first_named as the_first_named, is_true as says_true, properties_of, quoted_of, repeated_of};
 ghost use Rattle.kq_command.specs.Types.{same};
@@ -103,6 +104,28 @@ fn given(memory: &mut Requests, text: &str, list: &PropertyList) -> Result<Prope
         ignore_first: is_true(named(text, first, others, b"ignoreFirstRecord")),
         repeated: repeated(text, first, others),
     })
+}
+
+/// Whether `backfill` is given `true`.
+pub(crate) fn is_backfilled(text: &str, list: &Option<PropertyList>) -> bool
+    requires { PropertiesIn text.now (option_map properties_view list.now) }
+    ensures { result ≡ is_backfilled_by text.now (option_map properties_view list.now) }
+{
+    match list {
+        Some(list) => is_true(named(text, list.first, list.others.as_slice(), b"backfill")),
+        None => false,
+    }
+}
+
+/// The place of the first property whose name stands before it.
+pub(crate) fn repeated_in(text: &str, list: &Option<PropertyList>) -> Option<usize>
+    requires { PropertiesIn text.now (option_map properties_view list.now) }
+    ensures { result ≡ repeated_of text.now (given_of (option_map properties_view list.now)) }
+{
+    match list {
+        Some(list) => repeated(text, list.first, list.others.as_slice()),
+        None => None,
+    }
 }
 
 /// What the properties say, all of which are supported.

@@ -3,7 +3,7 @@ ghost use Rattle.std.specs.Prelude.{◌≡◌, ◌≤◌, ◌∷◌, None, true,
 ghost use Rattle.std.specs.Option.{option_map};
 ghost use Rattle.kq_command.specs.InText.{ColumnIn, ColumnsIn, ControlIn};
 ghost use Rattle.kq_command.specs.Meanings.{behind, column_of, columns_of};
-ghost use Rattle.kq_command.specs.Reads.{IsCommandOf, Reads, ReadsText, control_command};
+ghost use Rattle.kq_command.specs.Reads.{IsCommandOf, IsControlOf, Reads, ReadsText};
 ghost use Rattle.kq_command.specs.Unsupported.{control_fault};
 ghost use Rattle.kq_control.specs.ControlTrees.{control as command, query};
 ghost use Rattle.kq_control.specs.ControlViews.{columns_of as columns_view, control_of};
@@ -19,6 +19,7 @@ use crate::properties::read_properties;
 use crate::rows::rows_after;
 use crate::types::ty_of;
 use crate::unsupported::unsupported;
+use crate::views::new_view;
 use kq_control::{ColumnList, Control, Statement};
 use kq_grammar::{Column as WrittenColumn, Query as WrittenQuery};
 use kq_value::Memory;
@@ -48,7 +49,7 @@ fn read_in(memory: &mut Requests, text: &str) -> Result<Command, CommandFault>
 {
     match memory.statement(text) {
         Ok(Statement::Query(tree)) => Ok(asked(memory, text, tree)?),
-        Ok(Statement::Control(control)) => supported(memory, text, &control),
+        Ok(Statement::Control(control)) => supported(memory, text, Box::into_inner(control)),
         Err(fault) => Err(fault.into()),
     }
 }
@@ -66,49 +67,55 @@ fn asked(memory: &mut Requests, text: &str, tree: Box<WrittenQuery>) -> Result<C
 }
 
 /// The command, unless a symbol of it isn't supported.
-fn supported(memory: &mut Requests, text: &str, control: &Control) -> Result<Command, CommandFault>
-    requires { IsStatement text.now (command (control_of control.now)) }
+fn supported(memory: &mut Requests, text: &str, control: Control) -> Result<Command, CommandFault>
+    requires { IsStatement text.now (command (control_of control)) }
     ensures answer { ReadsText text.now result }
     ensures refused { IfErr result (λ f. f ≡ CommandFault.Memory → memory.new.refused ≡ true) }
 {
-    match unsupported(memory, text, control)? {
+    match unsupported(memory, text, &control)? {
         Some(at) => Err(CommandFault::Unsupported { at }),
         None => Ok(built(memory, text, control)?),
     }
 }
 
 /// The command of a form that is built.
-fn built(memory: &mut Requests, text: &str, control: &Control) -> Result<Command, Memory>
-    requires stands { ControlIn text.now (control_of control.now) }
-    requires supported { control_fault text.now (control_of control.now) ≡ None }
-    ensures value { IfOk result (λ c. c ≡ control_command text.now (control_of control.now)) }
+fn built(memory: &mut Requests, text: &str, control: Control) -> Result<Command, Memory>
+    requires stands { ControlIn text.now (control_of control) }
+    requires supported { control_fault text.now (control_of control) ≡ None }
+    ensures value { IfOk result (IsControlOf text.now (control_of control)) }
     ensures refused { OnErr result (memory.new.refused ≡ true) }
 {
     match control {
         Control::CreateTable(name, columns) => {
-            let name = identifier(memory, text, *name)?;
-            match columns_in(memory, text, columns)? {
+            let name = identifier(memory, text, name)?;
+            match columns_in(memory, text, &columns)? {
                 Some(columns) => Ok(Command::Change(Change::CreateTable { name, columns })),
                 None => Ok(Command::Unbuilt),
             }
         }
         Control::AlterMerge(name, columns) => {
-            let name = identifier(memory, text, *name)?;
-            match columns_in(memory, text, columns)? {
+            let name = identifier(memory, text, name)?;
+            match columns_in(memory, text, &columns)? {
                 Some(columns) => Ok(Command::Change(Change::AlterMerge { name, columns })),
                 None => Ok(Command::Unbuilt),
             }
         }
         Control::Ingest(table, list, mark) => Ok(Command::Change(Change::Ingest(Ingestion {
-            table: identifier(memory, text, *table)?,
-            properties: read_properties(memory, text, list)?,
-            body: memory.text(rows_after(text, *mark))?,
+            table: identifier(memory, text, table)?,
+            properties: read_properties(memory, text, &list)?,
+            body: memory.text(rows_after(text, mark))?,
         }))),
+        Control::CreateView(view) => {
+            let view = new_view(memory, text, Box::into_inner(view))?;
+            Ok(Command::Change(Change::CreateView(view)))
+        }
+        Control::ShowView(view) => Ok(Command::Show(Show::View(identifier(memory, text, view)?))),
         Control::ShowExtents(table) => Ok(Command::Show(Show::Extents(identifier(
-            memory, text, *table,
+            memory, text, table,
         )?))),
         Control::ShowJournal => Ok(Command::Show(Show::Journal)),
-        Control::Merge(table) => Ok(Command::Merge(identifier(memory, text, *table)?)),
+        Control::Merge(table) => Ok(Command::Merge(identifier(memory, text, table)?)),
+        Control::Fold(view) => Ok(Command::Fold(identifier(memory, text, view)?)),
         _ => Ok(Command::Unbuilt),
     }
 }
@@ -160,7 +167,7 @@ fn columns_in(
     ensures value { IfOk result (λ o. o ≡ columns_of text.now (list.now.first ∷ list.now.others.items)) }
     ensures refused { OnErr result (memory.new.refused ≡ true) }
 {
-    let mut found = memory.columns();
+    let mut found = memory.empty();
     match column_in(memory, text, list.first)? {
         Some(column) => memory.push(&mut found, column)?,
         None => return Ok(None),

@@ -46,11 +46,12 @@ pub struct Run<W: World> {
 impl<W: World> Model for Run<W> {
     ghost use Rattle.std.specs.Coded.{codes};
     ghost use Rattle.kq_value.specs.contracts.value.Value as cell;
+    ghost use Rattle.kq_expr.specs.contracts.expr.Expr as expr;
     ghost use Rattle.kq_console.specs.Views.{RunView};
 
     ghost Value = { RunView };
 
-    ghost coded = { Prim.hlevel (codes, cell.the_row.coded) };
+    ghost coded = { Prim.hlevel (codes, cell.the_row.coded, expr.the_row.coded) };
 
     ghost view = { λ r. record { status = r.status; catalog = r.catalog; sessions = r.sessions.items } };
 }

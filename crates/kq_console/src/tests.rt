@@ -1,4 +1,5 @@
 mod feeds;
 mod scripts;
 mod steps;
+mod views;
 mod worlds;

@@ -5,7 +5,7 @@ use Rattle.kq_model.specs.declared.event.Commit.TheVariants as commits
 use Rattle.kq_model.specs.declared.limits.Limits.{Limits}
 use Rattle.kq_model.specs.History.{Log}
 use Rattle.kq_command.specs.declared.command.Command.{Command}
-use Rattle.kq_command.specs.declared.command.Command.TheVariants.{Query, Show, Change, Merge, Unbuilt}
+use Rattle.kq_command.specs.declared.command.Command.TheVariants.{Query, Show, Change, Merge, Unbuilt, Fold}
 use Rattle.kq_reply.specs.declared.reply.Reply.{Reply}
 use Rattle.kq_reply.specs.Number.{kind_of}
 use Rattle.kq_engine.specs.Due.{reply_to}
@@ -13,6 +13,7 @@ use Rattle.kq_engine.specs.Fits.{Makes}
 
 granted : (c : Commit) (cursor : ℕ) → kind_of (reply_to c cursor) ≡ 0
 granted (commits.CreateTable name schema) cursor = refl
+granted (commits.CreateView view) cursor = refl
 granted (commits.AlterMerge table columns) cursor = refl
 granted (commits.Ingest batches failures) cursor = refl
 
@@ -22,4 +23,5 @@ Accept-commit limits l (Query query) reply c makes = absurd makes
 Accept-commit limits l (Show show) reply c makes = absurd makes
 Accept-commit limits l (Change change) reply c makes = ap kind_of makes.1 ∙ granted c _
 Accept-commit limits l (Merge table) reply c makes = absurd makes
+Accept-commit limits l (Fold view) reply c makes = absurd makes
 Accept-commit limits l Unbuilt reply c makes = absurd makes

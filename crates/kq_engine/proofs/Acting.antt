@@ -14,9 +14,9 @@ use Rattle.kq_engine.specs.declared.work.Work.{Work}
 use Rattle.kq_engine.specs.Due.{reply_to}
 use Rattle.kq_engine.specs.Fits.{Acts, Answers, Did, Makes}
 use Rattle.kq_engine.specs.Found.{IsCommitDue}
-use Rattle.kq_engine.specs.Merges.{IsStill}
+use Rattle.kq_engine.specs.Merges.{IsSettled}
 use Rattle.kq_engine.proofs.Accepting.{Accept-commit}
-use Rattle.kq_engine.proofs.Telling.{NamesAll-since, refused_still}
+use Rattle.kq_engine.proofs.Telling.{NamesAll-since, cursor_earlier, cursor_take, refused_still, settled_less}
 
 -- the commit that is due was appended
 pub Acts-commit : (limits : Limits) (old new : History) (work : Work) (began : ℕ) (c : Commit) (place : ℕ) (reply : Reply) → IsCommitDue limits (log old) work.command c → new ≡ old ++ record { by = work.by; operation = operation.Commit c } ∷ [] → place ≡ length new → reply ≡ reply_to c (cursor old + 1)
@@ -24,16 +24,16 @@ pub Acts-commit : (limits : Limits) (old new : History) (work : Work) (began : �
 Acts-commit limits old new work began c place reply due added at is = (at, (c, added, subst (λ (r : Reply). Makes limits (log old) work.command r c) (sym is) due))
 
 -- nothing was appended
-pub Acts-answer : (limits : Limits) (h : History) (work : Work) (began : ℕ) (place : ℕ) (reply : Reply) → place ≡ length h → Answers limits h work.now work.command reply → IsStill reply → Acts limits h h work began (record { place = place; own = false; reply = reply })
-Acts-answer limits h work began place reply at answers still = (at, inl (refl, answers, still))
+pub Acts-answer : (limits : Limits) (h : History) (work : Work) (began : ℕ) (place : ℕ) (reply : Reply) → place ≡ length h → Answers limits h work.now work.command reply → IsSettled (cursor h) reply → Acts limits h h work began (record { place = place; own = false; reply = reply })
+Acts-answer limits h work began place reply at answers settled = (at, inl (refl, answers, settled_less (cursor (take began h)) (cursor h) reply (cursor_take began h) settled))
 
 -- memory was wanting
 pub Acts-refused : (limits : Limits) (old new : History) (work : Work) (began : ℕ) → new ≡ old → Acts limits old new work began (record { place = length new; own = false; reply = replies.Refused refusals.Memory })
-Acts-refused limits old new work began stays = (refl, inl (stays, inl refl, refused_still refusals.Memory))
+Acts-refused limits old new work began stays = (refl, inl (stays, inl refl, inl (refused_still refusals.Memory)))
 
 did_since : (limits : Limits) (old new : History) (work : Work) (began later : ℕ) (own : Bool) (reply : Reply) → began ≤ later → Did limits old new work later own reply → Did limits old new work began own reply
 did_since limits old new work began later true reply before did = did
-did_since limits old new work began later false reply before (inl stays) = inl stays
+did_since limits old new work began later false reply before (inl stays) = inl (stays.0, stays.1, settled_less (cursor (take began old)) (cursor (take later old)) reply (cursor_earlier began later old before) stays.2)
 did_since limits old new work began later false reply before (inr t) = inr (record { made = t.made; tends = t.tends; granted = t.granted; answers = t.answers; names_all = NamesAll-since new began later reply before t.names_all; appended = t.appended })
 
 -- what was picked later was picked since the work began

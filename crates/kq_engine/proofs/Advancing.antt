@@ -7,16 +7,16 @@ use Rattle.kq_model.specs.declared.event.Event.{Event}
 use Rattle.kq_model.specs.declared.event.Operation.{Operation}
 use Rattle.kq_model.specs.declared.event.Operation.TheVariants as operation
 use Rattle.kq_model.specs.declared.limits.Limits.{Limits}
-use Rattle.kq_model.specs.History.{History, CommitAt, commit_at, commits_at, commits_of, log}
+use Rattle.kq_model.specs.History.{History, CommitAt, commit_at, commits_at, commits_of, cursor, log}
 use Rattle.kq_model.proofs.Histories.{commits_at-push}
 use Rattle.kq_command.specs.declared.command.Command.{Command}
 use Rattle.kq_engine.specs.declared.work.Outcome.{Outcome}
 use Rattle.kq_reply.specs.declared.reply.Reply.{Reply}
 use Rattle.kq_engine.specs.declared.work.Work.{Work}
 use Rattle.kq_engine.specs.Fits.{Answers, FitsNow, Fits, Tends, Tended, Acts, Appends, Advances, own_commit}
-use Rattle.kq_engine.specs.Merges.{IsMarked, IsStill, NamesAll}
+use Rattle.kq_engine.specs.Merges.{IsMarked, IsSettled, NamesAll}
 use Rattle.kq_engine.proofs.Acting.{Acts-since}
-use Rattle.kq_engine.proofs.Telling.{Makes-still, still_marked, still_names}
+use Rattle.kq_engine.proofs.Telling.{Makes-still, settled_marked, settled_names, still_marked, still_names}
 
 -- what fits a history fits each that begins with it
 pub Fits-append : (limits : Limits) (h more : History) (mark : By) (command : Command) (now : ℤ) (place : ℕ) (own : Bool) (reply : Reply) → Fits limits h mark command now place own reply → Fits limits (h ++ more) mark command now place own reply
@@ -46,7 +46,7 @@ Appends-none limits h mark command place reply = record {
 -- what a command makes beside its reply is no commit
 tends_no_commit : (limits : Limits) (old : History) (command : Command) (reply : Reply) (made : Operation) → Tends limits old command reply made → commits_of made ≡ []
 tends_no_commit limits old command reply (operation.Commit c) tends = absurd tends
-tends_no_commit limits old command reply (operation.Fold view to) tends = absurd tends
+tends_no_commit limits old command reply (operation.Fold view to) tends = refl
 tends_no_commit limits old command reply (operation.Merge table ids new) tends = refl
 
 tended_appends : (limits : Limits) (old new : History) (work : Work) (began place : ℕ) (reply : Reply) → Tended limits old new work began reply → Appends limits old new work.by work.command (record { place = place; own = false; reply = reply })
@@ -59,6 +59,9 @@ tended_appends limits old new work began place reply tended =
       appended = tended.appended;
       commits = ap commits_at tended.appended ∙ commits_at-push old event ∙ ap (λ (more : List CommitAt). commits_at old ++ more) none;
     }
+
+same_cursor : (old new : History) (began place : ℕ) → new ≡ old → length new ≤ place → cursor (take began (take place new)) ≤ cursor (take began old)
+same_cursor old new began place stays whole = let same = ap (λ (h : History). cursor (take began h)) (take_all place new whole ∙ stays) in omega (arith, same)
 
 acts_at : (limits : Limits) (old new : History) (work : Work) (began : ℕ) (place : ℕ) (own : Bool) (reply : Reply) → began ≤ length old → Acts limits old new work began (record { place = place; own = own; reply = reply }) → Advances limits old new work began (record { place = place; own = own; reply = reply })
 acts_at limits old new work began place true reply since acts =
@@ -79,12 +82,12 @@ acts_at limits old new work began place true reply since acts =
     }
 acts_at limits old new work began place false reply since acts = by_case acts.1
   where
-    by_case : ((new ≡ old) × Answers limits old work.now work.command reply × IsStill reply) ⊎ Tended limits old new work began reply → Advances limits old new work began (record { place = place; own = false; reply = reply })
+    by_case : ((new ≡ old) × Answers limits old work.now work.command reply × IsSettled (cursor (take began old)) reply) ⊎ Tended limits old new work began reply → Advances limits old new work began (record { place = place; own = false; reply = reply })
     by_case (inl stays) = record {
       appends = subst (λ (h : History). Appends limits old h work.by work.command (record { place = place; own = false; reply = reply })) (sym stays.0) (Appends-none limits old work.by work.command place reply);
-      fits = Fits-end limits new work.by work.command work.now place false reply acts.0 (subst (λ (h : History). Answers limits h work.now work.command reply) (sym stays.0) stays.1) (still_marked new work.by reply stays.2);
+      fits = Fits-end limits new work.by work.command work.now place false reply acts.0 (subst (λ (h : History). Answers limits h work.now work.command reply) (sym stays.0) stays.1) (settled_marked (cursor (take began old)) new work.by reply stays.2);
       since = omega (arith, ap length stays.0);
-      names_all = still_names (take place new) began reply stays.2;
+      names_all = settled_names (cursor (take began old)) (take place new) began reply (same_cursor old new began place stays.0 (omega (arith, acts.0))) stays.2;
     }
     by_case (inr tended) = let longer : length new ≡ length old + 1 = ap length tended.appended ∙ length_push old _ in record {
       appends = tended_appends limits old new work began place reply tended;

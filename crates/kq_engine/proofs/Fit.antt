@@ -1,6 +1,10 @@
 -- Commits that are counted.
 use Rattle.std.proofs.Common.{◌≡◌, ◌<◌, Bool, true, false, cond, length, nat_lt, refl}
+use Rattle.kq_catalog.specs.declared.intent.Intent.{Intent}
+use Rattle.kq_catalog.specs.declared.intent.Intent.TheVariants as intents
+use Rattle.kq_catalog.specs.Intents.{Begins, commit_of}
 use Rattle.kq_model.specs.declared.event.Commit.{Commit}
+use Rattle.kq_model.specs.declared.event.Commit.TheVariants as commits
 use Rattle.kq_model.specs.declared.limits.Limits.{Limits}
 use Rattle.kq_model.specs.History.{Log}
 use Rattle.kq_model.specs.Lawful.{LawfulCommit}
@@ -19,6 +23,20 @@ counted-commit limits l c d e = by_test (nat_lt (length l) limits.commits) refl 
     by_test : (b : Bool) → nat_lt (length l) limits.commits ≡ b → Commits d ≡ cond b (Commits c) (refused (refusals.Full limits.commits)) → (nat_lt (length l) limits.commits ≡ true) × (c ≡ d)
     by_test true room e = (room, cc)
     by_test false room e = absurd (no_commit d (refusals.Full limits.commits) e)
+
+-- the commit makes no view
+abbrev pub MakesNoView : Commit → Type 0
+MakesNoView (commits.CreateTable name schema) = Unit {0}
+MakesNoView (commits.CreateView view) = ⊥
+MakesNoView (commits.AlterMerge table columns) = Unit {0}
+MakesNoView (commits.Ingest batches failures) = Unit {0}
+
+-- so it is offered without a part
+pub Begins-offered : (intent : Intent) → MakesNoView (commit_of intent) → Begins intent
+Begins-offered (intents.CreateTable name schema) none = tt
+Begins-offered (intents.CreateView view part) none = absurd none
+Begins-offered (intents.AlterMerge table columns) none = tt
+Begins-offered (intents.Ingest parts failures) none = tt
 
 -- the commit may be made, and one more is allowed
 pub record IsFit (limits : Limits) (l : Log) (c : Commit) : Type 0 where

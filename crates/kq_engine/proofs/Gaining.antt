@@ -1,6 +1,6 @@
 -- The columns that a table gains.
-use Rattle.std.proofs.Common.{◌≡◌, ◌<◌, ◌+◌, ℕ, Bool, true, false, cond, not, List, [], ◌∷◌, length, map, nat_lt, Option, Some, None, refl, ap, sym, ◌∙◌, subst, arith}
-use Rattle.std.specs.List.{All, filter, slice_get}
+use Rattle.std.proofs.Common.{◌≡◌, ◌<◌, ◌+◌, ℕ, Bool, true, false, cond, not, List, [], ◌∷◌, length, nat_lt, Option, Some, None, refl, ap, sym, ◌∙◌, subst, arith}
+use Rattle.std.specs.List.{All, filter}
 use Rattle.std.proofs.lemmas.Bool.{ltb-true}
 use Rattle.std.proofs.lemmas.List.Elements.{All-nil, All-cons}
 use Rattle.std.proofs.lemmas.Simd.{map-map}
@@ -19,8 +19,8 @@ use Rattle.kq_command.specs.Columns.{column_names, field_of, schema_of}
 use Rattle.kq_command.specs.Widening.{first_clash, is_new, new_columns}
 use Rattle.kq_reply.specs.declared.refusal.Refusal.TheVariants as refusals
 use Rattle.kq_reply.specs.declared.reply.Reply.TheVariants as replies
-use Rattle.kq_engine.specs.Due.{Due, Says, Commits, clash_due, counted, lacking_due, refused, wider_due, widening_due}
-use Rattle.kq_engine.proofs.Fit.{IsFit, counted-commit, no_commit}
+use Rattle.kq_engine.specs.Due.{Says, Commits, clash_due, counted, lacking_due, refused, wider_due, widening_due}
+use Rattle.kq_engine.proofs.Fit.{MakesNoView, IsFit, counted-commit, no_commit}
 
 -- ---- new columns
 
@@ -108,6 +108,11 @@ widening-fit limits l name columns (Some found) c once named due =
       within = rw (gained.narrow, gained.room) refl;
     } in
     subst (IsFit limits l) gained.is (record { room = ltb-true (length l) limits.commits gained.room; lawful = widening })
+
+-- it makes no view
+pub widening-no_view : (limits : Limits) (l : Log) (name : Identifier) (columns : List Column) (o : Option Numbered) (c : Commit) → Commits c ≡ widening_due limits l name columns o → MakesNoView c
+widening-no_view limits l name columns None c due = absurd (no_commit c (refusals.Unknown name.at) due)
+widening-no_view limits l name columns (Some found) c due = subst MakesNoView (clash-gains limits l found columns (first_clash found.table.schema columns) c due).is tt
 
 -- and then the table gains a column
 pub widening-gains : (limits : Limits) (l : Log) (name : Identifier) (columns : List Column) (found : Numbered) (c : Commit) → Commits c ≡ widening_due limits l name columns (Some found) → 0 < length (schema_of (new_columns found.table.schema columns))

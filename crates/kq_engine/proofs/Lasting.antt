@@ -1,5 +1,5 @@
 -- What was found stays due, or is skipped, as the log grows.
-use Rattle.std.proofs.Common.{◌≡◌, ℕ, ℤ, Bool, true, false, cond, List, ◌++◌, length, take, drop, nat_lt, Option, Some, None, Result, Ok, Err, IfOk, refl, ap, sym, ◌∙◌, subst}
+use Rattle.std.proofs.Common.{◌≡◌, ℕ, ℤ, Bool, true, false, cond, List, ◌++◌, length, take, drop, nat_lt, Option, Some, None, Result, Ok, Err, IfOk, inl, refl, ap, sym, ◌∙◌, subst}
 use Rattle.std.specs.List.{slice_get}
 use Rattle.std.proofs.lemmas.Bool.{eqb-true, false≢true}
 use Rattle.std.proofs.lemmas.List.{take-append-drop}
@@ -11,9 +11,10 @@ use Rattle.kq_model.proofs.Histories.{log-append}
 use Rattle.kq_model.proofs.Tables.{still_same}
 use Rattle.kq_catalog.specs.Intents.{commit_of}
 use Rattle.kq_command.specs.declared.command.Change.{Change as Changing}
-use Rattle.kq_command.specs.declared.command.Change.TheVariants.{CreateTable, AlterMerge, Ingest}
+use Rattle.kq_command.specs.declared.command.Change.TheVariants.{CreateTable, AlterMerge, Ingest, CreateView}
 use Rattle.kq_command.specs.declared.command.Command.{Command}
-use Rattle.kq_command.specs.declared.command.Command.TheVariants.{Query, Show, Change, Merge, Unbuilt}
+use Rattle.kq_command.specs.declared.command.Command.TheVariants.{Query, Show, Change, Merge, Unbuilt, Fold}
+use Rattle.kq_command.specs.declared.columns.Identifier.{Identifier}
 use Rattle.kq_command.specs.declared.ingestion.Ingestion.{Ingestion}
 use Rattle.kq_reply.specs.declared.refusal.Refusal.{Refusal}
 use Rattle.kq_reply.specs.declared.refusal.Refusal.TheVariants as refusals
@@ -25,9 +26,10 @@ use Rattle.kq_engine.specs.declared.work.Found.TheVariants as founds
 use Rattle.kq_engine.specs.declared.work.Offer.{Offer}
 use Rattle.kq_engine.specs.Due.{Due, Says, Commits, IsChangeDue, IsDueByLog, IsDueByText, counted, ingest_due, refused, text_refusal, unless_tagged}
 use Rattle.kq_engine.specs.Fits.{IsDue}
-use Rattle.kq_engine.specs.Found.{Finds, IsCommitDue, IsDueTo, IsFound, IsGoodText, IsOffered, IsReadFor, OffersChange, OffersInto, barred_at, is_as_read, is_prepared_outside, is_widened_at, offer_due}
-use Rattle.kq_engine.proofs.Dues.{Due-is_good}
-use Rattle.kq_engine.proofs.Fit.{no_commit}
+use Rattle.kq_engine.specs.Found.{Finds, FindsFold, FindsMerge, IsCommitDue, IsDueTo, IsFound, IsGoodText, IsOffered, IsReadFor, OffersChange, OffersInto, barred_at, is_as_read, is_prepared_outside, is_widened_at, offer_due}
+use Rattle.kq_engine.proofs.Dues.{Due-is_good, ingest-no_view, table-no_view}
+use Rattle.kq_engine.proofs.Gaining.{widening-no_view}
+use Rattle.kq_engine.proofs.Fit.{Begins-offered, no_commit}
 use Rattle.kq_engine.proofs.Telling.{change_still}
 
 -- ---- tables for which rows were read
@@ -60,29 +62,54 @@ commit_good limits l (Query query) c due = absurd due
 commit_good limits l (Show show) c due = absurd due
 commit_good limits l (Change change) c due = (Due-is_good limits l change c due.0).0
 commit_good limits l (Merge table) c due = absurd due
+commit_good limits l (Fold view) c due = absurd due
 commit_good limits l Unbuilt c due = absurd due
 
 -- a commit that was found for a change
 pub Offered-change : (limits : Limits) (l : Log) (change : Changing) (offer : Offer) → text_refusal change ≡ None → IsDueByLog limits l change (Commits (commit_of offer.intent)) → OffersChange limits l change (founds.Commits offer) → IsOffered limits l (Change change) offer
 Offered-change limits l (CreateTable name columns) offer good due offers = record {
   due = (good_due limits l (CreateTable name columns) (Commits (commit_of offer.intent)) good due, refl);
+  begins = Begins-offered offer.intent (table-no_view limits l name columns (commit_of offer.intent) due);
   later = λ outside. absurd (false≢true outside);
 }
 Offered-change limits l (AlterMerge name columns) offer good due offers = record {
   due = (good_due limits l (AlterMerge name columns) (Commits (commit_of offer.intent)) good due, refl);
+  begins = Begins-offered offer.intent (widening-no_view limits l name columns (table_numbered name.text (tables l)) (commit_of offer.intent) due);
   later = λ outside. absurd (false≢true outside);
 }
 Offered-change limits l (Ingest i) offer good due offers = record {
   due = (good_due limits l (Ingest i) (Commits (commit_of offer.intent)) good due, refl);
+  begins = Begins-offered offer.intent (ingest-no_view limits l i (table_numbered i.table.text (tables l)) (commit_of offer.intent) due);
   later = λ outside more still. good_due limits (l ++ more) (Ingest i) (offer_due limits (l ++ more) offer) good (rows_later limits l more i offer (table_numbered i.table.text (tables l)) refl due offers still);
+}
+Offered-change limits l (CreateView view) offer good due offers = record {
+  due = (good_due limits l (CreateView view) (Commits (commit_of offer.intent)) good due, refl);
+  begins = offers;
+  later = λ outside. absurd (false≢true outside);
 }
 
 -- what was found for a change of a good text
 pub Found-change : (limits : Limits) (h : History) (now : ℤ) (change : Changing) (result : Result Found Refusal) → text_refusal change ≡ None → Finds (IsDueByLog limits (log h) change) result → IfOk result (OffersChange limits (log h) change) → IfOk result (IsFound limits h now (Change change))
-Found-change limits h now change (Ok (founds.Says reply)) good due offers = (good_due limits (log h) change (Says reply) good due, change_still limits (log h) change reply due)
+Found-change limits h now change (Ok (founds.Says reply)) good due offers = (good_due limits (log h) change (Says reply) good due, inl (change_still limits (log h) change reply due))
 Found-change limits h now change (Ok (founds.Commits offer)) good due offers = Offered-change limits (log h) change offer good due offers
 Found-change limits h now change (Ok (founds.Merges merging)) good due offers = absurd due
+Found-change limits h now change (Ok (founds.Folds folding)) good due offers = absurd due
 Found-change limits h now change (Err r) good due offers = offers
+
+-- what was found for a merge, and for a fold
+pub Found-merge : (limits : Limits) (h : History) (now : ℤ) (table : Identifier) (result : Result Found Refusal) → IfOk result (FindsMerge h table) → IfOk result (IsFound limits h now (Merge table))
+Found-merge limits h now table (Ok (founds.Says reply)) finds = finds
+Found-merge limits h now table (Ok (founds.Commits offer)) finds = absurd finds
+Found-merge limits h now table (Ok (founds.Merges merging)) finds = finds
+Found-merge limits h now table (Ok (founds.Folds folding)) finds = absurd finds
+Found-merge limits h now table (Err r) finds = finds
+
+pub Found-fold : (limits : Limits) (h : History) (now : ℤ) (view : Identifier) (result : Result Found Refusal) → IfOk result (FindsFold h view) → IfOk result (IsFound limits h now (Fold view))
+Found-fold limits h now view (Ok (founds.Says reply)) finds = finds
+Found-fold limits h now view (Ok (founds.Commits offer)) finds = absurd finds
+Found-fold limits h now view (Ok (founds.Merges merging)) finds = absurd finds
+Found-fold limits h now view (Ok (founds.Folds folding)) finds = finds
+Found-fold limits h now view (Err r) finds = finds
 
 -- what the offer that was found at a place comes to is due
 pub Offered-still : (limits : Limits) (h : History) (place : ℕ) (command : Command) (offer : Offer) → is_prepared_outside command ≡ true → IsOffered limits (log (take place h)) command offer → is_as_read (log h) offer.unless ≡ true
@@ -102,6 +129,7 @@ says_due limits h now (Query query) reply due = absurd due
 says_due limits h now (Show show) reply due = absurd due
 says_due limits h now (Change change) reply due = due
 says_due limits h now (Merge table) reply due = absurd due
+says_due limits h now (Fold view) reply due = absurd due
 says_due limits h now Unbuilt reply due = absurd due
 
 commits_due : (limits : Limits) (l : Log) (command : Command) (c : Commit) → IsDueTo limits l command (Commits c) → IsCommitDue limits l command c
@@ -109,6 +137,7 @@ commits_due limits l (Query query) c due = absurd due
 commits_due limits l (Show show) c due = absurd due
 commits_due limits l (Change change) c due = (due, refl)
 commits_due limits l (Merge table) c due = absurd due
+commits_due limits l (Fold view) c due = absurd due
 commits_due limits l Unbuilt c due = absurd due
 
 -- a tag bars it

@@ -1,5 +1,6 @@
 -- What one take of the catalogue does to a pass.
 use Rattle.std.proofs.Common.{◌≡◌, ◌≤◌, ◌+◌, ℕ, false, List, [], ◌∷◌, ◌++◌, length, take, refl, ap, sym, ◌∙◌, subst, append-nil, append_assoc, length-append, arith, inr}
+use Rattle.std.proofs.lemmas.List.{take_all}
 use mathlib.Core.List.{IsPrefix}
 use Rattle.kq_turn.specs.Histories.{gained}
 use Rattle.kq_turn.specs.Passes.{TurnId}
@@ -8,16 +9,17 @@ use Rattle.kq_model.specs.declared.limits.Limits.{Limits}
 use Rattle.kq_model.specs.History.{History, cursor}
 use Rattle.kq_engine.specs.declared.work.Outcome.{Outcome}
 use Rattle.kq_engine.specs.declared.work.Work.{Work}
-use Rattle.kq_engine.specs.Fits.{Advances, event_by}
-use Rattle.kq_engine.specs.Found.{IsPrepared, IsReady}
+use Rattle.kq_engine.specs.Fits.{Advances, Answers, event_by}
+use Rattle.kq_engine.specs.Found.{IsReady}
+use Rattle.kq_reply.specs.declared.refusal.Refusal.{Refusal}
 use Rattle.kq_reply.specs.declared.reply.Reply.{Reply}
-use Rattle.kq_engine.specs.declared.work.Prepared.{Prepared}
+use Rattle.kq_reply.specs.declared.reply.Reply.TheVariants as replies
 use Rattle.kq_engine.specs.declared.work.Ready.TheVariants as readies
 use Rattle.kq_engine.specs.Shared.{PassView, Applies, Finishes, IsFresh, Concludes, made_by}
 use Rattle.kq_engine.proofs.Advancing.{Appends-none, Fits-end}
 use Rattle.kq_engine.proofs.Counting.{cursor-gained}
 use Rattle.kq_engine.specs.Merges.{NamesAll}
-use Rattle.kq_engine.proofs.Telling.{NamesAll-since, still_marked, still_names}
+use Rattle.kq_engine.proofs.Telling.{NamesAll-since, cursor_take, refused_still, settled_marked, settled_names, still_marked, still_names}
 
 -- a step that began on what was seen
 pub Finishes-step : (limits : Limits) (of : TurnId) (seen old new : History) (worth made : ℕ) (taken : List ℕ) (work : Work) (began : ℕ) (outcome : Outcome) → began ≡ length seen → IsPrefix seen old → Advances limits old new work began outcome
@@ -39,26 +41,26 @@ Finishes-step limits of seen old new worth made taken work began outcome here be
     }
 
 -- what was answered on a snapshot of what was seen concludes with no take
-pub Concludes-answered : (limits : Limits) (pass : PassView) (prepared : Prepared) (reply : Reply) → IsFresh pass → IsPrepared limits pass.seen prepared → prepared.ready ≡ readies.Answered reply
-    → Concludes limits pass pass prepared.work (record { place = prepared.place; own = false; reply = reply })
-Concludes-answered limits pass prepared reply fresh is answered = record {
+pub Concludes-answered : (limits : Limits) (pass : PassView) (work : Work) (reply : Reply) → IsFresh pass → IsReady limits pass.seen work.now work.command (readies.Answered reply)
+    → Concludes limits pass pass work (record { place = length pass.seen; own = false; reply = reply })
+Concludes-answered limits pass work reply fresh due = record {
   of = refl;
   worth = refl;
   seen = ([], append-nil pass.seen);
   more = [];
   few = omega arith;
   taken = sym (append-nil pass.taken);
-  last = record { found = pass.seen; begins = IsPrefix-refl pass.seen; before = fresh.before; last = fresh.last; appends = Appends-none limits pass.seen prepared.work.by prepared.work.command prepared.place reply };
+  last = record { found = pass.seen; begins = IsPrefix-refl pass.seen; before = fresh.before; last = fresh.last; appends = Appends-none limits pass.seen work.by work.command (length pass.seen) reply };
   made = omega arith;
-  fits = Fits-end limits pass.seen prepared.work.by prepared.work.command prepared.work.now prepared.place false reply is.at (inr due.0) (still_marked pass.seen prepared.work.by reply due.1);
-  since = omega (arith, is.at);
-  names_all = still_names (take prepared.place pass.seen) (length pass.seen) reply due.1;
+  fits = Fits-end limits pass.seen work.by work.command work.now (length pass.seen) false reply refl (inr due.0) (settled_marked (cursor pass.seen) pass.seen work.by reply due.1);
+  since = omega arith;
+  names_all = settled_names (cursor pass.seen) (take (length pass.seen) pass.seen) (length pass.seen) reply (below (take_all (length pass.seen) pass.seen (omega arith))) due.1;
 }
   where
-    due : IsReady limits pass.seen prepared.work.now prepared.work.command (readies.Answered reply)
-    due = subst (IsReady limits pass.seen prepared.work.now prepared.work.command) answered is.is_ready
+    below : take (length pass.seen) pass.seen ≡ pass.seen → cursor (take (length pass.seen) (take (length pass.seen) pass.seen)) ≤ cursor pass.seen
+    below whole = let fewer = cursor_take (length pass.seen) (take (length pass.seen) pass.seen) in let same = ap cursor whole in omega (arith, fewer, same)
 
-longer : (old new : History) → IsPrefix old new → length old ≤ length new
+pub longer : (old new : History) → IsPrefix old new → length old ≤ length new
 longer old new begins = let whole = ap length begins.1 in omega (arith, whole, length-append old begins.0)
 
 -- prepared on what one take found, and concluded
@@ -88,3 +90,20 @@ Applies-concluded limits old mid new work outcome begins took concludes =
       since = omega (arith, low, concludes.since);
       names_all = NamesAll-since (take outcome.place new.seen) (length old.seen) (length mid.seen) outcome.reply low concludes.names_all;
     }
+
+-- what was refused on what one take found
+pub Applies-refused : (limits : Limits) (old new : PassView) (work : Work) (r : Refusal) → IsPrefix old.seen new.seen → new ≡ record old { seen = new.seen; taken = old.taken ++ length new.seen ∷ [] }
+    → Answers limits new.seen work.now work.command (replies.Refused r) → Applies limits old new work (record { place = length new.seen; own = false; reply = replies.Refused r })
+Applies-refused limits old new work r begins took fits = Applies-concluded limits old new new work (record { place = length new.seen; own = false; reply = replies.Refused r }) begins took (record {
+  of = refl;
+  worth = refl;
+  seen = ([], append-nil new.seen);
+  more = [];
+  few = omega arith;
+  taken = sym (append-nil new.taken);
+  last = record { found = new.seen; begins = IsPrefix-refl new.seen; before = old.taken; last = ap (λ (p : PassView). p.taken) took; appends = Appends-none limits new.seen work.by work.command (length new.seen) (replies.Refused r) };
+  made = omega arith;
+  fits = Fits-end limits new.seen work.by work.command work.now (length new.seen) false (replies.Refused r) refl fits (still_marked new.seen work.by (replies.Refused r) (refused_still r));
+  since = omega arith;
+  names_all = still_names (take (length new.seen) new.seen) (length new.seen) (replies.Refused r) (refused_still r);
+})

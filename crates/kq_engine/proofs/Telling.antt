@@ -1,5 +1,6 @@
--- Which replies tell of a merge: that to a merge alone.
-use Rattle.std.proofs.Common.{◌≡◌, ◌≤◌, ◌+◌, ℕ, Bool, true, false, cond, List, [], ◌∷◌, length, nat_lt, Option, Some, None, sym, subst, arith}
+-- Which replies tell of a merge or a fold: those to merges and folds alone.
+use Rattle.std.proofs.Common.{◌≡◌, ◌≤◌, ◌+◌, ℕ, Bool, true, false, cond, List, [], ◌∷◌, ◌++◌, length, take, drop, nat_lt, length-append, take-append-drop, Option, Some, None, Ok, Err, inl, inr, ap, sym, ◌∙◌, subst, arith}
+use Rattle.std.proofs.lemmas.List.{take-take}
 use Rattle.kq_value.specs.declared.schema.Field.{Field}
 use Rattle.kq_value.specs.Schema.{same_fields}
 use Rattle.kq_model.specs.declared.event.By.{By}
@@ -7,46 +8,61 @@ use Rattle.kq_model.specs.declared.event.Commit.{Commit}
 use Rattle.kq_model.specs.declared.event.Commit.TheVariants as commits
 use Rattle.kq_model.specs.declared.limits.Limits.{Limits}
 use Rattle.kq_model.specs.declared.table.Table.{Table}
-use Rattle.kq_model.specs.History.{History, Log, Numbered, tables, table_named, table_numbered}
+use Rattle.kq_model.specs.History.{History, Log, Numbered, Viewed, cursor, log, is_view, tables, table_named, table_numbered, view_count}
 use Rattle.kq_model.specs.Tagged.{least_tagged}
 use Rattle.kq_command.specs.declared.columns.Column.{Column}
 use Rattle.kq_command.specs.declared.columns.Identifier.{Identifier}
 use Rattle.kq_command.specs.declared.command.Change.{Change}
-use Rattle.kq_command.specs.declared.command.Change.TheVariants.{CreateTable, AlterMerge, Ingest}
+use Rattle.kq_command.specs.declared.command.Change.TheVariants.{CreateTable, AlterMerge, Ingest, CreateView}
 use Rattle.kq_command.specs.declared.command.Command.{Command}
 use Rattle.kq_command.specs.declared.command.Command.TheVariants as commands
+use Rattle.kq_command.specs.declared.command.Show.{Show}
+use Rattle.kq_command.specs.declared.command.Show.TheVariants.{View, Extents, Journal}
 use Rattle.kq_command.specs.declared.ingestion.Ingestion.{Ingestion}
 use Rattle.kq_command.specs.Columns.{schema_of}
 use Rattle.kq_command.specs.Widening.{first_clash, new_columns}
 use Rattle.kq_ingest.specs.declared.fault.IngestFault.{IngestFault}
 use Rattle.kq_ingest.specs.Ingestion.{first_fault}
+use Rattle.kq_model.specs.declared.answer.Answer.{Answer}
 use Rattle.kq_model.specs.declared.batch.Batch.{Batch}
+use Rattle.kq_bind_expression.specs.Verdicts.{Verdict}
+use Rattle.kq_command.specs.declared.definition.NewView.{NewView}
+use Rattle.kq_model.proofs.Histories.{log-append}
+use Rattle.kq_plan.specs.Plans.{Planned}
+use Rattle.kq_query.specs.Answers.{refusal_by}
+use Rattle.kq_query.specs.Printed.{PrintsAnswer}
 use Rattle.kq_reply.specs.declared.refusal.Refusal.{Refusal}
 use Rattle.kq_reply.specs.declared.refusal.Refusal.TheVariants as refusals
 use Rattle.kq_reply.specs.declared.reply.Reply.{Reply}
 use Rattle.kq_reply.specs.declared.reply.Reply.TheVariants as replies
-use Rattle.kq_engine.specs.Due.{Due, Says, Commits, IsDueByLog, bad_tags, barring_tags, body_due, clash_due, counted, ingest_due, lacking_due, named_due, own_batch, refused, refusal_of, reply_to, table_due, unless_tagged, values_due, widening_due}
+use Rattle.kq_engine.specs.Due.{Due, Says, Commits, IsBoundDue, IsCounted, IsDueByLog, IsNewDue, IsPlannedDue, IsViewDue, MakesView, stood_due, view_named, bad_tags, barring_tags, body_due, clash_due, counted, ingest_due, lacking_due, made_due, named_due, own_batch, refused, refusal_of, reply_to, table_due, unless_tagged, values_due, widening_due}
 use Rattle.kq_engine.specs.Fits.{Makes}
-use Rattle.kq_engine.specs.Merges.{IsMarked, IsStill, NamesAll}
+use Rattle.kq_engine.specs.Folds.{view_number}
+use Rattle.kq_engine.specs.Merges.{IsMarked, IsSettled, IsStill, NamesAll}
+use Rattle.kq_engine.specs.Shows.{AnswersShow, ShowsExtents, ShowsView}
 
 -- ---- a reply that tells of none
 
-still_by : (reply other : Reply) → reply ≡ other → IsStill other → IsStill reply
+pub still_by : (reply other : Reply) → reply ≡ other → IsStill other → IsStill reply
 still_by reply other is still = subst IsStill (sym is) still
 
 pub refused_still : (r : Refusal) → IsStill (replies.Refused r)
-refused_still r = λ extents e. cc
+refused_still r = record { no_merge = λ extents e. cc; no_fold = λ at e. cc }
 
 pub skipped_still : (cursor : ℕ) → IsStill (replies.Skipped cursor)
-skipped_still cursor = λ extents e. cc
+skipped_still cursor = record { no_merge = λ extents e. cc; no_fold = λ at e. cc }
+
+rows_still : (text : List ℕ) → IsStill (replies.Rows text)
+rows_still text = record { no_merge = λ extents e. cc; no_fold = λ at e. cc }
 
 kept_still : (cursor : ℕ) → IsStill (replies.Kept cursor)
-kept_still cursor = λ extents e. cc
+kept_still cursor = record { no_merge = λ extents e. cc; no_fold = λ at e. cc }
 
 reply_to-still : (c : Commit) (cursor : ℕ) → IsStill (reply_to c cursor)
-reply_to-still (commits.CreateTable name schema) cursor = λ extents e. cc
-reply_to-still (commits.AlterMerge table columns) cursor = λ extents e. cc
-reply_to-still (commits.Ingest batches failures) cursor = λ extents e. cc
+reply_to-still (commits.CreateTable name schema) cursor = record { no_merge = λ extents e. cc; no_fold = λ at e. cc }
+reply_to-still (commits.CreateView view) cursor = record { no_merge = λ extents e. cc; no_fold = λ at e. cc }
+reply_to-still (commits.AlterMerge table columns) cursor = record { no_merge = λ extents e. cc; no_fold = λ at e. cc }
+reply_to-still (commits.Ingest batches failures) cursor = record { no_merge = λ extents e. cc; no_fold = λ at e. cc }
 
 -- the reply to a commit
 pub Makes-still : (limits : Limits) (l : Log) (asked : Command) (reply : Reply) (c : Commit) → Makes limits l asked reply c → IsStill reply
@@ -54,21 +70,76 @@ Makes-still limits l (commands.Query query) reply c makes = absurd makes
 Makes-still limits l (commands.Show show) reply c makes = absurd makes
 Makes-still limits l (commands.Change change) reply c makes = still_by reply (reply_to c (length l + 1)) makes.1 (reply_to-still c (length l + 1))
 Makes-still limits l (commands.Merge table) reply c makes = absurd makes
+Makes-still limits l (commands.Fold view) reply c makes = absurd makes
 Makes-still limits l commands.Unbuilt reply c makes = absurd makes
 
 -- ---- what it need not meet
 
 pub still_marked : (h : History) (mark : By) (reply : Reply) → IsStill reply → IsMarked h mark reply
-still_marked h mark reply still = λ extents e. absurd (still extents e)
+still_marked h mark reply still = λ extents e. absurd (still.no_merge extents e)
 
 pub still_names : (h : History) (from : ℕ) (reply : Reply) → IsStill reply → NamesAll h from reply
-still_names h from reply still = λ extents e. absurd (still extents e)
+still_names h from reply still = record { merged = λ extents e. absurd (still.no_merge extents e); folded = λ at e. absurd (still.no_fold at e) }
+
+folded_same : (a b : ℕ) → replies.Folded a ≡ replies.Folded b → a ≡ b
+folded_same a b e = cc
+
+folded_merged : (at extents : ℕ) → replies.Folded at ≡ replies.Merged extents → ⊥
+folded_merged at extents e = cc
+
+-- a fold that is told without an event is told up to the least cursor at least
+pub settled_marked : (least : ℕ) (h : History) (mark : By) (reply : Reply) → IsSettled least reply → IsMarked h mark reply
+settled_marked least h mark reply (inl still) = still_marked h mark reply still
+settled_marked least h mark reply (inr told) = λ extents e. absurd (folded_merged told.0 extents (sym told.1 ∙ e))
+
+pub settled_names : (least : ℕ) (h : History) (from : ℕ) (reply : Reply) → cursor (take from h) ≤ least → IsSettled least reply → NamesAll h from reply
+settled_names least h from reply below (inl still) = still_names h from reply still
+settled_names least h from reply below (inr told) = record {
+  merged = λ extents e. absurd (folded_merged told.0 extents (sym told.1 ∙ e));
+  folded = λ at e. let same = folded_same told.0 at (sym told.1 ∙ e) in let past = told.2 in omega (arith, same, past, below);
+}
+
+pub settled_less : (less least : ℕ) (reply : Reply) → less ≤ least → IsSettled least reply → IsSettled less reply
+settled_less less least reply below (inl still) = inl still
+settled_less less least reply below (inr told) = let past = told.2 in inr (told.0, told.1, omega (arith, past, below))
+
+-- ---- cursors of beginnings
+
+cursor_first : (h more : History) → cursor h ≤ cursor (h ++ more)
+cursor_first h more = let longer = ap length (log-append h more) ∙ length-append (log h) (log more) in omega (arith, longer)
+
+pub cursor_take : (n : ℕ) (h : History) → cursor (take n h) ≤ cursor h
+cursor_take n h = subst (λ (g : History). cursor (take n h) ≤ cursor g) (take-append-drop n h) (cursor_first (take n h) (drop n h))
+
+pub cursor_earlier : (n m : ℕ) (h : History) → n ≤ m → cursor (take n h) ≤ cursor (take m h)
+cursor_earlier n m h earlier = subst (λ (g : History). cursor g ≤ cursor (take m h)) (take-take n m h earlier) (cursor_take n (take m h))
 
 -- what was picked no earlier than at one place wasn't picked before an earlier one
 pub NamesAll-since : (h : History) (from later : ℕ) (reply : Reply) → from ≤ later → NamesAll h later reply → NamesAll h from reply
-NamesAll-since h from later reply before names = λ extents e.
-    let m = names extents e in
-    record { before = m.before; by = m.by; table = m.table; old = m.old; new = m.new; last = m.last; at = m.at; since = omega (arith, before, m.since); within = m.within; all = m.all }
+NamesAll-since h from later reply before names = record {
+  merged = λ extents e.
+      let m = names.merged extents e in
+      record { before = m.before; by = m.by; table = m.table; old = m.old; new = m.new; last = m.last; at = m.at; since = omega (arith, before, m.since); within = m.within; all = m.all };
+  folded = λ at e. let past = names.folded at e in let fewer = cursor_earlier from later h before in omega (arith, past, fewer);
+}
+
+-- ---- shows
+
+pub printed_still : (IsSo : Answer → Type 0) (reply : Reply) → PrintsAnswer IsSo reply → IsStill reply
+printed_still IsSo reply printed = still_by reply (replies.Rows printed.text) printed.is (rows_still printed.text)
+
+extents_still : (h : History) (table : Identifier) (found : Option Numbered) (reply : Reply) → ShowsExtents h table found reply → IsStill reply
+extents_still h table None reply is = still_by reply (replies.Refused (refusals.Unknown table.at)) is (refused_still (refusals.Unknown table.at))
+extents_still h table (Some found) reply printed = printed_still _ reply printed
+
+view_still : (h : History) (view : Identifier) (found : Option ℕ) (reply : Reply) → ShowsView h view found reply → IsStill reply
+view_still h view None reply is = still_by reply (replies.Refused (refusals.Unknown view.at)) is (refused_still (refusals.Unknown view.at))
+view_still h view (Some number) reply printed = printed_still _ reply printed
+
+pub show_still : (h : History) (show : Show) (reply : Reply) → AnswersShow h show reply → IsStill reply
+show_still h (View view) reply answers = view_still h view (view_number h view) reply answers
+show_still h (Extents table) reply answers = extents_still h table (table_numbered table.text (tables (log h))) reply answers
+show_still h Journal reply answers = printed_still _ reply answers
 
 -- ---- changes
 
@@ -87,7 +158,8 @@ named_quiet : (limits : Limits) (l : Log) (name : Identifier) (schema : List Fie
 named_quiet limits l name schema (Some t) = quiet_if (same_fields t.schema schema) (Says (replies.Kept t.made)) (refused (refusals.Exists name.at)) (kept_still t.made) (refused_still (refusals.Exists name.at))
 named_quiet limits l name schema None =
     let made = commits.CreateTable name.text schema in
-    quiet_if (nat_lt (length (tables l)) limits.tables) (counted limits l made) (refused (refusals.Full limits.tables)) (counted_quiet limits l made) (refused_still (refusals.Full limits.tables))
+    quiet_if (is_view name.text l) (refused (refusals.Exists name.at)) (made_due limits l name schema) (refused_still (refusals.Exists name.at))
+    (quiet_if (nat_lt (length (tables l)) limits.tables) (counted limits l made) (refused (refusals.Full limits.tables)) (counted_quiet limits l made) (refused_still (refusals.Full limits.tables)))
 
 table_quiet : (limits : Limits) (l : Log) (name : Identifier) (schema : List Field) → IsQuiet (table_due limits l name schema)
 table_quiet limits l name schema =
@@ -125,10 +197,46 @@ ingest_quiet limits l i None = refused_still (refusals.Unknown i.table.at)
 ingest_quiet limits l i (Some found) =
     values_quiet (bad_tags i.properties) _ (body_quiet limits l (own_batch found i) (barring_tags i.properties) (first_fault found.table.schema i.properties.ignore_first limits.batch i.body))
 
+stood_quiet : (view : NewView) (v : Viewed) → IsQuiet (stood_due view v)
+stood_quiet view v = quiet_if view.unless_there (Says (replies.Kept v.made)) (refused (refusals.Exists view.name.at)) (kept_still v.made) (refused_still (refusals.Exists view.name.at))
+
+quiet_by : (due other : Due) → due ≡ other → IsQuiet other → IsQuiet due
+quiet_by due other is quiet = subst IsQuiet (sym is) quiet
+
+quiet_refusal : (due : Due) (r : Refusal) → due ≡ refused r → IsQuiet due
+quiet_refusal due r is = quiet_by due (refused r) is (refused_still r)
+
+makes_quiet : (l : Log) (view : NewView) (number : ℕ) (p : Planned) (due : Due) → MakesView l view number p due → IsQuiet due
+makes_quiet l view number p (Says reply) makes = absurd makes
+makes_quiet l view number p (Commits c) makes = tt
+
+counts_quiet : (limits : Limits) (l : Log) (view : NewView) (number : ℕ) (p : Planned) (few room : Bool) (due : Due) → IsCounted limits l view number p few room due → IsQuiet due
+counts_quiet limits l view number p false room due is = quiet_refusal due (refusals.Full limits.views) is
+counts_quiet limits l view number p true false due is = quiet_refusal due (refusals.Full limits.commits) is
+counts_quiet limits l view number p true true due is = makes_quiet l view number p due is
+
+new_quiet : (limits : Limits) (l : Log) (view : NewView) (number : ℕ) (p : Planned) (o : Option Table) (due : Due) → IsNewDue limits l view number p o due → IsQuiet due
+new_quiet limits l view number p (Some t) due is = quiet_refusal due (refusals.Exists view.name.at) is
+new_quiet limits l view number p None due is = counts_quiet limits l view number p (nat_lt (view_count l) limits.views) (nat_lt (length l) limits.commits) due is
+
+planned_quiet : (limits : Limits) (l : Log) (view : NewView) (number : ℕ) (p : Planned) (o : Option Viewed) (due : Due) → IsPlannedDue limits l view number p o due → IsQuiet due
+planned_quiet limits l view number p (Some v) due is = quiet_by due (stood_due view v) is (stood_quiet view v)
+planned_quiet limits l view number p None due is = new_quiet limits l view number p (table_named view.name.text (tables l)) due is
+
+bound_quiet : (limits : Limits) (l : Log) (view : NewView) (table : Numbered) (v : Verdict Planned) (due : Due) → IsBoundDue limits l view table v due → IsQuiet due
+bound_quiet limits l view table (Err fault) due is = quiet_refusal due (refusal_by fault) is
+bound_quiet limits l view table (Ok p) due (inl formed) = planned_quiet limits l view table.number p (view_named view.name.text l) due formed.due_so
+bound_quiet limits l view table (Ok p) due (inr unformed) = quiet_refusal due (refusals.BadView unformed.at) unformed.is
+
+view_quiet : (limits : Limits) (l : Log) (view : NewView) (o : Option Numbered) (due : Due) → IsViewDue limits l view o due → IsQuiet due
+view_quiet limits l view None due is = quiet_refusal due (refusals.Unknown view.table.at) is
+view_quiet limits l view (Some found) due is = bound_quiet limits l view found is.0 due is.2
+
 change_quiet : (limits : Limits) (l : Log) (change : Change) (due : Due) → IsDueByLog limits l change due → IsQuiet due
 change_quiet limits l (CreateTable name columns) due is = subst IsQuiet (sym is.1) (table_quiet limits l name (schema_of columns))
 change_quiet limits l (AlterMerge name columns) due is = subst IsQuiet (sym is) (widening_quiet limits l name columns (table_numbered name.text (tables l)))
 change_quiet limits l (Ingest i) due is = subst IsQuiet (sym is) (ingest_quiet limits l i (table_numbered i.table.text (tables l)))
+change_quiet limits l (CreateView view) due is = view_quiet limits l view (table_numbered view.table.text (tables l)) due is
 
 pub change_still : (limits : Limits) (l : Log) (change : Change) (reply : Reply) → IsDueByLog limits l change (Says reply) → IsStill reply
 change_still limits l change reply is = change_quiet limits l change (Says reply) is

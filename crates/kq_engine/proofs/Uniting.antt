@@ -37,6 +37,7 @@ merges_of h (commands.Query query) m is = absurd is
 merges_of h (commands.Show show) m is = absurd is
 merges_of h (commands.Change change) m is = absurd is
 merges_of h (commands.Merge table) m is = record { name = table; is = refl; of = is }
+merges_of h (commands.Fold view) m is = absurd is
 merges_of h commands.Unbuilt m is = absurd is
 
 pub merging_good : (h : History) (command : Command) (m : Merging) → IsMergingFor h command m → IsGoodText command
@@ -77,6 +78,9 @@ told_merged old new by name m number still at appended =
       count = refl;
     })
 
+no_fold : (extents to : ℕ) → replies.Merged extents ≡ replies.Folded to → ⊥
+no_fold extents to e = cc
+
 -- the merge of what was picked at a place was made
 pub Acts-merge : (limits : Limits) (old new : History) (work : Work) (at : ℕ) (m : Merging) (outcome : Outcome) → at ≤ length old → IsMergingFor (take at old) work.command m → PutsMerge old new work.by m outcome → Acts limits old new work at outcome
 Acts-merge limits old new work at m outcome within is puts = subst (Acts limits old new work at) (sym puts.is) (refl, inr tended)
@@ -102,17 +106,20 @@ Acts-merge limits old new work at m outcome within is puts = subst (Acts limits 
       tends = subst (λ (c : Command). TendsMerge old c reply m.table m.old) (sym merges.is) (record { found = still.found; named = still.named; same = merging.table ∙ sym still.same; told = refl });
       granted = λ r e. cc;
       answers = inr (subst (λ (c : Command). IsDue limits new work.now c reply) (sym merges.is) (told_merged old new work.by merges.name m found.number still merging.table puts.appended));
-      names_all = λ extents e. record {
-        before = old;
-        by = work.by;
-        table = m.table;
-        old = m.old;
-        new = 1 + made_in old;
-        last = puts.appended;
-        at = at;
-        since = omega arith;
-        within = within;
-        all = merging.all ∙ ap (λ (t : ℕ). item_ids (picked (take at old) t)) (sym merging.table);
+      names_all = record {
+        merged = λ extents e. record {
+          before = old;
+          by = work.by;
+          table = m.table;
+          old = m.old;
+          new = 1 + made_in old;
+          last = puts.appended;
+          at = at;
+          since = omega arith;
+          within = within;
+          all = merging.all ∙ ap (λ (t : ℕ). item_ids (picked (take at old) t)) (sym merging.table);
+        };
+        folded = λ to e. absurd (no_fold (length m.old) to e);
       };
       appended = puts.appended;
     }

@@ -1,6 +1,6 @@
 -- Where preparing a command takes memory.
 use Rattle.std.proofs.Common.{◌≡◌, ◌+◌, ℕ, ℤ, Bool, true, false, cond, List, [], ◌∷◌, length, nat_lt, Option, Some, None, refl, ap, sym, subst, arith}
-use Rattle.std.specs.Option.{option_map}
+use Rattle.std.specs.Option.{option_map, option_or}
 use Rattle.std.proofs.lemmas.Bool.{false≢true}
 use Rattle.kq_value.specs.declared.schema.Field.{Field}
 use Rattle.kq_value.specs.Schema.{same_fields}
@@ -8,13 +8,13 @@ use Rattle.kq_model.specs.declared.event.Commit.{Commit}
 use Rattle.kq_model.specs.declared.event.Commit.TheVariants as commits
 use Rattle.kq_model.specs.declared.limits.Limits.{Limits}
 use Rattle.kq_model.specs.declared.table.Table.{Table}
-use Rattle.kq_model.specs.History.{History, Log, Numbered, log, tables, table_named, table_numbered}
+use Rattle.kq_model.specs.History.{History, Log, Numbered, log, tables, table_named, table_numbered, is_view}
 use Rattle.kq_catalog.specs.declared.merging.Merging.{Merging}
 use Rattle.kq_command.specs.declared.columns.Column.{Column}
 use Rattle.kq_command.specs.declared.columns.Identifier.{Identifier}
-use Rattle.kq_command.specs.declared.command.Change.TheVariants.{CreateTable, AlterMerge, Ingest}
+use Rattle.kq_command.specs.declared.command.Change.TheVariants.{CreateTable, AlterMerge, Ingest, CreateView}
 use Rattle.kq_command.specs.declared.command.Command.{Command}
-use Rattle.kq_command.specs.declared.command.Command.TheVariants.{Query, Show, Change, Merge, Unbuilt}
+use Rattle.kq_command.specs.declared.command.Command.TheVariants.{Query, Show, Change, Merge, Unbuilt, Fold}
 use Rattle.kq_command.specs.declared.ingestion.Ingestion.{Ingestion}
 use Rattle.kq_command.specs.declared.command.Show.{Show as Showing}
 use Rattle.kq_command.specs.declared.command.Show.TheVariants as shows
@@ -22,11 +22,14 @@ use Rattle.kq_command.specs.Columns.{schema_of}
 use Rattle.kq_command.specs.Widening.{first_clash, new_columns}
 use Rattle.kq_reply.specs.declared.refusal.Refusal.TheVariants as refusals
 use Rattle.kq_reply.specs.declared.reply.Reply.TheVariants as replies
-use Rattle.kq_engine.specs.Due.{Due, Says, Commits, IsDueByText, clash_due, counted, ingest_due, lacking_due, named_due, refused, repeated_place, widening_due}
+use Rattle.kq_bind_supported.specs.Unsupported.{unsupported_query}
+use Rattle.kq_command.specs.declared.definition.NewView.{NewView}
+use Rattle.kq_engine.specs.Folds.{FoldsNamed, view_number}
+use Rattle.kq_engine.specs.Due.{Due, Says, Commits, IsDueByText, IsViewDue, tree_in, clash_due, counted, ingest_due, lacking_due, made_due, named_due, refused, repeated_place, widening_due}
 use Rattle.kq_engine.specs.Fits.{IsDue}
-use Rattle.kq_engine.specs.Found.{Gains, IsCommitDue, Stands, TakesMemory, TakesToFind, TakesToShow, is_prepared_outside}
+use Rattle.kq_engine.specs.Found.{Gains, IsCommitDue, LagsBehind, Stands, TakesMemory, TakesToFind, TakesToShow, is_prepared_outside}
 use Rattle.kq_engine.specs.Merges.{IsMergingFor, MergesNamed}
-use Rattle.kq_engine.specs.Shows.{ShowsExtents, AnswersShow}
+use Rattle.kq_engine.specs.Shows.{ShowsExtents, ShowsView, AnswersShow}
 use Rattle.kq_engine.proofs.Dues.{Due-is_good, table_due-unnamed}
 use Rattle.kq_engine.proofs.Fit.{no_commit}
 use Rattle.kq_engine.proofs.Gaining.{widening-gains}
@@ -43,6 +46,11 @@ columns_wanted limits l name columns (Some found) c due = λ none.
     let empty : length (schema_of (new_columns found.table.schema columns)) ≡ 0 = ap (λ (cs : List Column). length (schema_of cs)) none in
     omega (arith, some, empty)
 
+-- a body was bound only over a table that stands
+view_wanted : (limits : Limits) (l : Log) (view : NewView) (o : Option Numbered) (c : Commit) → IsViewDue limits l view o (Commits c) → Stands o
+view_wanted limits l view None c due = absurd (no_commit c (refusals.Unknown view.table.at) due)
+view_wanted limits l view (Some found) c due = tt
+
 -- a commit that is due takes memory
 pub commit_finds : (limits : Limits) (h : History) (command : Command) (c : Commit) → IsCommitDue limits (log h) command c → TakesToFind h command
 commit_finds limits h (Query query) c due = absurd due
@@ -51,6 +59,8 @@ commit_finds limits h (Change (CreateTable name columns)) c due = table_due-unna
 commit_finds limits h (Change (AlterMerge name columns)) c due = columns_wanted limits (log h) name columns (table_numbered name.text (tables (log h))) c (Due-is_good limits (log h) (AlterMerge name columns) c due.0).1
 commit_finds limits h (Change (Ingest i)) c due = rows_wanted limits (log h) i (table_numbered i.table.text (tables (log h))) c (Due-is_good limits (log h) (Ingest i) c due.0).1
 commit_finds limits h (Merge table) c due = absurd due
+commit_finds limits h (Change (CreateView view)) c due = view_wanted limits (log h) view (table_numbered view.table.text (tables (log h))) c (Due-is_good limits (log h) (CreateView view) c due.0).1
+commit_finds limits h (Fold view) c due = absurd due
 commit_finds limits h Unbuilt c due = absurd due
 
 -- ---- want of memory isn't due to `.create table` or `.alter-merge table`
@@ -81,7 +91,8 @@ not_named : (limits : Limits) (l : Log) (name : Identifier) (schema : List Field
 not_named limits l name schema (Some t) e = neither (same_fields t.schema schema) (Says (replies.Kept t.made)) (refused (refusals.Exists name.at)) (not_kept t.made) (not_exists name.at) e
 not_named limits l name schema None e =
     let made = commits.CreateTable name.text schema in
-    neither (nat_lt (length (tables l)) limits.tables) (counted limits l made) (refused (refusals.Full limits.tables)) (not_counted limits l made) (not_full limits.tables) e
+    neither (is_view name.text l) (refused (refusals.Exists name.at)) (made_due limits l name schema) (not_exists name.at)
+    (neither (nat_lt (length (tables l)) limits.tables) (counted limits l made) (refused (refusals.Full limits.tables)) (not_counted limits l made) (not_full limits.tables)) e
 
 not_table : (limits : Limits) (l : Log) (name : Identifier) (columns : List Column) (place : Option ℕ) → IsDueByText limits l (CreateTable name columns) (option_map (λ (at : ℕ). refusals.Mistyped at) place) memory_due → ⊥
 not_table limits l name columns (Some at) due = cc
@@ -120,7 +131,26 @@ extents_find : (h : History) (table : Identifier) (o : Option Numbered) → Show
 extents_find h table None due = cc
 extents_find h table (Some found) due = tt
 
+view_finds : (h : History) (view : Identifier) (o : Option ℕ) → ShowsView h view o (replies.Refused refusals.Memory) → Stands o
+view_finds h view None due = cc
+view_finds h view (Some number) due = tt
+
+folds_find : (h : History) (view : Identifier) (o : Option ℕ) → FoldsNamed h view o (replies.Refused refusals.Memory) → LagsBehind h o
+folds_find h view None due = cc
+folds_find h view (Some number) due = absurd due
+
+views_find : (limits : Limits) (l : Log) (view : NewView) (o : Option Numbered) → IsViewDue limits l view o memory_due → Stands o
+views_find limits l view None due = cc
+views_find limits l view (Some found) due = tt
+
+-- what a view's text is refused for isn't want of memory
+text_find : (limits : Limits) (l : Log) (view : NewView) (o p : Option ℕ) → IsDueByText limits l (CreateView view) (option_or (option_map (λ (at : ℕ). refusals.Unsupported at) o) (option_map (λ (at : ℕ). refusals.Mistyped at) p)) memory_due → Stands (table_numbered view.table.text (tables l))
+text_find limits l view (Some at) p due = cc
+text_find limits l view None (Some at) due = cc
+text_find limits l view None None due = views_find limits l view (table_numbered view.table.text (tables l)) due
+
 show_finds : (h : History) (asked : Showing) → AnswersShow h asked (replies.Refused refusals.Memory) → TakesToShow h asked
+show_finds h (shows.View view) due = view_finds h view (view_number h view) due
 show_finds h (shows.Extents table) due = extents_find h table (table_numbered table.text (tables (log h))) due
 show_finds h shows.Journal due = tt
 
@@ -143,6 +173,8 @@ due_finds limits h now (Change (CreateTable name columns)) due = absurd (not_tab
 due_finds limits h now (Change (AlterMerge name columns)) due = absurd (not_columns limits (log h) name columns (repeated_place columns) due)
 due_finds limits h now (Change (Ingest i)) due = ingest_finds limits (log h) i i.properties.repeated due
 due_finds limits h now (Merge table) due = named_finds h table (table_numbered table.text (tables (log h))) due
+due_finds limits h now (Change (CreateView view)) due = text_find limits (log h) view (unsupported_query view.body.text (tree_in view)) view.repeated due
+due_finds limits h now (Fold view) due = folds_find h view (view_number h view) due
 due_finds limits h now Unbuilt due = cc
 
 -- what is found outside the lock takes the memory of preparing
@@ -153,6 +185,8 @@ found_wants h (Change (CreateTable name columns)) outside takes = absurd (false�
 found_wants h (Change (AlterMerge name columns)) outside takes = absurd (false≢true outside)
 found_wants h (Change (Ingest i)) outside takes = takes
 found_wants h (Merge table) outside takes = takes
+found_wants h (Change (CreateView view)) outside takes = absurd (false≢true outside)
+found_wants h (Fold view) outside takes = takes
 found_wants h Unbuilt outside takes = takes
 
 -- what is merged takes the memory of finding it
@@ -161,6 +195,7 @@ merging_finds h (Query query) m is = absurd is
 merging_finds h (Show show) m is = absurd is
 merging_finds h (Change change) m is = absurd is
 merging_finds h (Merge table) m is = subst Stands (sym is.named) tt
+merging_finds h (Fold view) m is = absurd is
 merging_finds h Unbuilt m is = absurd is
 
 -- and is prepared outside the lock
@@ -169,4 +204,5 @@ merging_outside h (Query query) m is = absurd is
 merging_outside h (Show show) m is = absurd is
 merging_outside h (Change change) m is = absurd is
 merging_outside h (Merge table) m is = refl
+merging_outside h (Fold view) m is = absurd is
 merging_outside h Unbuilt m is = absurd is

@@ -1,6 +1,6 @@
 -- What a change of the catalogue is due after a log: a reply alone, or a commit with its reply.
-use Rattle.std.specs.Prelude.{◌≡◌, ◌<◌, ◌+◌, ℕ, List, [], ◌∷◌, length, map, min, Option, Some, None, option_and_then, slice_get, nat_lt, if◌then◌else◌, unwrap_or}
-use Rattle.std.specs.Option.{option_map}
+use Rattle.std.specs.Prelude.{◌≡◌, ◌<◌, ◌+◌, ℕ, Bool, List, [], ◌∷◌, length, map, min, Option, Some, None, option_and_then, slice_get, nat_lt, if◌then◌else◌, unwrap_or, ◌⊎◌, true, false, Ok, Err}
+use Rattle.std.specs.Option.{option_map, option_or}
 use Rattle.kq_value.specs.declared.schema.Field.{Field}
 use Rattle.kq_value.specs.Schema.{same_fields}
 use Rattle.kq_model.specs.declared.batch.Batch.{Batch}
@@ -8,14 +8,14 @@ use Rattle.kq_model.specs.declared.event.Commit.{Commit}
 use Rattle.kq_model.specs.declared.event.Commit.TheVariants as commits
 use Rattle.kq_model.specs.declared.limits.Limits.{Limits}
 use Rattle.kq_model.specs.declared.table.Table.{Table}
-use Rattle.kq_model.specs.History.{Log, tables, table_named, Numbered, table_numbered}
+use Rattle.kq_model.specs.History.{Log, tables, table_named, is_view, Numbered, table_numbered, History, Viewed, log, names_of_views, view_count, views}
 use Rattle.kq_model.specs.Lawful.{own_rows}
 use Rattle.kq_model.specs.Names.{repeat_of}
 use Rattle.kq_model.specs.Tagged.{ingested_by, least_tagged}
 use Rattle.kq_command.specs.declared.columns.Column.{Column}
 use Rattle.kq_command.specs.declared.columns.Identifier.{Identifier}
 use Rattle.kq_command.specs.declared.command.Change.{Change}
-use Rattle.kq_command.specs.declared.command.Change.TheVariants.{CreateTable, AlterMerge, Ingest}
+use Rattle.kq_command.specs.declared.command.Change.TheVariants.{CreateTable, AlterMerge, Ingest, CreateView}
 use Rattle.kq_command.specs.declared.ingestion.Ingestion.{Ingestion}
 use Rattle.kq_command.specs.declared.ingestion.Properties.{Properties}
 use Rattle.kq_command.specs.declared.ingestion.Quoted.{Quoted}
@@ -29,6 +29,22 @@ use Rattle.kq_reply.specs.declared.refusal.Refusal.{Refusal}
 use Rattle.kq_reply.specs.declared.refusal.Refusal.TheVariants as refusals
 use Rattle.kq_reply.specs.declared.reply.Reply.{Reply}
 use Rattle.kq_reply.specs.declared.reply.Reply.TheVariants as replies
+use Rattle.kq_bind.specs.Queries.{query_bound}
+use Rattle.kq_bind_body.specs.declared.fault.ViewFault.{ViewFault}
+use Rattle.kq_bind_body.specs.declared.fault.ViewFault.TheVariants as unbound
+use Rattle.kq_bind_expression.specs.Verdicts.{Verdict}
+use Rattle.kq_bind_supported.specs.Unsupported.{unsupported_query}
+use Rattle.kq_body.specs.Bodies.{IsFault, is_body}
+use Rattle.kq_body.specs.Parts.{query_parts}
+use Rattle.kq_command.specs.declared.definition.NewView.{NewView}
+use Rattle.kq_grouping.specs.Bodies.{IsBody}
+use Rattle.kq_grammar.specs.TabularViews.{query_of}
+use Rattle.kq_grammar.specs.Trees.{QueryTree}
+use Rattle.kq_model.specs.declared.view.View.{View}
+use Rattle.kq_names.specs.Places.{place_of}
+use Rattle.kq_plan.specs.Plans.{Planned, planned_of}
+use Rattle.kq_query.specs.Answers.{refusal_by}
+use Rattle.kq_query.specs.Worlds.{known_in}
 
 -- what is due: a reply alone, or a commit
 pub data Due : Type 0 where
@@ -41,6 +57,7 @@ refused r = Says (replies.Refused r)
 -- the reply to a commit, by its cursor
 abbrev pub reply_to : Commit → ℕ → Reply
 reply_to (commits.CreateTable name schema) cursor = replies.Done cursor
+reply_to (commits.CreateView view) cursor = replies.Done cursor
 reply_to (commits.AlterMerge table columns) cursor = replies.Done cursor
 reply_to (commits.Ingest batches failures) cursor = replies.Ingested cursor (own_rows batches)
 
@@ -54,11 +71,21 @@ counted limits l c = if nat_lt (length l) limits.commits then Commits c else ref
 abbrev pub repeated_place : List Column → Option ℕ
 repeated_place columns = option_map (λ (c : Column). c.name.at) (option_and_then (slice_get columns) (repeat_of (column_names columns)))
 
--- the refusal of the text, whatever the log: a repeated column, or a repeated property
+abbrev pub tree_in : NewView → QueryTree
+tree_in view = query_of view.body.tree
+
+-- what the body has that isn't supported comes first, then a repeated property
+abbrev pub view_refusal : NewView → Option Refusal
+view_refusal view =
+    option_or (option_map (λ (at : ℕ). refusals.Unsupported at) (unsupported_query view.body.text (tree_in view)))
+    (option_map (λ (at : ℕ). refusals.Mistyped at) view.repeated)
+
+-- the refusal of the text, whatever the log: a repeated column, a repeated property, or what isn't supported in the body of a view
 abbrev pub text_refusal : Change → Option Refusal
 text_refusal (CreateTable name columns) = option_map (λ (at : ℕ). refusals.Mistyped at) (repeated_place columns)
 text_refusal (AlterMerge name columns) = option_map (λ (at : ℕ). refusals.Mistyped at) (repeated_place columns)
 text_refusal (Ingest ingestion) = option_map (λ (at : ℕ). refusals.Mistyped at) ingestion.properties.repeated
+text_refusal (CreateView view) = view_refusal view
 
 -- ---- `.create table`
 
@@ -71,9 +98,13 @@ abbrev pub made_due : Limits → Log → Identifier → List Field → Due
 made_due limits l name schema =
     if nat_lt (length (tables l)) limits.tables then counted limits l (commits.CreateTable name.text schema) else refused (refusals.Full limits.tables)
 
+-- where no table has the name, one is made unless a view has it
+abbrev pub unnamed_due : Limits → Log → Identifier → List Field → Bool → Due
+unnamed_due limits l name schema viewed = if viewed then refused (refusals.Exists name.at) else made_due limits l name schema
+
 abbrev pub named_due : Limits → Log → Identifier → List Field → Option Table → Due
 named_due limits l name schema (Some t) = kept_due name schema t
-named_due limits l name schema None = made_due limits l name schema
+named_due limits l name schema None = unnamed_due limits l name schema (is_view name.text l)
 
 -- too many columns are refused, whether the name stands or not
 abbrev pub table_due : Limits → Log → Identifier → List Field → Due
@@ -171,6 +202,98 @@ abbrev pub ingest_due : Limits → Log → Ingestion → Option Numbered → Due
 ingest_due limits l i None = refused (refusals.Unknown i.table.at)
 ingest_due limits l i (Some found) = rows_due limits l i found
 
+-- ---- `.create materialized-view`: its body
+
+-- what the body is bound to over the names of the log, which are those of each history with the log
+pub record IsBoundTo (l : Log) (view : NewView) (verdict : Verdict Planned) : Type 0 where
+  pub history : History
+  pub logged : log history ≡ l
+  pub bound : query_bound view.body.text (known_in history) (tree_in view) ≡ verdict
+
+-- the refusal of a fault, which may be want of memory
+abbrev pub refusal_for : ViewFault → Refusal
+refusal_for (unbound.Unsupported at) = refusals.Unsupported at
+refusal_for (unbound.Unknown at) = refusals.Unknown at
+refusal_for (unbound.Mistyped at) = refusals.Mistyped at
+refusal_for (unbound.BadView at) = refusals.BadView at
+refusal_for unbound.Memory = refusals.Memory
+
+-- ---- `.create materialized-view`: its view
+
+-- the cursor above which a view covers records: 0 with backfill, and else that of its own commit
+abbrev pub base_for : Bool → ℕ → ℕ
+base_for true made = 0
+base_for false made = made
+
+-- a view of the table of this number, with this plan as its body
+pub record IsViewMade (l : Log) (view : NewView) (number : ℕ) (p : Planned) (v : View) : Type 0 where
+  pub name : v.name ≡ view.name.text
+  pub source : v.source ≡ number
+  pub body : planned_of v.body ≡ p
+  pub text : v.text ≡ view.query
+  pub base : v.base ≡ base_for view.backfill (length l + 1)
+
+abbrev pub MakesView : Log → NewView → ℕ → Planned → Due → Type 0
+MakesView l view source p (Commits (commits.CreateView v)) = IsViewMade l view source p v
+MakesView l view source p _ = ⊥
+
+-- with so many views it is made, or refused by their limit
+abbrev pub IsCounted : Limits → Log → NewView → ℕ → Planned → (few room : Bool) → Due → Type 0
+IsCounted limits l view source p false room due = due ≡ refused (refusals.Full limits.views)
+IsCounted limits l view source p true false due = due ≡ refused (refusals.Full limits.commits)
+IsCounted limits l view source p true true due = MakesView l view source p due
+
+-- nothing has the name
+abbrev pub IsUntakenDue : Limits → Log → NewView → ℕ → Planned → Due → Type 0
+IsUntakenDue limits l view source p due = IsCounted limits l view source p (nat_lt (view_count l) limits.views) (nat_lt (length l) limits.commits) due
+
+-- the name isn't a view's: it is a table's, or new
+abbrev pub IsNewDue : Limits → Log → NewView → ℕ → Planned → Option Table → Due → Type 0
+IsNewDue limits l view source p (Some taken) due = due ≡ refused (refusals.Exists view.name.at)
+IsNewDue limits l view source p None due = IsUntakenDue limits l view source p due
+
+abbrev pub IsUnviewedDue : Limits → Log → NewView → ℕ → Planned → Due → Type 0
+IsUnviewedDue limits l view source p due = IsNewDue limits l view source p (table_named view.name.text (tables l)) due
+
+-- the view of a name
+abbrev pub view_named : List ℕ → Log → Option Viewed
+view_named name l = option_and_then (slice_get (views l)) (place_of name (names_of_views (views l)))
+
+-- a view that stands is kept where that is asked, whatever it is
+abbrev pub stood_due : NewView → Viewed → Due
+stood_due view v = if view.unless_there then Says (replies.Kept v.made) else refused (refusals.Exists view.name.at)
+
+abbrev pub IsPlannedDue : Limits → Log → NewView → ℕ → Planned → Option Viewed → Due → Type 0
+IsPlannedDue limits l view source p (Some v) due = due ≡ stood_due view v
+IsPlannedDue limits l view source p None due = IsUnviewedDue limits l view source p due
+
+abbrev pub IsNamedDue : Limits → Log → NewView → ℕ → Planned → Due → Type 0
+IsNamedDue limits l view source p due = IsPlannedDue limits l view source p (view_named view.name.text l) due
+
+-- ---- `.create materialized-view`
+
+-- a body that binds has the form of one over the table, as its plan then has too
+pub record IsFormed (limits : Limits) (l : Log) (view : NewView) (table : Numbered) (p : Planned) (due : Due) : Type 0 where
+  pub parts : is_body (query_parts view.body.text view.table.text (tree_in view)) ≡ true
+  pub body : IsBody table.table.name table.table.schema p
+  pub due_so : IsNamedDue limits l view table.number p due
+
+-- or it leaves the form at this place
+pub record IsUnformed (view : NewView) (due : Due) : Type 0 where
+  pub at : ℕ
+  pub leaves : IsFault (query_parts view.body.text view.table.text (tree_in view)) at
+  pub is : due ≡ refused (refusals.BadView at)
+
+-- the binder's first fault comes before that of the form
+abbrev pub IsBoundDue : Limits → Log → NewView → Numbered → Verdict Planned → Due → Type 0
+IsBoundDue limits l view table (Err fault) due = due ≡ refused (refusal_by fault)
+IsBoundDue limits l view table (Ok p) due = IsFormed limits l view table p due ⊎ IsUnformed view due
+
+-- a view of a good text over the table of the name
+abbrev pub IsViewDue : Limits → Log → NewView → Option Numbered → Due → Type 0
+IsViewDue limits l view None due = due ≡ refused (refusals.Unknown view.table.at)
+IsViewDue limits l view (Some table) due = (verdict : Verdict Planned) × IsBoundTo l view verdict × IsBoundDue limits l view table verdict due
+
 -- ---- all
 
 -- what a change of a good text is due; a table has one column or more
@@ -178,6 +301,7 @@ abbrev pub IsDueByLog : Limits → Log → Change → Due → Type 0
 IsDueByLog limits l (CreateTable name columns) due = (0 < length columns) × (due ≡ table_due limits l name (schema_of columns))
 IsDueByLog limits l (AlterMerge name columns) due = due ≡ widening_due limits l name columns (table_numbered name.text (tables l))
 IsDueByLog limits l (Ingest ingestion) due = due ≡ ingest_due limits l ingestion (table_numbered ingestion.table.text (tables l))
+IsDueByLog limits l (CreateView view) due = IsViewDue limits l view (table_numbered view.table.text (tables l)) due
 
 abbrev pub IsDueByText : Limits → Log → Change → Option Refusal → Due → Type 0
 IsDueByText limits l change (Some r) due = due ≡ refused r

@@ -5,9 +5,9 @@ use Rattle.kq_model.specs.declared.event.Commit.{Commit}
 use Rattle.kq_model.specs.declared.event.Operation.{Operation}
 use Rattle.kq_model.specs.declared.event.Operation.TheVariants as operation
 use Rattle.kq_model.specs.declared.limits.Limits.{Limits}
-use Rattle.kq_model.specs.History.{History, Log, CommitAt, log, commits_at}
+use Rattle.kq_model.specs.History.{History, Log, CommitAt, cursor, log, commits_at}
 use Rattle.kq_command.specs.declared.command.Command.{Command}
-use Rattle.kq_command.specs.declared.command.Command.TheVariants.{Query, Show, Change, Merge, Unbuilt}
+use Rattle.kq_command.specs.declared.command.Command.TheVariants.{Query, Show, Change, Merge, Unbuilt, Fold}
 use Rattle.kq_grammar.specs.TabularViews.{query_of}
 use Rattle.kq_query.specs.Answers.{AnswersQuery}
 use Rattle.kq_reply.specs.declared.refusal.Refusal.{Refusal}
@@ -17,15 +17,17 @@ use Rattle.kq_reply.specs.declared.reply.Reply.TheVariants as replies
 use Rattle.kq_engine.specs.declared.work.Outcome.{Outcome}
 use Rattle.kq_engine.specs.declared.work.Work.{Work}
 use Rattle.kq_engine.specs.Due.{Accept}
-use Rattle.kq_engine.specs.Merges.{AnswersMerge, IsMarked, IsStill, NamesAll, TendsMerge}
+use Rattle.kq_engine.specs.Folds.{AnswersFold, TendsFold}
+use Rattle.kq_engine.specs.Merges.{AnswersMerge, IsMarked, IsSettled, NamesAll, TendsMerge}
 use Rattle.kq_engine.specs.Shows.{AnswersShow}
 
--- the reply that is due at a moment without a commit; to a merge over a history with its own event
+-- the reply that is due at a moment without a commit; to a merge or a fold over a history with its own event
 abbrev pub IsDue : Limits → History → ℤ → Command → Reply → Type 0
 IsDue limits h now (Query query) reply = AnswersQuery h now query.text (query_of query.tree) reply
 IsDue limits h now (Show show) reply = AnswersShow h show reply
 IsDue limits h now (Change change) reply = Accept limits (log h) change reply None
 IsDue limits h now (Merge table) reply = AnswersMerge h table reply
+IsDue limits h now (Fold view) reply = AnswersFold h view reply
 IsDue limits h now Unbuilt reply = reply ≡ replies.Refused refusals.Unbuilt
 
 -- the log admits this reply to the command with this commit, so it is a change
@@ -34,6 +36,7 @@ Makes limits l (Query query) reply c = ⊥
 Makes limits l (Show show) reply c = ⊥
 Makes limits l (Change change) reply c = Accept limits l change reply (Some c)
 Makes limits l (Merge table) reply c = ⊥
+Makes limits l (Fold view) reply c = ⊥
 Makes limits l Unbuilt reply c = ⊥
 
 -- a reply without a commit: the one that is due, or want of memory
@@ -61,17 +64,17 @@ abbrev pub event_by : By → Option Operation → History
 event_by mark None = []
 event_by mark (Some made) = record { by = mark; operation = made } ∷ []
 
--- the operation that a command without a commit may make beside its reply: no commit, and no command folds yet
+-- the operation that a command without a commit may make beside its reply: a fold or a merge
 abbrev pub Tends : Limits → History → Command → Reply → Operation → Type 0
 Tends limits old command reply (operation.Commit c) = ⊥
-Tends limits old command reply (operation.Fold view to) = ⊥
+Tends limits old command reply (operation.Fold view to) = TendsFold old command reply view to
 Tends limits old command reply (operation.Merge table ids new) = TendsMerge old command reply table ids
 
 -- the reply is no refusal
 abbrev pub IsGranted : Reply → Type 0
 IsGranted reply = (r : Refusal) → reply ≢ replies.Refused r
 
--- such an operation was appended beside the reply that is due with it, which is no refusal; a merge is of all that were picked since the work began
+-- such an operation was appended beside the reply that is due with it, which is no refusal; a merge is of all that were picked since the work began, and a fold up to all that stood there
 pub record Tended (limits : Limits) (old new : History) (work : Work) (began : ℕ) (reply : Reply) : Type 0 where
   pub made : Operation
   pub tends : Tends limits old work.command reply made
@@ -83,7 +86,7 @@ pub record Tended (limits : Limits) (old new : History) (work : Work) (began : �
 -- with `own` the command's commit was appended; without it the history stayed, or it gained the one operation of another kind that is the command's
 abbrev pub Did : Limits → History → History → Work → ℕ → Bool → Reply → Type 0
 Did limits old new work began true reply = (c : Commit) × (new ≡ old ++ record { by = work.by; operation = operation.Commit c } ∷ []) × Makes limits (log old) work.command reply c
-Did limits old new work began false reply = ((new ≡ old) × Answers limits old work.now work.command reply × IsStill reply) ⊎ Tended limits old new work began reply
+Did limits old new work began false reply = ((new ≡ old) × Answers limits old work.now work.command reply × IsSettled (cursor (take began old)) reply) ⊎ Tended limits old new work began reply
 
 -- at most the command's own event, at the new end of the history
 abbrev pub Acts : Limits → History → History → Work → ℕ → Outcome → Type 0
@@ -111,7 +114,7 @@ pub record Appends (limits : Limits) (old new : History) (mark : By) (command : 
   pub appended : new ≡ old ++ event_by mark made
   pub commits : commits_at new ≡ commits_at old ++ own_commit outcome.own outcome.place mark
 
--- one step of the engine: at most one event is appended, the outcome fits the history, and a merge is of all that were picked since the work began
+-- one step of the engine: at most one event is appended, the outcome fits the history, and a merge is of all that were picked since the work began, a fold up to all that stood there
 pub record Advances (limits : Limits) (old new : History) (work : Work) (began : ℕ) (outcome : Outcome) : Type 0 where
   pub appends : Appends limits old new work.by work.command outcome
   pub fits : Fits limits new work.by work.command work.now outcome.place outcome.own outcome.reply

@@ -5,16 +5,16 @@ use Rattle.kq_model.specs.declared.batch.Batch.{Batch}
 use Rattle.kq_model.specs.declared.event.Commit.{Commit}
 use Rattle.kq_model.specs.declared.limits.Limits.{Limits}
 use Rattle.kq_model.specs.declared.table.Table.{Table}
-use Rattle.kq_model.specs.History.{History, Log, log, tables, table_named, Numbered, table_numbered}
+use Rattle.kq_model.specs.History.{History, Log, cursor, log, mark, tables, table_named, Numbered, table_numbered}
 use Rattle.kq_model.specs.Tagged.{least_tagged}
-use Rattle.kq_catalog.specs.Intents.{commit_of}
+use Rattle.kq_catalog.specs.Intents.{Begins as IsBegun, commit_of}
 use Rattle.kq_command.specs.declared.columns.Column.{Column}
 use Rattle.kq_command.specs.declared.columns.Identifier.{Identifier}
 use Rattle.kq_command.specs.Widening.{new_columns}
 use Rattle.kq_command.specs.declared.command.Change.{Change as Changing}
-use Rattle.kq_command.specs.declared.command.Change.TheVariants.{CreateTable, AlterMerge, Ingest}
+use Rattle.kq_command.specs.declared.command.Change.TheVariants.{CreateTable, AlterMerge, Ingest, CreateView}
 use Rattle.kq_command.specs.declared.command.Command.{Command}
-use Rattle.kq_command.specs.declared.command.Command.TheVariants.{Query, Show, Change, Merge, Unbuilt}
+use Rattle.kq_command.specs.declared.command.Command.TheVariants.{Query, Show, Change, Merge, Unbuilt, Fold}
 use Rattle.kq_command.specs.declared.ingestion.Ingestion.{Ingestion}
 use Rattle.kq_command.specs.declared.command.Show.{Show as Showing}
 use Rattle.kq_command.specs.declared.command.Show.TheVariants as shows
@@ -32,7 +32,8 @@ use Rattle.kq_engine.specs.declared.work.Ready.TheVariants as readies
 use Rattle.kq_engine.specs.declared.work.Work.{Work}
 use Rattle.kq_engine.specs.Due.{Due, Says, Commits, IsChangeDue, batch_due, counted, refused, reply_to, rows_due, text_refusal, unless_tagged}
 use Rattle.kq_engine.specs.Fits.{IsDue, Makes}
-use Rattle.kq_engine.specs.Merges.{AnswersMerge, IsMergingFor, IsMergingOf, IsStill}
+use Rattle.kq_engine.specs.Folds.{AnswersFold, IsFoldingFor, IsFoldingOf, view_number}
+use Rattle.kq_engine.specs.Merges.{AnswersMerge, IsMergingFor, IsMergingOf, IsSettled}
 
 -- ---- what was found
 
@@ -41,6 +42,7 @@ abbrev pub FindsDue : (Due → Type 0) → Found → Type 0
 FindsDue IsSo (founds.Says reply) = IsSo (Says reply)
 FindsDue IsSo (founds.Commits offer) = IsSo (Commits (commit_of offer.intent))
 FindsDue IsSo (founds.Merges merging) = ⊥
+FindsDue IsSo (founds.Folds folding) = ⊥
 
 -- what was found is so due; a refusal is, or memory was wanting
 abbrev pub Finds : (Due → Type 0) → Result Found Refusal → Type 0
@@ -74,22 +76,32 @@ offer_due limits l offer = unless_tagged (barred_at l offer.unless) (counted lim
 abbrev pub IsOfferOf : Limits → Numbered → Batch → List (List ℕ) → Found → Type 0
 IsOfferOf limits table own barring (founds.Says reply) = Unit {0}
 IsOfferOf limits table own barring (founds.Merges merging) = ⊥
+IsOfferOf limits table own barring (founds.Folds folding) = ⊥
 IsOfferOf limits table own barring (founds.Commits offer) = IsReadFor table offer.unless × ((l : Log) → batch_due limits l own barring ≡ offer_due limits l offer)
 
 -- a commit that was found for an ingestion into a table: whatever the log, the ingestion is due what the offer comes to
 abbrev pub OffersRows : Limits → Ingestion → Numbered → Found → Type 0
 OffersRows limits i table (founds.Says reply) = Unit {0}
 OffersRows limits i table (founds.Merges merging) = ⊥
+OffersRows limits i table (founds.Folds folding) = ⊥
 OffersRows limits i table (founds.Commits offer) = IsReadFor table offer.unless × ((l : Log) → rows_due limits l i table ≡ offer_due limits l offer)
 
 -- the same for a table that stands under its name
 abbrev pub OffersInto : Limits → Log → Ingestion → Found → Type 0
 OffersInto limits l i found = (table : Numbered) → table_numbered i.table.text (tables l) ≡ Some table → OffersRows limits i table found
 
+-- a commit that was found is offered with the part with which its view begins
+abbrev pub OffersView : Found → Type 0
+OffersView (founds.Says reply) = Unit {0}
+OffersView (founds.Commits offer) = IsBegun offer.intent
+OffersView (founds.Merges merging) = ⊥
+OffersView (founds.Folds folding) = ⊥
+
 abbrev pub OffersChange : Limits → Log → Changing → Found → Type 0
 OffersChange limits l (CreateTable name columns) found = Unit {0}
 OffersChange limits l (AlterMerge name columns) found = Unit {0}
 OffersChange limits l (Ingest ingestion) found = OffersInto limits l ingestion found
+OffersChange limits l (CreateView view) found = OffersView found
 
 -- whether a command is prepared outside the lock, on a snapshot: what only asks is, what reads rows, and what copies records
 abbrev pub is_prepared_outside : Command → Bool
@@ -99,6 +111,8 @@ is_prepared_outside (Change (CreateTable name columns)) = false
 is_prepared_outside (Change (AlterMerge name columns)) = false
 is_prepared_outside (Change (Ingest ingestion)) = true
 is_prepared_outside (Merge table) = true
+is_prepared_outside (Change (CreateView view)) = false
+is_prepared_outside (Fold view) = true
 is_prepared_outside Unbuilt = true
 
 -- the commit is due, with its reply
@@ -110,24 +124,35 @@ IsDueTo limits l (Query query) due = ⊥
 IsDueTo limits l (Show show) due = ⊥
 IsDueTo limits l (Change change) due = IsChangeDue limits l change due
 IsDueTo limits l (Merge table) due = ⊥
+IsDueTo limits l (Fold view) due = ⊥
 IsDueTo limits l Unbuilt due = ⊥
 
--- the commit is due; and after more commits, if the command is prepared outside the lock and its rows are as they would be read, it is due what the offer comes to
+-- the commit is due, with the part of a view that it makes; and after more commits, if the command is prepared outside the lock and its rows are as they would be read, it is due what the offer comes to
 pub record IsOffered (limits : Limits) (l : Log) (command : Command) (offer : Offer) : Type 0 where
   pub due : IsCommitDue limits l command (commit_of offer.intent)
+  pub begins : IsBegun offer.intent
   pub later : is_prepared_outside command ≡ true → (more : Log) → is_as_read (l ++ more) offer.unless ≡ true → IsDueTo limits (l ++ more) command (offer_due limits (l ++ more) offer)
 
--- what was found is due to the command at a moment; no merge is told before it is made
+-- what was found is due to the command at a moment; no merge is told before it is made, and no fold but of a view that is up to the cursor
 abbrev pub IsFound : Limits → History → ℤ → Command → Found → Type 0
-IsFound limits h now command (founds.Says reply) = IsDue limits h now command reply × IsStill reply
+IsFound limits h now command (founds.Says reply) = IsDue limits h now command reply × IsSettled (cursor h) reply
 IsFound limits h now command (founds.Commits offer) = IsOffered limits (log h) command offer
 IsFound limits h now command (founds.Merges merging) = IsMergingFor h command merging
+IsFound limits h now command (founds.Folds folding) = IsFoldingFor h command folding
 
 -- the same of a merge of the table that has a name
 abbrev pub FindsMerge : History → Identifier → Found → Type 0
-FindsMerge h table (founds.Says reply) = AnswersMerge h table reply × IsStill reply
+FindsMerge h table (founds.Says reply) = AnswersMerge h table reply × IsSettled (cursor h) reply
 FindsMerge h table (founds.Commits offer) = ⊥
 FindsMerge h table (founds.Merges merging) = IsMergingOf h table merging
+FindsMerge h table (founds.Folds folding) = ⊥
+
+-- the same of a fold of the view that has a name
+abbrev pub FindsFold : History → Identifier → Found → Type 0
+FindsFold h view (founds.Says reply) = AnswersFold h view reply × IsSettled (cursor h) reply
+FindsFold h view (founds.Commits offer) = ⊥
+FindsFold h view (founds.Merges merging) = ⊥
+FindsFold h view (founds.Folds folding) = IsFoldingOf h view folding
 
 -- ---- what a snapshot tells
 
@@ -137,6 +162,7 @@ IsGoodText (Query query) = Unit {0}
 IsGoodText (Show show) = Unit {0}
 IsGoodText (Change change) = text_refusal change ≡ None
 IsGoodText (Merge table) = Unit {0}
+IsGoodText (Fold view) = Unit {0}
 IsGoodText Unbuilt = Unit {0}
 
 -- looking at the text of a change takes memory: a repeated column is looked for among more than 256
@@ -144,6 +170,7 @@ abbrev pub TakesToRead : Changing → Type 0
 TakesToRead (CreateTable name columns) = 256 < length columns
 TakesToRead (AlterMerge name columns) = 256 < length columns
 TakesToRead (Ingest ingestion) = ⊥
+TakesToRead (CreateView view) = ⊥
 
 -- the text alone is refused so, or memory was wanting to look at it
 abbrev pub RefusesText : Command → Refusal → Type 0
@@ -151,6 +178,7 @@ RefusesText (Query query) r = ⊥
 RefusesText (Show show) r = ⊥
 RefusesText (Change change) r = ((r ≡ refusals.Memory) × TakesToRead change) ⊎ (text_refusal change ≡ Some r)
 RefusesText (Merge table) r = ⊥
+RefusesText (Fold view) r = ⊥
 RefusesText Unbuilt r = ⊥
 
 -- a command of a good text that isn't prepared outside the lock
@@ -160,9 +188,10 @@ pub record IsPending (command : Command) : Type 0 where
 
 -- what a snapshot of this history told holds over it: a commit is found outside the lock alone, and want of memory is no answer
 abbrev pub IsReady : Limits → History → ℤ → Command → Ready → Type 0
-IsReady limits h now command (readies.Answered reply) = IsDue limits h now command reply × IsStill reply
+IsReady limits h now command (readies.Answered reply) = IsDue limits h now command reply × IsSettled (cursor h) reply
 IsReady limits h now command (readies.ToCommit offer) = (is_prepared_outside command ≡ true) × IsOffered limits (log h) command offer
 IsReady limits h now command (readies.ToMerge merging) = IsMergingFor h command merging
+IsReady limits h now command (readies.ToFold folding) = IsFoldingFor h command folding
 IsReady limits h now command readies.Pending = IsPending command
 
 -- prepared on a snapshot of this history
@@ -177,8 +206,8 @@ pub record Begins (limits : Limits) (h : History) (work : Work) (prepared : Prep
 
 -- ---- want of memory
 
--- a table that stands is read or written
-abbrev pub Stands : Option Numbered → Type 0
+-- a table or a view that stands is read or written
+abbrev pub Stands : {X : Type 0} → Option X → Type 0
 Stands None = ⊥
 Stands (Some found) = Unit {0}
 
@@ -188,10 +217,16 @@ Gains columns None = ⊥
 Gains columns (Some found) = new_columns found.table.schema columns ≢ []
 
 abbrev pub TakesToShow : History → Showing → Type 0
+TakesToShow h (shows.View view) = Stands (view_number h view)
 TakesToShow h (shows.Extents table) = Stands (table_numbered table.text (tables (log h)))
 TakesToShow h shows.Journal = Unit {0}
 
--- finding what the command is due on this history takes memory: to bind a query does; to make or widen a table does, and not to keep one
+-- a view is folded that isn't up to the cursor
+abbrev pub LagsBehind : History → Option ℕ → Type 0
+LagsBehind h None = ⊥
+LagsBehind h (Some number) = mark h number ≢ cursor h
+
+-- finding what the command is due on this history takes memory: to bind a query or a view's body does; to make or widen a table does, and not to keep one
 abbrev pub TakesToFind : History → Command → Type 0
 TakesToFind h (Query query) = Unit {0}
 TakesToFind h (Show show) = TakesToShow h show
@@ -199,6 +234,8 @@ TakesToFind h (Change (CreateTable name columns)) = table_named name.text (table
 TakesToFind h (Change (AlterMerge name columns)) = Gains columns (table_numbered name.text (tables (log h)))
 TakesToFind h (Change (Ingest ingestion)) = Stands (table_numbered ingestion.table.text (tables (log h)))
 TakesToFind h (Merge table) = Stands (table_numbered table.text (tables (log h)))
+TakesToFind h (Change (CreateView view)) = Stands (table_numbered view.table.text (tables (log h)))
+TakesToFind h (Fold view) = LagsBehind h (view_number h view)
 TakesToFind h Unbuilt = ⊥
 
 -- preparing the command on this history takes memory: to look at its text does, or to find what it is due outside the lock
@@ -209,6 +246,8 @@ TakesMemory h (Change (CreateTable name columns)) = TakesToRead (CreateTable nam
 TakesMemory h (Change (AlterMerge name columns)) = TakesToRead (AlterMerge name columns)
 TakesMemory h (Change (Ingest ingestion)) = TakesToFind h (Change (Ingest ingestion))
 TakesMemory h (Merge table) = TakesToFind h (Merge table)
+TakesMemory h (Change (CreateView view)) = TakesToRead (CreateView view)
+TakesMemory h (Fold view) = TakesToFind h (Fold view)
 TakesMemory h Unbuilt = ⊥
 
 -- deciding a command on this history, of which a snapshot told nothing, takes memory
@@ -216,16 +255,17 @@ pub record TakesToDecide (h : History) (command : Command) : Type 0 where
   pub pending : IsPending command
   pub takes : TakesToFind h command
 
--- finishing on this history takes memory: a commit or a merge that was found is put in, or its rows are read again, or extents are picked again
+-- finishing on this history takes memory: a commit that no tag bars is put in, or its rows are read again; a merge is put in, or extents are picked again; a fold is put in of a view that isn't materialized as far
 abbrev pub TakesToFinish : History → Command → Ready → Type 0
 TakesToFinish h command (readies.Answered reply) = ⊥
-TakesToFinish h command (readies.ToCommit offer) = Unit {0}
+TakesToFinish h command (readies.ToCommit offer) = is_as_read (log h) offer.unless ≡ true → barred_at (log h) offer.unless ≡ None
 TakesToFinish h command (readies.ToMerge merging) = Unit {0}
+TakesToFinish h command (readies.ToFold folding) = mark h folding.view < folding.to
 TakesToFinish h command readies.Pending = TakesToDecide h command
 
 -- an outcome that tells of want of memory has its place where finishing takes some
-abbrev pub WantsToFinish : History → Prepared → Outcome → Type 0
-WantsToFinish h prepared outcome = outcome.reply ≡ replies.Refused refusals.Memory → TakesToFinish (take outcome.place h) prepared.work.command prepared.ready
+abbrev pub WantsToFinish : History → Command → Ready → Outcome → Type 0
+WantsToFinish h command ready outcome = outcome.reply ≡ replies.Refused refusals.Memory → TakesToFinish (take outcome.place h) command ready
 
 -- preparing the command on the history where it began takes memory, or deciding it on that of its outcome does
 abbrev pub MayWantMemory : (began decided : History) → Command → Type 0

@@ -1,9 +1,9 @@
 -- When a merge is told, what is merged, and what a merge makes.
-use Rattle.std.specs.Prelude.{◌≡◌, ◌≢◌, ◌<◌, ◌≤◌, ◌+◌, ℕ, false, List, [], ◌∷◌, ◌++◌, length, take, Option, Some, None}
+use Rattle.std.specs.Prelude.{◌≡◌, ◌≢◌, ◌<◌, ◌≤◌, ◌+◌, ◌⊎◌, ℕ, false, List, [], ◌∷◌, ◌++◌, length, take, Option, Some, None}
 use Rattle.kq_model.specs.declared.event.By.{By}
 use Rattle.kq_model.specs.declared.event.Operation.{Operation}
 use Rattle.kq_model.specs.declared.event.Operation.TheVariants as operation
-use Rattle.kq_model.specs.History.{History, Numbered, log, tables, table_numbered}
+use Rattle.kq_model.specs.History.{History, Numbered, cursor, log, tables, table_numbered}
 use Rattle.kq_model.specs.Records.{item_ids, made_in, picked}
 use Rattle.kq_catalog.specs.declared.merging.Merging.{Merging}
 use Rattle.kq_catalog.specs.Merges.{IsUnion, merge_event}
@@ -59,17 +59,23 @@ pub record HasMergedAll (h : History) (from : ℕ) : Type 0 where
   pub within : at ≤ length before
   pub all : old ≡ item_ids (picked (take at before) table)
 
--- the reply tells of no merge
-abbrev pub IsStill : Reply → Type 0
-IsStill reply = (extents : ℕ) → reply ≢ replies.Merged extents
+-- the reply tells of no merge and of no fold
+pub record IsStill (reply : Reply) : Type 0 where
+  pub no_merge : (extents : ℕ) → reply ≢ replies.Merged extents
+  pub no_fold : (at : ℕ) → reply ≢ replies.Folded at
+
+-- or of a fold alone that is told up to this cursor or a later one
+abbrev pub IsSettled : ℕ → Reply → Type 0
+IsSettled least reply = IsStill reply ⊎ ((at : ℕ) × (reply ≡ replies.Folded at) × (least ≤ at))
 
 -- a merge that is told has the mark
 abbrev pub IsMarked : History → By → Reply → Type 0
 IsMarked h mark reply = (extents : ℕ) → reply ≡ replies.Merged extents → IsLastBy h mark
 
--- a merge that is told is one of all that were picked at a place from the given one on
-abbrev pub NamesAll : History → ℕ → Reply → Type 0
-NamesAll h from reply = (extents : ℕ) → reply ≡ replies.Merged extents → HasMergedAll h from
+-- a merge that is told is one of all that were picked at a place from the given one on, and a fold is told up to the cursor of that place or a later one
+pub record NamesAll (h : History) (from : ℕ) (reply : Reply) : Type 0 where
+  pub merged : (extents : ℕ) → reply ≡ replies.Merged extents → HasMergedAll h from
+  pub folded : (at : ℕ) → reply ≡ replies.Folded at → cursor (take from h) ≤ at
 
 -- ---- what is found
 

@@ -70,7 +70,7 @@ pub record IsBare (t : Told) : Type 0 where
   pub not_own : t.outcome.own ≡ false
   pub place : t.outcome.place ≡ t.began
 
--- an outcome fits the history, for the work of its mark's first Begin, which found the place `began`; a merge that it tells is of all that were picked since the work began, one that no Finish asked for is bare, and want of memory is told only where the command takes memory
+-- an outcome fits the history, for the work of its mark's first Begin, which found the place `began`; a merge that it tells is of all that were picked since the work began and a fold up to all that stood there, one that no Finish asked for is bare, and want of memory is told only where the command takes memory
 pub record Tells (limits : Limits) (m : Moment) (t : Told) : Type 0 where
   pub work : Work
   pub asked : work_of t.by m.steps ≡ Some work

@@ -6,13 +6,14 @@ ghost use Rattle.kq_command.specs.declared.command.Change.TheVariants as changes
 ghost use Rattle.kq_command.specs.declared.command.Command.TheVariants as commands;
 ghost use Rattle.kq_command.specs.Columns.{schema_of};
 ghost use Rattle.kq_command.specs.Widening.{new_columns};
-ghost use Rattle.kq_engine.specs.Due.{IsDueByLog, batch_due, kept_due, lacking_due, made_due, refusal_of as refusal_by, rows_due, table_due};
+ghost use Rattle.kq_engine.specs.Due.{IsDueByLog, batch_due, kept_due, lacking_due, made_due, refusal_of as refusal_by, rows_due, table_due, unnamed_due};
 ghost use Rattle.kq_engine.specs.Found.{Finds, Gains, IsOfferOf, OffersChange, OffersInto, OffersRows, Stands, TakesToFind, is_as_read as is_as_read_by};
 ghost use Rattle.kq_model.specs.declared.event.Commit.TheVariants as commits;
-ghost use Rattle.kq_model.specs.History.{log, tables, table_named, table_numbered};
+ghost use Rattle.kq_model.specs.History.{log, tables, table_named, table_numbered, is_view};
 ghost use Rattle.kq_reply.specs.declared.refusal.Refusal.TheVariants as refusals;
 ghost use Rattle.kq_value.specs.Typed.{HasTypes};
 
+use crate::new_views::create_view;
 use crate::tags::{Labels, barring_cursor, read_labels};
 use crate::work::{Barring, Found, Offer};
 use kq_catalog::{Intent, Part, Snapshot};
@@ -34,6 +35,7 @@ pub(crate) fn prepare(snapshot: &Snapshot, change: &Change) -> Result<Found, Ref
         Change::CreateTable { name, columns } => create(snapshot, name, columns),
         Change::AlterMerge { name, columns } => alter(snapshot, name, columns),
         Change::Ingest(ingestion) => ingest(snapshot, ingestion),
+        Change::CreateView(view) => create_view(snapshot, view),
     }
 }
 
@@ -93,6 +95,17 @@ fn keep(name: &Identifier, columns: &Columns, table: &Table) -> Result<Found, Re
 
 // No table has the name.
 fn make(snapshot: &Snapshot, name: &Identifier, columns: &Columns) -> Result<Found, Refusal>
+    ensures { Finds (λ due. due ≡ unnamed_due snapshot.now.limits (log snapshot.now.history) name.now (schema_of columns.now) (is_view name.now.text (log snapshot.now.history))) result }
+{
+    if snapshot.is_view(&name.text) {
+        Err(Refusal::Exists { at: name.at as u64 })
+    } else {
+        make_new(snapshot, name, columns)
+    }
+}
+
+// Neither a table nor a view has the name.
+fn make_new(snapshot: &Snapshot, name: &Identifier, columns: &Columns) -> Result<Found, Refusal>
     ensures { Finds (λ due. due ≡ made_due snapshot.now.limits (log snapshot.now.history) name.now (schema_of columns.now)) result }
 {
     let limits = snapshot.limits();

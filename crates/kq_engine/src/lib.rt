@@ -6,7 +6,9 @@
 #![tactic(auto)]
 
 mod changes;
+mod folds;
 mod merges;
+mod new_views;
 mod on_catalog;
 mod on_snapshot;
 mod query;
@@ -20,4 +22,4 @@ pub use on_catalog::finish;
 pub use on_snapshot::begin;
 pub use run::{Step, Told, Trace, run_steps};
 pub use shared::{Pass, Shared};
-pub use work::{Barring, Offer, Outcome, Prepared, Ready, Work};
+pub use work::{Barring, Folding, Offer, Outcome, Prepared, Ready, Work};

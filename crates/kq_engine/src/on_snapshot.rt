@@ -4,7 +4,7 @@ ghost use Rattle.std.specs.Option.{option_map};
 ghost use Rattle.std.specs.List.{slice_get};
 ghost use Rattle.kq_command.specs.declared.columns.Column.{Column as Described};
 ghost use Rattle.kq_command.specs.declared.command.Command.TheVariants as commands;
-ghost use Rattle.kq_engine.specs.Due.{repeated_place as place_of_repeat, text_refusal};
+ghost use Rattle.kq_engine.specs.Due.{repeated_place as place_of_repeat, text_refusal, view_refusal};
 ghost use Rattle.kq_engine.specs.Fits.{Answers, FitsNow};
 ghost use Rattle.kq_engine.specs.Found.{Begins, IsFound, IsGoodText, IsReady, RefusesText, TakesMemory, TakesToFind, is_prepared_outside as is_prepared_outside_by};
 ghost use Rattle.kq_model.specs.History.{History};
@@ -13,18 +13,21 @@ ghost use Rattle.kq_reply.specs.declared.reply.Reply.TheVariants as replies;
 ghost use Rattle.kq_value.specs.Typed.{IsMoment};
 
 use crate::changes::prepare;
+use crate::folds::find_fold;
 use crate::merges::find_merge;
 use crate::query::answer;
 use crate::shows::show;
 use crate::work::{Found, Prepared, Ready, Work};
+use kq_bind_supported::unsupported_in_query;
 use kq_catalog::Snapshot;
-use kq_command::{Change, Column, Columns, Command};
+use kq_command::{Change, Column, Columns, Command, NewView};
 use kq_reply::Refusal;
 use kq_value::Memory;
 
 /// Prepares the work on the snapshot. A refusal is what the snapshot's history gives, or want of memory where the
 /// command takes some here; its place is the snapshot's. Queries and shows are answered here, the rows of an ingestion
-/// are read here and laid out in columns, and the extents of a merge are picked here and made into one.
+/// are read here and laid out in columns, the extents of a merge are picked here and made into one, and a fold's rows are
+/// gathered here and put to the view's part.
 pub fn begin(snapshot: &Snapshot, work: Work) -> Result<Prepared, Refusal>
     ensures prepared { IfOk result (Begins snapshot.now.limits snapshot.now.history work) }
     ensures refused { IfErr result (λ r. FitsNow snapshot.now.limits snapshot.now.history work.by work.command work.now false (replies.Refused r)) }
@@ -38,7 +41,8 @@ pub fn begin(snapshot: &Snapshot, work: Work) -> Result<Prepared, Refusal>
     })
 }
 
-fn look(snapshot: &Snapshot, command: &Command, now: i64) -> Result<Ready, Refusal>
+/// What the snapshot tells of the command at the moment.
+pub(crate) fn look(snapshot: &Snapshot, command: &Command, now: i64) -> Result<Ready, Refusal>
     requires { IsMoment now }
     ensures ready { IfOk result (IsReady snapshot.now.limits snapshot.now.history now command.now) }
     ensures refused { IfErr result (λ r. Answers snapshot.now.limits snapshot.now.history now command.now (replies.Refused r)) }
@@ -52,6 +56,7 @@ fn look(snapshot: &Snapshot, command: &Command, now: i64) -> Result<Ready, Refus
         Found::Says(reply) => Ok(Ready::Answered(reply)),
         Found::Commits(offer) => Ok(Ready::ToCommit(offer)),
         Found::Merges(merging) => Ok(Ready::ToMerge(merging)),
+        Found::Folds(folding) => Ok(Ready::ToFold(folding)),
     }
 }
 
@@ -63,7 +68,11 @@ fn check_text(command: &Command) -> Result<(), Refusal>
 {
     match command {
         Command::Change(change) => check_change(change),
-        Command::Query(_) | Command::Show(_) | Command::Merge(_) | Command::Unbuilt => Ok(()),
+        Command::Query(_)
+        | Command::Show(_)
+        | Command::Fold(_)
+        | Command::Merge(_)
+        | Command::Unbuilt => Ok(()),
     }
 }
 
@@ -77,8 +86,23 @@ fn check_change(change: &Change) -> Result<(), Refusal>
             repeated_place(columns)?
         }
         Change::Ingest(ingestion) => ingestion.properties.repeated,
+        Change::CreateView(view) => return check_view(view),
     };
     match repeated {
+        Some(at) => Err(Refusal::Mistyped { at: at as u64 }),
+        None => Ok(()),
+    }
+}
+
+fn check_view(view: &NewView) -> Result<(), Refusal>
+    ensures good { OnOk result (view_refusal view.now ≡ None) }
+    ensures refused { IfErr result (λ r. view_refusal view.now ≡ Some r) }
+{
+    let body = &view.body;
+    if let Some(at) = unsupported_in_query(body.text.as_str(), &body.tree) {
+        return Err(Refusal::Unsupported { at: at as u64 });
+    }
+    match view.repeated {
         Some(at) => Err(Refusal::Mistyped { at: at as u64 }),
         None => Ok(()),
     }
@@ -89,7 +113,9 @@ fn is_prepared_outside(command: &Command) -> bool
 {
     !matches!(
         command,
-        Command::Change(Change::CreateTable { .. } | Change::AlterMerge { .. })
+        Command::Change(
+            Change::CreateTable { .. } | Change::AlterMerge { .. } | Change::CreateView(_)
+        )
     )
 }
 
@@ -106,6 +132,7 @@ pub(crate) fn find(snapshot: &Snapshot, command: &Command, now: i64) -> Result<F
         Command::Show(asked) => Ok(Found::Says(show(snapshot, asked)?)),
         Command::Change(change) => prepare(snapshot, change),
         Command::Merge(table) => find_merge(snapshot, table),
+        Command::Fold(view) => find_fold(snapshot, view),
         Command::Unbuilt => Err(Refusal::Unbuilt),
     }
 }

@@ -1,20 +1,22 @@
 // The engine behind a lock.
-ghost use Rattle.std.specs.Prelude.{◌≡◌, ◌+◌, ◌-◌, ◌≤◌, ◌++◌, ◌∷◌, [], false, length, IfOk};
+ghost use Rattle.std.specs.Prelude.{◌≡◌, ◌+◌, ◌-◌, ◌≤◌, ◌++◌, ◌∷◌, [], false, length, IfErr, IfOk};
 ghost use mathlib.Core.List.{IsPrefix};
 ghost use Rattle.kq_turn.specs.Histories.{IsLongerOf};
 ghost use Rattle.kq_model.specs.History.{cursor};
 ghost use Rattle.kq_catalog.specs.Seen.{hist};
 ghost use Rattle.kq_value.specs.Typed.{IsMoment};
 ghost use Rattle.kq_reply.specs.declared.reply.Reply.TheVariants as replies;
-ghost use Rattle.kq_engine.specs.Found.{IsPrepared};
+ghost use Rattle.kq_engine.specs.Fits.{Answers};
+ghost use Rattle.kq_engine.specs.Folds.{is_fold as is_fold_of_view};
+ghost use Rattle.kq_engine.specs.Found.{IsReady};
 ghost use Rattle.kq_engine.specs.Shared.{Applies, Concludes, Finishes, IsFresh, Queries};
 
-use crate::on_catalog::{finish, told};
-use crate::on_snapshot::begin;
+use crate::on_catalog::{conclude, told};
+use crate::on_snapshot::look;
 use crate::query::answer;
-use crate::work::{Outcome, Prepared, Ready, Work};
+use crate::work::{Outcome, Ready, Work};
 use kq_catalog::{Catalog, Snapshot};
-use kq_command::Query;
+use kq_command::{Command, Query};
 use kq_model::{By, Limits};
 use kq_reply::{Refusal, Reply};
 use kq_turn::{Pass as TurnPass, Turn};
@@ -63,10 +65,11 @@ impl Model for Pass {
     ghost use Rattle.kq_engine.specs.Shared.{PassView};
     ghost use Rattle.std.specs.Coded.{codes};
     ghost use Rattle.kq_value.specs.contracts.value.Value as cell;
+    ghost use Rattle.kq_expr.specs.contracts.expr.Expr as expr;
 
     ghost Value = { PassView };
 
-    ghost coded = { Prim.hlevel (codes, cell.the_row.coded) };
+    ghost coded = { Prim.hlevel (codes, cell.the_row.coded, expr.the_row.coded) };
 
     ghost view = { λ p. record { of = p.pass.of; seen = p.pass.seen; worth = p.pass.worth; made = p.pass.made; taken = p.pass.taken } };
 
@@ -163,15 +166,12 @@ impl Shared {
 
     /// Answers a command: it is prepared on a snapshot, outside the lock, and finished under it. Between the two stands
     /// the gate's `Between`. It waits.
-    pub fn apply<R: Wait, G: Gate>(&self, rt: &R, pass: &mut Pass, work: Work, gate: &G) -> Outcome
+    pub fn apply<R: Wait, G: Gate>(&self, rt: &R, pass: &mut Pass, work: &Work, gate: &G) -> Outcome
         requires { pass.old.of ≡ self.now.turn }
-        ensures { Applies self.now.limits pass.old pass.new work result }
+        ensures { Applies self.now.limits pass.old pass.new work.entry.now result }
     {
-        let Ok(snapshot) = self.snapshot(rt, pass) else {
-            return refused(pass.seen, Refusal::Memory);
-        };
-        match begin(&snapshot, work) {
-            Ok(prepared) => self.conclude(rt, pass, prepared, gate),
+        match self.prepare(rt, pass, work) {
+            Ok(ready) => self.conclude(rt, pass, work, ready, gate),
             Err(refusal) => refused(pass.seen, refusal),
         }
     }
@@ -191,47 +191,67 @@ impl Shared {
         }
     }
 
+    // Prepares the work on the catalogue as it stands.
+    fn prepare<R: Wait>(&self, rt: &R, pass: &mut Pass, work: &Work) -> Result<Ready, Refusal>
+        requires { pass.old.of ≡ self.now.turn }
+        ensures seen { IsPrefix pass.old.seen pass.new.seen }
+        ensures pass { pass.new ≡ record pass.old { seen = pass.new.seen; taken = pass.old.taken ++ length pass.new.seen ∷ [] } }
+        ensures ready { IfOk result (IsReady self.now.limits pass.new.seen work.entry.now.now work.entry.now.command) }
+        ensures refused { IfErr result (λ r. Answers self.now.limits pass.new.seen work.entry.now.now work.entry.now.command (replies.Refused r)) }
+    {
+        let snapshot = self.snapshot(rt, pass)?;
+        look(&snapshot, &work.command, work.now)
+    }
+
     // Hands out what the snapshot answered, or finishes the work, after the gate's `Between`.
     fn conclude<R: Wait, G: Gate>(
         &self,
         rt: &R,
         pass: &mut Pass,
-        prepared: Prepared,
+        work: &Work,
+        ready: Ready,
         gate: &G,
     ) -> Outcome
         requires of { pass.old.of ≡ self.now.turn }
         requires fresh { IsFresh pass.old }
-        requires prepared { IsPrepared self.now.limits pass.old.seen prepared }
-        ensures { Concludes self.now.limits pass.old pass.new prepared.work result }
+        requires ready { IsReady self.now.limits pass.old.seen work.now.now work.now.command ready }
+        ensures { Concludes self.now.limits pass.old pass.new work.entry.now result }
     {
-        let Prepared { work, place, ready } = prepared;
         match ready {
-            Ready::Answered(reply) => answered(place, reply),
+            Ready::Answered(reply) => answered(pass.seen, reply),
             ready => {
                 let By { actor, number } = work.by;
                 gate.at(Point::Between {
                     actor,
                     number,
-                    fold: false,
+                    fold: is_fold(&work.command),
                 });
-                self.finish(rt, pass, Prepared { work, place, ready })
+                self.finish(rt, pass, work, ready)
             }
         }
     }
 
     // Finishes prepared work under the lock.
-    fn finish<R: Wait>(&self, rt: &R, pass: &mut Pass, prepared: Prepared) -> Outcome
+    fn finish<R: Wait>(&self, rt: &R, pass: &mut Pass, work: &Work, ready: Ready) -> Outcome
         requires of { pass.old.of ≡ self.now.turn }
-        requires prepared { IsPrepared self.now.limits pass.old.seen prepared }
-        ensures { Finishes self.now.limits pass.old pass.new prepared.work result }
+        requires ready { IsReady self.now.limits pass.old.seen work.now.now work.now.command ready }
+        ensures { Finishes self.now.limits pass.old pass.new work.entry.now result }
     {
+        let place = pass.seen;
         let mut catalog = self.turn.take(rt, &mut pass.pass);
-        let answer = finish(&mut catalog, prepared);
+        let answer = conclude(&mut catalog, work, place, ready);
         let outcome = told(&catalog, answer);
         pass.seen = catalog.place();
         self.turn.give(&mut pass.pass, catalog);
         outcome
     }
+}
+
+// Whether the command folds a view.
+fn is_fold(command: &Command) -> bool
+    ensures { result ≡ is_fold_of_view command.now }
+{
+    matches!(command, Command::Fold(_))
 }
 
 // An answer has the place of its snapshot.

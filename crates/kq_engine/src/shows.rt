@@ -9,7 +9,7 @@ ghost use Rattle.kq_engine.specs.Shows.{AnswersShow};
 use kq_catalog::Snapshot;
 use kq_command::{Identifier, Show};
 use kq_reply::{Refusal, Reply, render};
-use kq_show::{extents_of, journal_of};
+use kq_show::{extents_of, journal_of, view_of};
 use kq_value::Memory;
 
 /// What is shown, from the snapshot alone.
@@ -19,9 +19,24 @@ pub(crate) fn show(snapshot: &Snapshot, show: &Show) -> Result<Reply, Refusal>
     ensures memory { IfErr result (λ r. r ≡ refusals.Memory → TakesToShow snapshot.now.history show.now) }
 {
     match show {
+        Show::View(view) => show_view(snapshot, view),
         Show::Extents(table) => show_extents(snapshot, table),
         Show::Journal => Ok(show_journal(snapshot)?),
     }
+}
+
+fn show_view(snapshot: &Snapshot, view: &Identifier) -> Result<Reply, Refusal>
+    ensures answer { IfOk result (AnswersShow snapshot.now.history (told.View view.now)) }
+    ensures refused { IfErr result (RefusesBy (AnswersShow snapshot.now.history (told.View view.now))) }
+    ensures memory { IfErr result (λ r. r ≡ refusals.Memory → TakesToShow snapshot.now.history (told.View view.now)) }
+{
+    let Some((number, _view)) = snapshot.view(&view.text) else {
+        return Err(Refusal::Unknown { at: view.at as u64 });
+    };
+    let answer = view_of(snapshot, number)?;
+    Ok(Reply::Rows {
+        text: render(snapshot.allocator(), &answer)?,
+    })
 }
 
 fn show_extents(snapshot: &Snapshot, table: &Identifier) -> Result<Reply, Refusal>

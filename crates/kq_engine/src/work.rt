@@ -4,6 +4,7 @@ ghost use Rattle.kq_value.specs.Typed.{IsMoment};
 use kq_catalog::{Intent, Merging};
 use kq_command::Command;
 use kq_model::By;
+use kq_parted::Parted;
 use kq_reply::Reply;
 use kq_value::Tags;
 
@@ -41,12 +42,21 @@ pub struct Offer {
     pub unless: Option<Barring>,
 }
 
-/// What is due: a reply alone, or a commit or a merge with its reply.
+/// The part of a view, which goes by its number, up to a cursor.
+#[derive(Drop)]
+pub struct Folding {
+    pub view: u32,
+    pub to: u64,
+    pub part: Parted,
+}
+
+/// What is due: a reply alone, or a commit, a merge or a fold with its reply.
 #[derive(Drop)]
 pub(crate) enum Found {
     Says(Reply),
     Commits(Offer),
     Merges(Merging),
+    Folds(Folding),
 }
 
 /// What was found on a snapshot.
@@ -58,6 +68,8 @@ pub enum Ready {
     ToCommit(Offer),
     /// The merge of the extents that were picked, which is due while the first of them is in its table.
     ToMerge(Merging),
+    /// The fold of a view, which is due while the view isn't materialized as far.
+    ToFold(Folding),
     /// Nothing: the catalogue alone tells what is due.
     Pending,
 }

@@ -10,16 +10,16 @@ use Rattle.kq_model.specs.declared.batch.Batch.{Batch}
 use Rattle.kq_model.specs.declared.limits.Limits.{Limits}
 use Rattle.kq_model.specs.declared.table.Table.{Table}
 use Rattle.kq_model.specs.declared.event.Commit.{Commit}
-use Rattle.kq_model.specs.declared.event.Commit.TheVariants.{CreateTable, AlterMerge, Ingest}
+use Rattle.kq_model.specs.declared.event.Commit.TheVariants.{CreateTable, CreateView, AlterMerge, Ingest}
 use Rattle.kq_model.specs.declared.event.Event.{Event}
 use Rattle.kq_model.specs.declared.event.Operation.{Operation}
 use Rattle.kq_model.specs.declared.event.Operation.TheVariants as operation
-use Rattle.kq_model.specs.History.{History, Log, log, cursor, tables, table_named, widened_table, commits_of}
-use Rattle.kq_model.specs.Lawful.{IsMerge, Lawful, LawfulOperation, LawfulCommit, AreLawful, AreLawfulAfter, bar_to_name, bar_to_table, bar_to_columns, bar_to_batch, own_rows}
+use Rattle.kq_model.specs.History.{History, Log, log, cursor, tables, table_named, widened_table, commits_of, views, views_by, view_count, is_view}
+use Rattle.kq_model.specs.Lawful.{IsMerge, Lawful, LawfulOperation, LawfulCommit, AreLawful, AreLawfulAfter, bar_to_name, bar_to_table, bar_to_view, bar_to_columns, bar_to_batch, own_rows}
 use Rattle.kq_model.specs.Lawful.Bar.{TooWide, TooMany, TooLong, NoCommits}
 use Rattle.kq_model.specs.Records.{records_given, given, given_by, items, items_by, item_of, items_after, extents, is_small_item, made_by, made_of, made_in, merged, ExtentItem}
 use Rattle.kq_model.proofs.Changed.{length-changed}
-use Rattle.kq_model.proofs.Histories.{log-push, tables-push}
+use Rattle.kq_model.proofs.Histories.{log-push, tables-push, views-push}
 use Rattle.kq_model.proofs.Records.{records-push, extents-push, made_in-push, given_by-one}
 
 -- what no bar means
@@ -38,47 +38,71 @@ free_columns limits l old new e =
     let tests = two_tests (nat_lt limits.columns (old + new)) (nat_lt (length l) limits.commits) TooWide NoCommits e in
     (ltb-false limits.columns (old + new) tests.0, ltb-true (length l) limits.commits tests.1)
 
--- the name is new, and a table and a commit more are within the limits
-pub record IsFree (limits : Limits) (l : Log) (found : Option Table) : Type 0 where
+-- the name is new among tables and views, and one more of its kind and a commit more are within the limits
+pub record IsFree (limits : Limits) (l : Log) (limit count : ℕ) (found : Option Table) (viewed : Bool) : Type 0 where
   pub name : found ≡ None
-  pub tables : length (tables l) < limits.tables
+  pub no_view : viewed ≡ false
+  pub room : count < limit
   pub commits : length l < limits.commits
 
-free_name : (limits : Limits) (l : Log) (found : Option Table) → bar_to_name limits l found ≡ None → IsFree limits l found
-free_name limits l (Some t) e = cc
-free_name limits l None e = by_tests (nat_lt (length (tables l)) limits.tables) (nat_lt (length l) limits.commits) refl refl e
+free_name : (limits : Limits) (l : Log) (limit count : ℕ) (found : Option Table) (viewed : Bool) → bar_to_name limits l limit count found viewed ≡ None → IsFree limits l limit count found viewed
+free_name limits l limit count (Some t) viewed e = cc
+free_name limits l limit count None true e = cc
+free_name limits l limit count None false e = by_tests (nat_lt count limit) (nat_lt (length l) limits.commits) refl refl e
   where
-    by_tests : (s t : Bool) → nat_lt (length (tables l)) limits.tables ≡ s → nat_lt (length l) limits.commits ≡ t → cond s (cond t None (Some NoCommits)) (Some TooMany) ≡ None → IsFree limits l None
-    by_tests true true p q e = record { name = refl; tables = ltb-true (length (tables l)) limits.tables p; commits = ltb-true (length l) limits.commits q }
+    by_tests : (s t : Bool) → nat_lt count limit ≡ s → nat_lt (length l) limits.commits ≡ t → cond s (cond t None (Some NoCommits)) (Some TooMany) ≡ None → IsFree limits l limit count None false
+    by_tests true true p q e = record { name = refl; no_view = refl; room = ltb-true count limit p; commits = ltb-true (length l) limits.commits q }
     by_tests true false p q e = cc
     by_tests false t p q e = cc
 
-pub free_table : (limits : Limits) (l : Log) (name : List ℕ) (schema : List Field) → bar_to_table limits l name schema ≡ None → IsFree limits l (table_named name (tables l))
+pub free_table : (limits : Limits) (l : Log) (name : List ℕ) (schema : List Field) → bar_to_table limits l name schema ≡ None
+    → IsFree limits l limits.tables (length (tables l)) (table_named name (tables l)) (is_view name l)
 free_table limits l name schema e = by_test (nat_lt limits.columns (length schema)) e
   where
-    by_test : (s : Bool) → cond s (Some TooWide) (bar_to_name limits l (table_named name (tables l))) ≡ None → IsFree limits l (table_named name (tables l))
+    Free : Type 0
+    Free = IsFree limits l limits.tables (length (tables l)) (table_named name (tables l)) (is_view name l)
+
+    by_test : (s : Bool) → cond s (Some TooWide) (bar_to_name limits l limits.tables (length (tables l)) (table_named name (tables l)) (is_view name l)) ≡ None → Free
     by_test true e = cc
-    by_test false e = free_name limits l (table_named name (tables l)) e
+    by_test false e = free_name limits l limits.tables (length (tables l)) (table_named name (tables l)) (is_view name l) e
+
+pub free_view : (limits : Limits) (l : Log) (name : List ℕ) → bar_to_view limits l name ≡ None → IsFree limits l limits.views (view_count l) (table_named name (tables l)) (is_view name l)
+free_view limits l name e = free_name limits l limits.views (view_count l) (table_named name (tables l)) (is_view name l) e
 
 -- what a lawful commit adds
 room_left : (limits : Limits) (l : Log) (c : Commit) → LawfulCommit limits l c → length l < limits.commits
 room_left limits l (CreateTable name schema) lawful = (free_table limits l name schema lawful.2).commits
+room_left limits l (CreateView view) lawful = (free_view limits l view.name lawful.within).commits
 room_left limits l (AlterMerge table columns) lawful = (free_columns limits l (length lawful.table.schema) (length columns) lawful.within).1
 room_left limits l (Ingest batches failures) lawful = (free_batch limits l (own_rows batches) lawful.1).1
 
 more_tables : (limits : Limits) (l : Log) (c : Commit) → LawfulCommit limits l c → length (tables l) ≤ limits.tables → length (tables (l ++ c ∷ [])) ≤ limits.tables
 more_tables limits l (CreateTable name schema) lawful before =
-    let free = (free_table limits l name schema lawful.2).tables in
+    let free = (free_table limits l name schema lawful.2).room in
     let longer = ap length (tables-push l (CreateTable name schema)) ∙ length_push (tables l) _ in
     omega (arith, free, longer)
+more_tables limits l (CreateView view) lawful before = let same = ap length (tables-push l (CreateView view)) in omega (arith, before, same)
 more_tables limits l (AlterMerge table columns) lawful before =
     let same = ap length (tables-push l (AlterMerge table columns)) ∙ length-changed (widened_table (length l + 1) columns) table (tables l) in
     omega (arith, before, same)
 more_tables limits l (Ingest batches failures) lawful before = let same = ap length (tables-push l (Ingest batches failures)) in omega (arith, before, same)
 
+views_made : (l : Log) (c : Commit) → view_count (l ++ c ∷ []) ≡ view_count l + length (views_by (length l + 1) c)
+views_made l c = ap length (views-push l c) ∙ length-append (views l) (views_by (length l + 1) c)
+
+more_views : (limits : Limits) (l : Log) (c : Commit) → LawfulCommit limits l c → view_count l ≤ limits.views → view_count (l ++ c ∷ []) ≤ limits.views
+more_views limits l (CreateTable name schema) lawful before = let more = views_made l (CreateTable name schema) in omega (arith, before, more)
+more_views limits l (CreateView view) lawful before =
+    let free = (free_view limits l view.name lawful.within).room in
+    let more = views_made l (CreateView view) in
+    omega (arith, free, more)
+more_views limits l (AlterMerge table columns) lawful before = let more = views_made l (AlterMerge table columns) in omega (arith, before, more)
+more_views limits l (Ingest batches failures) lawful before = let more = views_made l (Ingest batches failures) in omega (arith, before, more)
+
 -- as many tables as before, or more
 pub no_fewer : (l : Log) (c : Commit) → length (tables l) ≤ length (tables (l ++ c ∷ []))
 no_fewer l (CreateTable name schema) = let longer = ap length (tables-push l (CreateTable name schema)) ∙ length_push (tables l) _ in omega (arith, longer)
+no_fewer l (CreateView view) = let same = ap length (tables-push l (CreateView view)) in omega (arith, same)
 no_fewer l (AlterMerge table columns) =
     let same = ap length (tables-push l (AlterMerge table columns)) ∙ length-changed (widened_table (length l + 1) columns) table (tables l) in
     omega (arith, same)
@@ -92,6 +116,7 @@ own_few limits l batches failures lawful =
 
 few_given : (limits : Limits) (l : Log) (t n : ℕ) (c : Commit) → LawfulCommit limits l c → length (given t n c) ≤ 1048576
 few_given limits l t n (CreateTable name schema) lawful = omega arith
+few_given limits l t n (CreateView view) lawful = omega arith
 few_given limits l t n (AlterMerge table columns) lawful = omega arith
 few_given limits l t n (Ingest batches failures) lawful =
     let same = ap (λ (bs : List Batch). length (given_by t n 0 bs)) lawful.0.derived.alone in
@@ -99,11 +124,13 @@ few_given limits l t n (Ingest batches failures) lawful =
 
 pub one_made : (limits : Limits) (l : Log) (c : Commit) → LawfulCommit limits l c → made_by c ≤ 1
 one_made limits l (CreateTable name schema) lawful = omega arith
+one_made limits l (CreateView view) lawful = omega arith
 one_made limits l (AlterMerge table columns) lawful = omega arith
 one_made limits l (Ingest batches failures) lawful = let one = ap length lawful.0.derived.alone in omega (arith, one)
 
 given_past : (limits : Limits) (l : Log) (t n : ℕ) (c : Commit) → LawfulCommit limits l c → length (tables l) ≤ t → given t n c ≡ []
 given_past limits l t n (CreateTable name schema) lawful past = refl
+given_past limits l t n (CreateView view) lawful past = refl
 given_past limits l t n (AlterMerge table columns) lawful past = refl
 given_past limits l t n (Ingest batches failures) lawful past =
     let own = lawful.0.own in
@@ -112,6 +139,7 @@ given_past limits l t n (Ingest batches failures) lawful past =
 
 items_past : (limits : Limits) (l : Log) (t n id : ℕ) (c : Commit) → LawfulCommit limits l c → length (tables l) ≤ t → items t n id c ≡ []
 items_past limits l t n id (CreateTable name schema) lawful past = refl
+items_past limits l t n id (CreateView view) lawful past = refl
 items_past limits l t n id (AlterMerge table columns) lawful past = refl
 items_past limits l t n id (Ingest batches failures) lawful past =
     let own = lawful.0.own in
@@ -128,12 +156,13 @@ AreLawful-induct limits P none one h all = go [] h none all
 
 pub record IsBounded (limits : Limits) (l : Log) : Type 0 where
   pub few_tables : length (tables l) ≤ limits.tables
+  pub few_views : view_count l ≤ limits.views
   pub few_commits : length l ≤ limits.commits
   pub few_records : (t : ℕ) → length (records_given l t) ≤ length l * 1048576
   pub no_records : (t : ℕ) → length (tables l) ≤ t → records_given l t ≡ []
 
 bounded_none : (limits : Limits) → IsBounded limits []
-bounded_none limits = record { few_tables = omega arith; few_commits = omega arith; few_records = λ t. omega arith; no_records = λ t past. refl }
+bounded_none limits = record { few_tables = omega arith; few_views = omega arith; few_commits = omega arith; few_records = λ t. omega arith; no_records = λ t past. refl }
 
 bounded_more : (limits : Limits) (l : Log) (c : Commit) → IsBounded limits l → LawfulCommit limits l c → IsBounded limits (l ++ c ∷ [])
 bounded_more limits l c before lawful =
@@ -141,6 +170,7 @@ bounded_more limits l c before lawful =
     let fewer = no_fewer l c in
     record {
       few_tables = more_tables limits l c lawful before.few_tables;
+      few_views = more_views limits l c lawful before.few_views;
       few_commits = let left = room_left limits l c lawful in omega (arith, left, longer);
       few_records = λ t.
           let more = ap length (records-push l t c) ∙ length-append (records_given l t) (given t (length l + 1) c) in

@@ -11,7 +11,7 @@ use Rattle.kq_model.specs.declared.batch.Failure.{Failure}
 use Rattle.kq_model.specs.declared.limits.Limits.{Limits}
 use Rattle.kq_model.specs.declared.table.Table.{Table}
 use Rattle.kq_model.specs.declared.event.Commit.{Commit}
-use Rattle.kq_model.specs.declared.event.Commit.TheVariants.{CreateTable, AlterMerge, Ingest}
+use Rattle.kq_model.specs.declared.event.Commit.TheVariants.{CreateTable, CreateView, AlterMerge, Ingest}
 use Rattle.kq_model.specs.Edits.{FitAll, new_extents, edits_of}
 use Rattle.kq_model.specs.History.{Log, tables}
 use Rattle.kq_model.specs.Lawful.{LawfulCommit, IsIngestion}
@@ -47,6 +47,7 @@ extents_fit ts cursor id before (b ∷ bs) typed =
 pub FitAll-lawful : (limits : Limits) (l : Log) (cursor id : ℕ) (c : Commit) → LawfulCommit limits l c → FitAll (tables l) (edits_of cursor id c)
 FitAll-lawful limits l cursor id (CreateTable name schema) lawful =
     let free = free_table limits l name schema lawful.2 in
-    ((free.name, omega (arith, free.tables, limits.few_tables)), tt)
+    ((free.name, omega (arith, free.room, limits.few_tables)), tt)
+FitAll-lawful limits l cursor id (CreateView view) lawful = tt
 FitAll-lawful limits l cursor id (AlterMerge table columns) lawful = (slice_get_within (tables l) table lawful.table lawful.stands, tt)
 FitAll-lawful limits l cursor id (Ingest batches failures) lawful = extents_fit (tables l) cursor id [] batches (own_typed l batches failures lawful.0)

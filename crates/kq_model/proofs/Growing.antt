@@ -1,5 +1,5 @@
 -- What a longer log leaves of a table's columns and of its records.
-use Rattle.std.proofs.Common.{◌≡◌, ◌<◌, ◌≤◌, ◌+◌, refl, subst, ℕ, zero, suc, List, [], ◌∷◌, ◌++◌, length, map, get_or, Contains, ap, sym, ◌∙◌, append_assoc, append-nil, length-append, arith}
+use Rattle.std.proofs.Common.{◌≡◌, ◌<◌, ◌≤◌, ◌+◌, refl, subst, ℕ, zero, suc, List, [], ◌∷◌, ◌++◌, length, get_or, Contains, ap, sym, ◌∙◌, append_assoc, append-nil, length-append, arith}
 use Rattle.std.specs.List.{All, slice_get}
 use Rattle.std.specs.Option.{option_map, unwrap_or}
 use Rattle.std.proofs.lemmas.List.{get_or-map, get_or_append_left, length-map}
@@ -9,8 +9,7 @@ use Rattle.kq_value.specs.declared.value.Value.{Value}
 use Rattle.kq_widened.specs.Widened.{widened_record, widened_records}
 use Rattle.kq_widened.proofs.Widened.{widened-twice}
 use Rattle.kq_model.specs.declared.event.Commit.{Commit}
-use Rattle.kq_model.specs.declared.event.Commit.TheVariants.{CreateTable, AlterMerge, Ingest}
-use Rattle.kq_model.specs.declared.event.Event.{Event}
+use Rattle.kq_model.specs.declared.event.Commit.TheVariants.{CreateTable, CreateView, AlterMerge, Ingest}
 use Rattle.kq_model.specs.declared.table.Table.{Table}
 use Rattle.kq_model.specs.Changed.{changed}
 use Rattle.kq_model.specs.History.{History, Log, log, tables, tables_with, widened_table}
@@ -45,6 +44,7 @@ one_wider at columns (suc n) (suc t) (y ∷ ts) = one_wider at columns n t ts
 
 one_commit : (at : ℕ) (c : Commit) (ts : List Table) (t : ℕ) → Extends (schema_at ts t) (schema_at (tables_with at c ts) t)
 one_commit at (CreateTable name schema) ts t = one_more ts (record { name = name; schema = schema; made = at; widened = at }) t
+one_commit at (CreateView view) ts t = same (schema_at ts t)
 one_commit at (AlterMerge table columns) ts t = one_wider at columns table t ts
 one_commit at (Ingest batches failures) ts t = same (schema_at ts t)
 
@@ -85,7 +85,7 @@ records-go_on l more t rs all = λ k d h.
     let within : k < length rs = let n = length-map rs f in omega (arith, n, h) in
     subst (Contains (records (l ++ more) t)) (sym (get_or-map f rs k d d within)) (one_goes_on l more t (get_or rs k d) (all k d within))
 
-no_fewer_of : (l more : Log) → length (tables l) ≤ length (tables (l ++ more))
+pub no_fewer_of : (l more : Log) → length (tables l) ≤ length (tables (l ++ more))
 no_fewer_of l [] = subst (λ (m : Log). length (tables l) ≤ length (tables m)) (sym (append-nil l)) (omega arith)
 no_fewer_of l (c ∷ more) =
     let one = no_fewer l c in

@@ -4,7 +4,7 @@ use Rattle.kq_model.specs.declared.limits.Limits.{Limits}
 use Rattle.kq_model.specs.declared.table.Table.{Table}
 use Rattle.kq_model.specs.declared.event.Commit.{Commit}
 use Rattle.kq_model.specs.declared.event.Event.{Event}
-use Rattle.kq_model.specs.History.{History, Log, log, commits_of, tables, tables_from, tables_with, commit_at, commits_from, commits_at}
+use Rattle.kq_model.specs.History.{History, Log, log, commits_of, tables, tables_from, tables_with, Viewed, views, views_by, views_from, commit_at, commits_from, commits_at}
 use Rattle.kq_model.specs.Lawful.{Lawful, AreLawful, AreLawfulAfter}
 
 pub log-append : (h more : History) → log (h ++ more) ≡ log h ++ log more
@@ -22,6 +22,20 @@ tables_from-push n made (x ∷ l) c =
 
 pub tables-push : (l : Log) (c : Commit) → tables (l ++ c ∷ []) ≡ tables_with (length l + 1) c (tables l)
 tables-push l c = subst (λ (k : ℕ). tables (l ++ c ∷ []) ≡ tables_with (k + 1) c (tables l)) (zero-add (length l)) (tables_from-push 0 [] l c)
+
+views_from-append : (n : ℕ) (l more : Log) → views_from n (l ++ more) ≡ views_from n l ++ views_from (n + length l) more
+views_from-append n [] more = ap (λ (k : ℕ). views_from k more) (sym (add-zero n))
+views_from-append n (c ∷ l) more =
+    let same : n + 1 + length l ≡ n + length (c ∷ l) = omega arith in
+    ap (λ (vs : List Viewed). views_by (n + 1) c ++ vs) (views_from-append (n + 1) l more ∙ ap (λ (k : ℕ). views_from (n + 1) l ++ views_from k more) same)
+    ∙ sym (append_assoc (views_by (n + 1) c) (views_from (n + 1) l) (views_from (n + length (c ∷ l)) more))
+
+-- views stay, under their numbers
+pub views-append : (l more : Log) → views (l ++ more) ≡ views l ++ views_from (length l) more
+views-append l more = subst (λ (k : ℕ). views (l ++ more) ≡ views l ++ views_from k more) (zero-add (length l)) (views_from-append 0 l more)
+
+pub views-push : (l : Log) (c : Commit) → views (l ++ c ∷ []) ≡ views l ++ views_by (length l + 1) c
+views-push l c = views-append l (c ∷ []) ∙ ap (λ (vs : List Viewed). views l ++ vs) (append-nil (views_by (length l + 1) c))
 
 pub AreLawfulAfter-push : (limits : Limits) (before h : History) (e : Event) → AreLawfulAfter limits before h → Lawful limits (before ++ h) e → AreLawfulAfter limits before (h ++ e ∷ [])
 AreLawfulAfter-push limits before [] e all last = (subst (λ (b : History). Lawful limits b e) (append-nil before) last, tt)

@@ -5,9 +5,11 @@ pub mod Fitting
 pub mod Growing
 pub mod Histories
 pub mod Merging
+pub mod Places
 pub mod Records
 pub mod Repeats
 pub mod States
 pub mod Tables
 pub mod Tagged
 pub mod Unique
+pub mod Views

@@ -12,7 +12,7 @@ use Rattle.kq_model.specs.declared.batch.Batch.{Batch}
 use Rattle.kq_model.specs.declared.limits.Limits.{Limits}
 use Rattle.kq_model.specs.declared.table.Table.{Table}
 use Rattle.kq_model.specs.declared.event.Commit.{Commit}
-use Rattle.kq_model.specs.declared.event.Commit.TheVariants.{CreateTable, AlterMerge, Ingest}
+use Rattle.kq_model.specs.declared.event.Commit.TheVariants.{CreateTable, CreateView, AlterMerge, Ingest}
 use Rattle.kq_model.specs.declared.event.Event.{Event}
 use Rattle.kq_model.specs.declared.event.Operation.{Operation}
 use Rattle.kq_model.specs.declared.event.Operation.TheVariants as operation
@@ -22,7 +22,7 @@ use Rattle.kq_model.specs.History.{History, Log, log, cursor, tables, widened_ta
 use Rattle.kq_model.specs.Lawful.{AreLawful}
 use Rattle.kq_model.specs.Records.{records_given, extents, given_by, items, items_by, items_after, item_of, rows_to, made_in, merged, ExtentItem}
 use Rattle.kq_model.specs.Tables.{TableState, states_from, table_states}
-use Rattle.kq_model.proofs.Bounded.{IsBounded, IsBounded-lawful, no_items}
+use Rattle.kq_model.proofs.Bounded.{IsBounded-lawful, no_items}
 use Rattle.kq_model.proofs.Histories.{log-push, tables-push}
 use Rattle.kq_model.proofs.Records.{records-push, extents-push, rows_to-push}
 
@@ -173,6 +173,12 @@ commit_more limits h (CreateTable name schema) lawful =
     (states_same 0 (tables l) (records_given (l ++ c ∷ [])) (records_given l) is (extents h) (λ m some. same_rs m) (λ m some. same_is m))
     ∙ ap (λ (x : List Record). states_at h ++ state_with new x (is n) ∷ []) (same_rs n ∙ (IsBounded-lawful limits h lawful).no_records n past)
     ∙ ap (λ (x : List ExtentItem). states_at h ++ state_with new [] x ∷ []) (same_is n ∙ no_items limits h lawful n past)
+commit_more limits h (CreateView view) lawful =
+    let l = log h in
+    let c = CreateView view in
+    ap (λ (ts : List Table). states_by 0 ts (records_given (l ++ c ∷ [])) (λ m. extents h m ++ [])) (tables-push l c)
+    ∙ states_same 0 (tables l) (records_given (l ++ c ∷ [])) (records_given l) (λ m. extents h m ++ []) (extents h)
+    (λ m some. records-push l m c ∙ append-nil (records_given l m)) (λ m some. append-nil (extents h m))
 commit_more limits h (AlterMerge table columns) lawful =
     let l = log h in
     let c = AlterMerge table columns in
@@ -229,6 +235,15 @@ table_states-merge h e table old new is =
     ∙ ap (λ (o : Operation). states_by 0 (tables l) (records_given l) (λ m. items_after m (cursor h + 1) (1 + made_in h) o (extents h m))) is
     ∙ sym (merged_at 0 table table (tables l) (records_given l) (extents h) old new (sym (zero-add table)))
     ∙ ap (changed (with_merged old new) table) (sym (states_of h))
+
+-- a fold leaves the states
+pub table_states-fold : (h : History) (e : Event) (view to : ℕ) → e.operation ≡ operation.Fold view to → table_states (h ++ e ∷ []) ≡ table_states h
+table_states-fold h e view to is =
+    let logged : log (h ++ e ∷ []) ≡ log h = log-push h e ∙ ap (λ (o : Operation). log h ++ commits_of o) is ∙ append-nil (log h) in
+    let l = log h in
+    states_of (h ++ e ∷ []) ∙ states_by-push h e l logged
+    ∙ ap (λ (o : Operation). states_by 0 (tables l) (records_given l) (λ m. items_after m (cursor h + 1) (1 + made_in h) o (extents h m))) is
+    ∙ sym (states_of h)
 
 -- the tables of the states are the history's
 states_by-tables : (n : ℕ) (ts : List Table) (h : History) → map (λ (s : TableState). s.table) (states_from n ts h) ≡ ts

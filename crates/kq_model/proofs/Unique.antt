@@ -1,7 +1,7 @@
 -- No two records of a table have the same id.
-use Rattle.std.proofs.Common.{◌≡◌, ◌<◌, ◌≤◌, ◌⊎◌, inl, inr, refl, subst, ℕ, zero, suc, ◌+◌, Bool, true, false, cond, List, [], ◌∷◌, ◌++◌, length, map, get_or, nat_eq, Contains, ap, sym, ◌∙◌, arith, append_assoc, add-zero}
+use Rattle.std.proofs.Common.{◌≡◌, ◌<◌, ◌≤◌, ◌⊎◌, inl, inr, refl, subst, ℕ, zero, suc, ◌+◌, Bool, true, false, cond, List, [], ◌∷◌, ◌++◌, length, get_or, nat_eq, Contains, ap, sym, ◌∙◌, arith, append_assoc, add-zero}
 use Rattle.std.specs.List.{All}
-use Rattle.std.proofs.lemmas.List.Elements.{All-head, All-tail, All-weaker, Contains-append_left}
+use Rattle.std.proofs.lemmas.List.Elements.{All-head, All-tail}
 use Rattle.kq_value.specs.declared.record.Record.{Record}
 use Rattle.kq_value.specs.declared.record_id.RecordId.{RecordId}
 use Rattle.kq_value.specs.declared.schema.Field.{Field}
@@ -9,7 +9,7 @@ use Rattle.kq_value.specs.declared.value.Value.{Value}
 use Rattle.kq_rows.specs.Numbered.{numbered}
 use Rattle.kq_model.specs.declared.batch.Batch.{Batch}
 use Rattle.kq_model.specs.declared.event.Commit.{Commit}
-use Rattle.kq_model.specs.declared.event.Commit.TheVariants.{CreateTable, AlterMerge, Ingest}
+use Rattle.kq_model.specs.declared.event.Commit.TheVariants.{CreateTable, CreateView, AlterMerge, Ingest}
 use Rattle.kq_model.specs.History.{Log}
 use Rattle.kq_model.specs.Records.{given, given_by, ids_of, records, records_from, records_given, schema_of}
 use Rattle.kq_widened.specs.Widened.{widened_records}
@@ -55,6 +55,7 @@ given_by-climbs t c o (b ∷ bs) = by_test (nat_eq b.table t) (given_by-climbs t
 
 given-climbs : (t c : ℕ) (commit : Commit) → Climbs c 0 (c + 1) 0 (given t c commit)
 given-climbs t c (CreateTable name schema) = inl (omega arith)
+given-climbs t c (CreateView view) = inl (omega arith)
 given-climbs t c (AlterMerge table columns) = inl (omega arith)
 given-climbs t c (Ingest batches failures) = given_by-climbs t c 0 batches
 

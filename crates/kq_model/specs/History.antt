@@ -1,16 +1,19 @@
 -- What a list of events says: its commits, its cursor and its tables.
-use Rattle.std.specs.Prelude.{ℕ, ◌+◌, List, [], ◌∷◌, ◌++◌, length, map, Option, Some, None, nat_eq, if◌then◌else◌}
-use Rattle.std.specs.List.{find, flat_map}
+use Rattle.std.specs.Prelude.{ℕ, ◌+◌, Bool, List, [], ◌∷◌, ◌++◌, length, map, Option, Some, None, nat_eq, if◌then◌else◌, unwrap_or}
+use Rattle.std.specs.List.{find, flat_map, slice_get}
+use Rattle.std.specs.Option.{option_map}
 use Rattle.std.specs.Cmp.Lexicographic.{pointwise}
 use Rattle.kq_value.specs.declared.schema.Field.{Field}
 use Rattle.kq_model.specs.declared.table.Table.{Table}
 use Rattle.kq_model.specs.declared.event.By.{By}
 use Rattle.kq_model.specs.declared.event.Commit.{Commit}
-use Rattle.kq_model.specs.declared.event.Commit.TheVariants.{CreateTable, AlterMerge, Ingest}
+use Rattle.kq_model.specs.declared.event.Commit.TheVariants.{CreateTable, CreateView, AlterMerge, Ingest}
 use Rattle.kq_model.specs.declared.event.Operation.{Operation}
 use Rattle.kq_model.specs.declared.event.Operation.TheVariants as operation
 use Rattle.kq_model.specs.declared.event.Event.{Event}
+use Rattle.kq_model.specs.declared.view.View.{View}
 use Rattle.kq_model.specs.Changed.{changed}
+use Rattle.kq_model.specs.Names.{is_among}
 
 abbrev pub History : Type 0
 History = List Event
@@ -39,6 +42,7 @@ widened_table at columns t = record t { schema = t.schema ++ columns; widened = 
 -- the tables after one more commit, whose cursor is given
 abbrev pub tables_with : ℕ → Commit → List Table → List Table
 tables_with at (CreateTable name schema) tables = tables ++ record { name = name; schema = schema; made = at; widened = at } ∷ []
+tables_with at (CreateView view) tables = tables
 tables_with at (AlterMerge table columns) tables = changed (widened_table at columns) table tables
 tables_with at (Ingest batches failures) tables = tables
 
@@ -84,6 +88,52 @@ commits_from n (e ∷ h) = commit_at e (n + 1) ++ commits_from (n + 1) h
 abbrev pub commits_at : History → List CommitAt
 commits_at = commits_from 0
 
--- the number of views: none can be made yet
+-- ---- views
+
+-- a view with the cursor of the commit that made it
+pub record Viewed : Type 0 where
+  pub view : View
+  pub made : ℕ
+
+-- the view that a commit makes, by the commit's cursor: one or none
+abbrev pub views_by : ℕ → Commit → List Viewed
+views_by at (CreateTable name schema) = []
+views_by at (CreateView view) = record { view = view; made = at } ∷ []
+views_by at (AlterMerge table columns) = []
+views_by at (Ingest batches failures) = []
+
+abbrev pub views_from : ℕ → Log → List Viewed
+views_from n [] = []
+views_from n (c ∷ l) = views_by (n + 1) c ++ views_from (n + 1) l
+
+-- the views, in the order of their creation
+abbrev pub views : Log → List Viewed
+views = views_from 0
+
 abbrev pub view_count : Log → ℕ
-view_count l = 0
+view_count l = length (views l)
+
+abbrev pub names_of_views : List Viewed → List (List ℕ)
+names_of_views = map (λ (v : Viewed). v.view.name)
+
+-- whether a view has the name
+abbrev pub is_view : List ℕ → Log → Bool
+is_view name l = is_among name (names_of_views (views l))
+
+-- the cursor up to which a view, by its number, is materialized after one more operation
+abbrev pub mark_after : ℕ → ℕ → Operation → ℕ
+mark_after n at (operation.Commit c) = at
+mark_after n at (operation.Fold view to) = if nat_eq view n then to else at
+mark_after n at (operation.Merge table old new) = at
+
+abbrev pub mark_from : ℕ → ℕ → History → ℕ
+mark_from n at [] = at
+mark_from n at (e ∷ h) = mark_from n (mark_after n at e.operation) h
+
+-- the cursor above which a view covers records; a number that no view has has 0
+abbrev pub base_of : Log → ℕ → ℕ
+base_of l n = unwrap_or (option_map (λ (v : Viewed). v.view.base) (slice_get (views l) n)) 0
+
+-- the cursor up to which a view, by its number, is materialized: that of its last fold, or its base without one
+abbrev pub mark : History → ℕ → ℕ
+mark h n = mark_from n (base_of (log h) n) h

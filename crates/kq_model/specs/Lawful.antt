@@ -1,6 +1,8 @@
 -- What may stand in a journal.
-use Rattle.std.specs.Prelude.{◌≡◌, ◌<◌, ◌≤◌, ◌+◌, ℕ, false, take, List, [], ◌∷◌, ◌++◌, length, Option, Some, None, All, if◌then◌else◌, nat_lt}
+use Rattle.std.specs.Prelude.{◌≡◌, ◌⊎◌, ◌<◌, ◌≤◌, ◌+◌, ℕ, Bool, false, take, List, [], ◌∷◌, ◌++◌, length, Option, Some, None, All, if◌then◌else◌, nat_lt}
 use Rattle.std.specs.List.{slice_get}
+use Rattle.kq_grouping.specs.Bodies.{IsBody}
+use Rattle.kq_plan.specs.Plans.{planned_of}
 use Rattle.kq_value.specs.declared.schema.Field.{Field}
 use Rattle.kq_value.specs.Typed.{HasTypes}
 use Rattle.kq_model.specs.declared.limits.Limits.{Limits}
@@ -8,16 +10,17 @@ use Rattle.kq_model.specs.declared.table.Table.{Table}
 use Rattle.kq_model.specs.declared.event.Commit.{Commit}
 use Rattle.kq_model.specs.declared.batch.Batch.{Batch}
 use Rattle.kq_model.specs.declared.batch.Failure.{Failure}
-use Rattle.kq_model.specs.declared.event.Commit.TheVariants.{CreateTable, AlterMerge, Ingest}
+use Rattle.kq_model.specs.declared.event.Commit.TheVariants.{CreateTable, CreateView, AlterMerge, Ingest}
 use Rattle.kq_model.specs.declared.event.Operation.{Operation}
 use Rattle.kq_model.specs.declared.event.Operation.TheVariants as operation
 use Rattle.kq_model.specs.declared.event.Event.{Event}
+use Rattle.kq_model.specs.declared.view.View.{View}
 use Rattle.kq_model.specs.Derived.{IsDerived}
-use Rattle.kq_model.specs.History.{History, Log, log, tables, table_named, view_count}
+use Rattle.kq_model.specs.History.{History, Log, log, cursor, tables, table_named, view_count, is_view, mark}
 use Rattle.kq_model.specs.Names.{is_among, repeat_of, names_of}
 use Rattle.kq_model.specs.Records.{picked, item_ids, made_in}
 
--- why a table of this name and these columns, or a batch of so many rows, can't be made
+-- why a table of this name and these columns, a view of this name, or a batch of so many rows, can't be made
 pub data Bar : Type 0 where
   TooWide : Bar
   Exists : Bar
@@ -25,13 +28,20 @@ pub data Bar : Type 0 where
   TooLong : Bar
   NoCommits : Bar
 
-abbrev pub bar_to_name : Limits → Log → Option Table → Option Bar
-bar_to_name limits l (Some t) = Some Exists
-bar_to_name limits l None = if nat_lt (length (tables l)) limits.tables then (if nat_lt (length l) limits.commits then None else Some NoCommits) else Some TooMany
+-- the first bar to a name that may be a table's, or a view's, where a limit allows so many of its kind and there are so many
+abbrev pub bar_to_name : Limits → Log → ℕ → ℕ → Option Table → Bool → Option Bar
+bar_to_name limits l limit count (Some t) viewed = Some Exists
+bar_to_name limits l limit count None viewed =
+    if viewed then Some Exists else if nat_lt count limit then (if nat_lt (length l) limits.commits then None else Some NoCommits) else Some TooMany
 
 -- the first bar to a new table after this log, in the order of the refusals
 abbrev pub bar_to_table : Limits → Log → List ℕ → List Field → Option Bar
-bar_to_table limits l name schema = if nat_lt limits.columns (length schema) then Some TooWide else bar_to_name limits l (table_named name (tables l))
+bar_to_table limits l name schema =
+    if nat_lt limits.columns (length schema) then Some TooWide else bar_to_name limits l limits.tables (length (tables l)) (table_named name (tables l)) (is_view name l)
+
+-- the first bar to a new view after this log, in the order of the refusals
+abbrev pub bar_to_view : Limits → Log → List ℕ → Option Bar
+bar_to_view limits l name = bar_to_name limits l limits.views (view_count l) (table_named name (tables l)) (is_view name l)
 
 -- the first bar to so many further columns of a table with so many after this log, in the order of the refusals
 abbrev pub bar_to_columns : Limits → Log → ℕ → ℕ → Option Bar
@@ -50,6 +60,14 @@ pub record IsWidening (limits : Limits) (l : Log) (number : ℕ) (columns : List
   pub lacking : All (λ (f : Field). is_among f.name (names_of table.schema) ≡ false) columns
   pub within : bar_to_columns limits l (length table.schema) (length columns) ≡ None
 
+-- a view of a table that stands, whose body reads the table under its present columns, and whose base is 0 or the cursor of its own commit, within the limits
+pub record IsNewView (limits : Limits) (l : Log) (v : View) : Type 0 where
+  pub table : Table
+  pub stands : slice_get (tables l) v.source ≡ Some table
+  pub body : IsBody table.name table.schema (planned_of v.body)
+  pub base : (v.base ≡ 0) ⊎ (v.base ≡ length l + 1)
+  pub within : bar_to_view limits l v.name ≡ None
+
 -- an ingestion's own batch goes into a table and has rows of its types, and these are the batch's whole cascade
 pub record IsIngestion (l : Log) (batches : List Batch) (failures : List Failure) : Type 0 where
   pub own : Batch
@@ -65,6 +83,7 @@ own_rows (own ∷ bs) = length own.rows
 
 abbrev pub LawfulCommit : Limits → Log → Commit → Type 0
 LawfulCommit limits l (CreateTable name schema) = (0 < length schema) × (repeat_of (names_of schema) ≡ None) × (bar_to_table limits l name schema ≡ None)
+LawfulCommit limits l (CreateView view) = IsNewView limits l view
 LawfulCommit limits l (AlterMerge table columns) = IsWidening limits l table columns
 LawfulCommit limits l (Ingest batches failures) = IsIngestion l batches failures × (bar_to_batch limits l (own_rows batches) ≡ None)
 
@@ -76,10 +95,15 @@ pub record IsMerge (h : History) (t : ℕ) (old : List ℕ) (new : ℕ) : Type 0
   pub first : old ≡ item_ids (take count (picked h t))
   pub next : new ≡ 1 + made_in h
 
--- a fold's view stands
+-- a fold brings a view that stands forward, to no more than the cursor
+pub record IsFold (h : History) (view to : ℕ) : Type 0 where
+  pub stands : view < view_count (log h)
+  pub ahead : mark h view < to
+  pub within : to ≤ cursor h
+
 abbrev pub LawfulOperation : Limits → History → Operation → Type 0
 LawfulOperation limits h (operation.Commit c) = LawfulCommit limits (log h) c
-LawfulOperation limits h (operation.Fold view to) = view < view_count (log h)
+LawfulOperation limits h (operation.Fold view to) = IsFold h view to
 LawfulOperation limits h (operation.Merge table old new) = IsMerge h table old new
 
 -- the event may follow these

@@ -9,3 +9,4 @@ pub mod Names
 pub mod Records
 pub mod Tables
 pub mod Tagged
+pub mod Views

@@ -9,10 +9,9 @@ use Rattle.kq_value.specs.declared.record.Record.{Record}
 use Rattle.kq_rows.specs.Numbered.{numbered}
 use Rattle.kq_model.specs.declared.batch.Batch.{Batch}
 use Rattle.kq_model.specs.declared.event.Commit.{Commit}
-use Rattle.kq_model.specs.declared.event.Commit.TheVariants.{CreateTable, AlterMerge, Ingest}
+use Rattle.kq_model.specs.declared.event.Commit.TheVariants.{CreateTable, CreateView, AlterMerge, Ingest}
 use Rattle.kq_model.specs.declared.event.Operation.{Operation}
 use Rattle.kq_model.specs.declared.event.Operation.TheVariants as operation
-use Rattle.kq_model.specs.declared.event.Event.{Event}
 use Rattle.kq_model.specs.declared.table.Table.{Table}
 use Rattle.kq_model.specs.History.{History, Log, log, commits_of, tables}
 use Rattle.kq_widened.specs.Widened.{widened_records}
@@ -32,6 +31,7 @@ rows_to t (b ∷ bs) = (if nat_eq b.table t then length b.rows else 0) + rows_to
 -- the records that a commit at a cursor gives a table
 abbrev pub given : ℕ → ℕ → Commit → List Record
 given t cursor (CreateTable name schema) = []
+given t cursor (CreateView view) = []
 given t cursor (AlterMerge table columns) = []
 given t cursor (Ingest batches failures) = given_by t cursor 0 batches
 
@@ -83,6 +83,7 @@ items_by t cursor ordinal id (b ∷ bs) =
 
 abbrev pub items : ℕ → ℕ → ℕ → Commit → List ExtentItem
 items t cursor id (CreateTable name schema) = []
+items t cursor id (CreateView view) = []
 items t cursor id (AlterMerge table columns) = []
 items t cursor id (Ingest batches failures) = items_by t cursor 0 id batches
 
@@ -110,6 +111,7 @@ merged old new is = filter (λ i. not (has_id_of old i)) is ++ united new (filte
 -- the number of extents that a commit makes
 abbrev pub made_by : Commit → ℕ
 made_by (CreateTable name schema) = 0
+made_by (CreateView view) = 0
 made_by (AlterMerge table columns) = 0
 made_by (Ingest batches failures) = length batches
 

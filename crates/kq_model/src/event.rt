@@ -3,6 +3,7 @@ ghost use Rattle.std.specs.Prelude.{◌≡◌};
 
 use crate::batch::{Batches, Failures};
 use crate::ids::Ids;
+use crate::view::SharedView;
 use kq_value::{Schema, Text};
 
 /// The mark of a command: who asked, and with which of its commands, counted from 1.
@@ -29,6 +30,7 @@ pub enum Commit {
         name: Text,
         schema: Schema,
     },
+    CreateView(SharedView),
     /// Further columns behind those of a table, which goes by its number.
     AlterMerge {
         table: u32,

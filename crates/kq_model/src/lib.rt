@@ -9,6 +9,7 @@ mod event;
 mod ids;
 mod limits;
 mod table;
+mod view;
 
 pub use answer::Answer;
 pub use batch::{Batch, Batches, Failure, Failures};
@@ -17,3 +18,4 @@ pub use event::{By, Commit, Event, Operation};
 pub use ids::Ids;
 pub use limits::Limits;
 pub use table::Table;
+pub use view::{SharedView, View};

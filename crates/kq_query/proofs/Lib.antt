@@ -1,1 +1,6 @@
 pub mod Reading
+pub mod Known
+pub mod Covering
+pub mod Giving
+pub mod Standing
+pub mod Looking

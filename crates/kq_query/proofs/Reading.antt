@@ -2,26 +2,32 @@
 use Rattle.std.proofs.Common.{◌≡◌, ℕ, List, [], All, map, Option, Some, None, Result, Ok, Err, IfOk, ap, sym, ◌∙◌, subst}
 use Rattle.std.specs.List.{slice_get}
 use Rattle.std.specs.List.Sorted.{IsPermutation}
-use Rattle.std.specs.Option.{option_map, unwrap_or}
+use Rattle.std.specs.Option.{option_map, option_or, unwrap_or}
 use Rattle.std.proofs.lemmas.List.Sorted.{IsPermutation-map, IsPermutation-sym, All-permutation}
-use Rattle.kq_computed.specs.Computed.{Computed, Is}
+use Rattle.kq_computed.specs.Computed.{Is}
 use Rattle.kq_extent.specs.Seen.{HeldExtents, held_records, row_of}
 use Rattle.kq_extent.specs.Wide.{wide_held}
+use Rattle.kq_grouping.specs.Bodies.{columns_made}
 use Rattle.kq_lent.specs.Lent.{AreLent, rows_held}
 use Rattle.kq_model.specs.declared.table.Table.{Table}
 use Rattle.kq_model.specs.History.{History, Numbered, log, tables}
 use Rattle.kq_model.specs.Records.{records, rows_in, schema_of}
+use Rattle.kq_pipe.specs.declared.outcome.Outcome.{Outcome}
+use Rattle.kq_pipe.specs.declared.outcome.Outcome.TheVariants as outcome
 use Rattle.kq_pipe.specs.Typed.{TypedWorld}
 use Rattle.kq_plan.specs.declared.names.NameKind.TheVariants as name
+use Rattle.kq_plan.specs.declared.work.LeafKind.{LeafKind}
 use Rattle.kq_plan.specs.declared.work.LeafKind.TheVariants as kind
-use Rattle.kq_plan.specs.Names.{Known}
+use Rattle.kq_plan.specs.Plans.{planned_of}
 use Rattle.kq_value.specs.declared.record.Record.{Record}
 use Rattle.kq_value.specs.declared.schema.Field.{Field}
 use Rattle.kq_value.specs.declared.value.Value.{Value}
 use Rattle.kq_value.specs.Same.{Same}
 use Rattle.kq_value.specs.Typed.{HasTypes}
 use Rattle.kq_value.proofs.SameLemmas.{Same-from_permutation}
-use Rattle.kq_query.specs.Worlds.{MayGive, TableGives, known_in, known_table, table_found}
+use Rattle.kq_query.specs.Views.{Tells}
+use Rattle.kq_query.specs.Worlds.{FoundGives, MayGive, NumberedView, TableGives, known_in, known_table, known_view, table_found, view_found}
+use Rattle.kq_query.proofs.Known.{other_kind, same_columns}
 
 -- ---- what a table holds, under its columns
 
@@ -55,18 +61,26 @@ given_held h found held (Err e) same typed is = is
 
 -- ---- the world's rows have the types of their names
 
-abbrev columns_known : Option Known → List Field
-columns_known (Some k) = k.1
-columns_known None = []
+table_typed : (h : History) (o : Option Numbered) (v : Option NumberedView) (cs : List Field) (rows : List (List Value)) → option_or (option_map known_table o) (option_map known_view v) ≡ Some (name.Table, cs) → TableGives h o (Is rows)
+    → All (HasTypes cs) rows
+table_typed h (Some found) v cs rows fits gives = subst (λ (fs : List Field). All (HasTypes fs) rows) (same_columns name.Table found.table.schema cs fits) gives.1
+table_typed h None v cs rows fits gives = absurd gives
 
-same_columns : (found : Numbered) (cs : List Field) → Some (known_table found) ≡ Some (name.Table, cs) → found.table.schema ≡ cs
-same_columns found cs e = ap columns_known e
+told_typed : (cs : List Field) (o : Outcome) (rows : List (List Value)) → Tells cs o (Is rows) → All (HasTypes cs) rows
+told_typed cs (outcome.Table ordered given) rows told = let same : rows ≡ given = cc in subst (All (HasTypes cs)) (sym same) told.1
+told_typed cs (outcome.Cell v) rows told = absurd told
+told_typed cs (outcome.Overflow stage) rows told = absurd cc
+told_typed cs (outcome.Full limit) rows told = absurd told
 
-table_typed : (h : History) (o : Option Numbered) (cs : List Field) (rows : List (List Value)) → option_map known_table o ≡ Some (name.Table, cs) → TableGives h o (Is rows) → All (HasTypes cs) rows
-table_typed h (Some found) cs rows fits gives = subst (λ (fs : List Field). All (HasTypes fs) rows) (same_columns found cs fits) gives.1
-table_typed h None cs rows fits gives = absurd gives
+view_typed : (h : History) (k : LeafKind) (o : Option Numbered) (v : Option NumberedView) (cs : List Field) (rows : List (List Value)) → option_or (option_map known_table o) (option_map known_view v) ≡ Some (name.View, cs) → FoundGives h k v (Is rows)
+    → All (HasTypes cs) rows
+view_typed h k (Some found) v cs rows fits gives = absurd (other_kind found.table.schema cs fits)
+view_typed h k None (Some found) cs rows fits gives =
+    let made = columns_made (planned_of found.view.body) in
+    subst (λ (fs : List Field). All (HasTypes fs) rows) (same_columns name.View made cs fits) (told_typed made gives.outcome rows gives.told)
+view_typed h k None None cs rows fits gives = absurd gives
 
 pub world_typed : (h : History) → TypedWorld (known_in h) (MayGive h)
-world_typed h said kind.Table cs rows fits gives = table_typed h (table_found h said) cs rows fits gives
-world_typed h said kind.View cs rows fits gives = absurd gives
-world_typed h said kind.Part cs rows fits gives = absurd gives
+world_typed h said kind.Table cs rows fits gives = table_typed h (table_found h said) (view_found h said) cs rows fits gives
+world_typed h said kind.View cs rows fits gives = view_typed h kind.View (table_found h said) (view_found h said) cs rows fits gives
+world_typed h said kind.Part cs rows fits gives = view_typed h kind.Part (table_found h said) (view_found h said) cs rows fits gives

@@ -1,3 +1,4 @@
+pub mod Views
 pub mod Worlds
 pub mod Printed
 pub mod Answers

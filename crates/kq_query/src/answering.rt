@@ -28,9 +28,21 @@ pub fn answer(snapshot: &Snapshot, text: &str, query: &Query, now: i64) -> Resul
     ensures answer { IfOk result (AnswersQuery snapshot.now.history now text.now (query_of query.now)) }
     ensures refused { IfErr result (RefusesBy (AnswersQuery snapshot.now.history now text.now (query_of query.now))) }
 {
-    let catalogue = Catalogue { snapshot };
-    match bind_fitting(snapshot.allocator(), text, query, &catalogue) {
-        Ok(plan) => answer_plan(snapshot, plan, now),
+    answer_over(&Catalogue::new(snapshot)?, text, query, now)
+}
+
+fn answer_over(
+    catalogue: &Catalogue<'_>,
+    text: &str,
+    query: &Query,
+    now: i64,
+) -> Result<Reply, Refusal>
+    requires { IsMoment now }
+    ensures answer { IfOk result (AnswersQuery catalogue.now.snapshot.now.history now text.now (query_of query.now)) }
+    ensures refused { IfErr result (RefusesBy (AnswersQuery catalogue.now.snapshot.now.history now text.now (query_of query.now))) }
+{
+    match bind_fitting(catalogue.snapshot.allocator(), text, query, catalogue) {
+        Ok(plan) => answer_plan(catalogue, plan, now),
         Err(fault) => Err(refusal(fault)),
     }
 }
@@ -47,15 +59,14 @@ fn refusal(fault: BindFault) -> Refusal
 }
 
 // What a plan gives.
-fn answer_plan(snapshot: &Snapshot, plan: Plan, now: i64) -> Result<Reply, Refusal>
+fn answer_plan(catalogue: &Catalogue<'_>, plan: Plan, now: i64) -> Result<Reply, Refusal>
     requires moment { IsMoment now }
-    requires fits { Fits (known_in snapshot.now.history) (planned_of plan) (columns_given (planned_of plan)) }
-    ensures answer { IfOk result (AnswersRun snapshot.now.history now (planned_of plan)) }
-    ensures refused { IfErr result (RefusesBy (AnswersRun snapshot.now.history now (planned_of plan))) }
+    requires fits { Fits (known_in catalogue.now.snapshot.now.history) (planned_of plan) (columns_given (planned_of plan)) }
+    ensures answer { IfOk result (AnswersRun catalogue.now.snapshot.now.history now (planned_of plan)) }
+    ensures refused { IfErr result (RefusesBy (AnswersRun catalogue.now.snapshot.now.history now (planned_of plan))) }
 {
-    let alloc = snapshot.allocator();
-    let catalogue = Catalogue { snapshot };
-    let outcome = run_plan(alloc, &plan, &catalogue, now)?;
+    let alloc = catalogue.snapshot.allocator();
+    let outcome = run_plan(alloc, &plan, catalogue, now)?;
     show(alloc, header(alloc, plan), outcome)
 }
 

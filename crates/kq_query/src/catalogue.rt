@@ -4,8 +4,11 @@ ghost use Rattle.std.specs.List.{slice_get};
 ghost use Rattle.kq_computed.specs.Computed.{Is};
 ghost use Rattle.kq_model.specs.History.{log, tables};
 ghost use Rattle.kq_pipe.specs.Operators.{AnswersOne};
-ghost use Rattle.kq_query.specs.Worlds.{TableGives, table_found};
+ghost use Rattle.kq_query.specs.Views.{columns_of_views};
+ghost use Rattle.kq_query.specs.Worlds.{FoundGives, TableGives, table_found, view_found};
 
+use crate::made::columns_of_views;
+use crate::views::rows_of_view;
 use kq_catalog::Snapshot;
 use kq_computed::EvalFault;
 use kq_lent::Held;
@@ -15,10 +18,24 @@ use kq_plan::{LeafKind, NameKind, Names};
 use kq_value::{Field, Memory, Schema, Text};
 use std::alloc::Global;
 
-/// The tables of a snapshot, as a query sees them.
+/// The tables and views of a snapshot, as a query sees them.
 #[derive(Drop)]
-pub(crate) struct Catalogue<'a> {
+pub struct Catalogue<'a> {
     pub snapshot: &'a Snapshot,
+    columns: Vec<Schema>,
+    // those of each view
+    ghost views: { columns.items ≡ columns_of_views snapshot.now.history },
+}
+
+impl<'a> Catalogue<'a> {
+    pub fn new(snapshot: &'a Snapshot) -> Result<Catalogue<'a>, Memory>
+        ensures { IfOk result (λ c. c.snapshot.now ≡ snapshot.now) }
+    {
+        Ok(Catalogue {
+            columns: columns_of_views(snapshot)?,
+            snapshot,
+        })
+    }
 }
 
 impl Names for Catalogue<'_> {
@@ -27,8 +44,13 @@ impl Names for Catalogue<'_> {
     ghost known = { λ c. known_in c.snapshot.now.history };
 
     fn find(&self, name: &Text) -> Option<(NameKind, &Schema)> {
-        let (_, table) = self.snapshot.table(name)?;
-        Some((NameKind::Table, &table.schema))
+        match self.snapshot.table(name) {
+            Some((_, table)) => Some((NameKind::Table, &table.schema)),
+            None => {
+                let (number, _) = self.snapshot.view(name)?;
+                Some((NameKind::View, &self.columns[number as usize]))
+            }
+        }
     }
 }
 
@@ -48,7 +70,8 @@ impl Leaves for Catalogue<'_> {
     ) -> Result<Held, EvalFault> {
         match kind {
             LeafKind::Table => Ok(rows_named(self.snapshot, name)?),
-            LeafKind::View | LeafKind::Part => unreachable!(),
+            LeafKind::View => view_named(self.snapshot, name, LeafKind::View),
+            LeafKind::Part => view_named(self.snapshot, name, LeafKind::Part),
         }
     }
 }
@@ -70,4 +93,18 @@ fn table_rows(snapshot: &Snapshot, number: u32, table: &Table) -> Result<Held, M
 {
     let extents = snapshot.extents(number);
     Ok(Held::lent(extents.share()?, table.schema.clone_in()?))
+}
+
+fn view_named(snapshot: &Snapshot, name: &Text, kind: LeafKind) -> Result<Held, EvalFault>
+    requires { IsTrue (is_some (view_found snapshot.now.history name.now)) }
+    ensures { AnswersOne (FoundGives snapshot.now.history kind (view_found snapshot.now.history name.now)) result }
+{
+    let mut read = 0;
+    match snapshot.view(name) {
+        Some((number, view)) => {
+            let rows = rows_of_view(snapshot, number, view, kind, &mut read)?;
+            Ok(Held::own(rows))
+        }
+        None => unreachable!(),
+    }
 }

@@ -1,7 +1,11 @@
-//! The answers to queries: a query is bound over the names of a snapshot, its plan is run over the rows of the snapshot's tables, and what it gives is printed. How a query becomes a plan, and what a plan gives, is left to the crates below; when a query is asked, to those above.
+//! The answers to queries: a query is bound over the names of a snapshot, its plan is run over the rows of the snapshot's tables and views, and what it gives is printed. How a query becomes a plan, and what a plan gives, is left to the crates below; when a query is asked, to those above.
 #![tactic(auto)]
 
 mod answering;
 mod catalogue;
+mod made;
+mod views;
 
 pub use answering::answer;
+pub use catalogue::Catalogue;
+pub use views::{columns_read, view_rows_of};

@@ -76,6 +76,10 @@ Steps-text limits p by text now f outcome is reads = Steps-refused limits p by (
   fits = record { within = omega arith; not_own = refl; reason = inl refl };
 })
 
+-- a block that was too long
+pub Steps-long : (limits : Limits) (p : PassView) (by : By) (bytes : ℕ) (now : ℤ) (outcome : Outcome) → outcome ≡ record { place = length p.seen; own = false; reply = replies.Refused (refusals.TooLong bytes) } → Steps limits p p by (too_long bytes) now outcome
+Steps-long limits p by bytes now outcome is = Steps-refused limits p by (too_long bytes) now (refusals.TooLong bytes) outcome is refl (record { within = omega arith; not_own = refl; refused = refl })
+
 -- want of memory fits every text
 pub Steps-memory : (limits : Limits) (p : PassView) (by : By) (text : List ℕ) (now : ℤ) (outcome : Outcome) → outcome ≡ record { place = length p.seen; own = false; reply = replies.Refused refusals.Memory } → Steps limits p p by (command text) now outcome
 Steps-memory limits p by text now outcome is = Steps-refused limits p by (command text) now refusals.Memory outcome is refl (record {

@@ -67,7 +67,7 @@ AreTakes kind place [] = is_early kind ≡ true
 AreTakes kind place (first ∷ more) = (first ≤ place) × (length more ≤ 1)
 
 -- one block was answered through a pass: the outcome fits what it has then seen, at a place not below what it had seen, and
--- a merge that it tells is of all that were picked at such a place
+-- a merge that it tells is of all that were picked at such a place, and a fold up to the cursor there or a later one
 pub record Steps (limits : Limits) (old new : PassView) (by : By) (block : Block) (now : ℤ) (outcome : Outcome) : Type 0 where
   pub of : new.of ≡ old.of
   pub worth : new.worth ≡ old.worth

@@ -40,13 +40,13 @@ pub record IsTurn (limits : Limits) (h : History) (actor : ℕ) (t : Turn) : Typ
   pub within : t.receipt.place ≤ length h
   pub kind : t.receipt.kind ≡ kind_of t.reply
 
--- the turn isn't before the place q, and a merge that it tells is of all that were picked at a place from q on
+-- the turn isn't before the place q, and a merge that it tells is of all that were picked at a place from q on, and a fold up to the cursor there or a later one
 pub record ComesAfter (h : History) (q : ℕ) (t : Turn) : Type 0 where
   pub since : q ≤ t.receipt.place
   pub names_all : NamesAll (take t.receipt.place h) q t.reply
 
 -- turns after n others, the last of which stood at the place q: they are numbered on, the places never fall, and no merge
--- leaves out what stood at the place before
+-- or fold leaves out what stood at the place before
 abbrev pub AreTurns : Limits → History → ℕ → ℕ → ℕ → List Turn → Type 0
 AreTurns limits h actor n q [] = Unit {0}
 AreTurns limits h actor n q (t ∷ ts) = (t.receipt.number ≡ n + 1) × ComesAfter h q t × IsTurn limits h actor t × AreTurns limits h actor (n + 1) t.receipt.place ts

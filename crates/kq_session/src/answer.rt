@@ -53,7 +53,7 @@ fn answer_text<R: Wait, G: Gate>(
     match read_command(service.alloc, text.as_slice()) {
         Ok(command) => {
             let work = Work { by, command, now };
-            shared.apply(service.rt, pass, work, service.gate)
+            shared.apply(service.rt, pass, &work, service.gate)
         }
         Err(fault) => refused(shared, pass, refusal(fault)),
     }

@@ -18,11 +18,12 @@ pub struct Served<S: Source, K: Sink, C: Clock> {
 impl<S: Source, K: Sink, C: Clock> Model for Served<S, K, C> {
     ghost use Rattle.std.specs.Coded.{codes};
     ghost use Rattle.kq_value.specs.contracts.value.Value as cell;
+    ghost use Rattle.kq_expr.specs.contracts.expr.Expr as expr;
     ghost use Rattle.kq_session.specs.Objects.{ServedView, objects};
 
     ghost Value = { ServedView };
 
-    ghost coded = { Prim.hlevel (codes, cell.the_row.coded) };
+    ghost coded = { Prim.hlevel (codes, cell.the_row.coded, expr.the_row.coded) };
 
     ghost view = { λ s. record { pass = s.pass; session = record { objects = objects S.told S.faults K.accepted K.faults C.readings s.parts; receipts = s.receipts; status = s.status } } };
 }

@@ -4,24 +4,23 @@ use Rattle.std.proofs.lemmas.List.{drop_all, get_or-map, length-map}
 use Rattle.kq_value.specs.Typed.{HasTypes}
 use Rattle.kq_value.specs.declared.value.Value.{Value}
 use Rattle.kq_model.specs.declared.event.Event.{Event}
-use Rattle.kq_model.specs.declared.table.Table.{Table}
-use Rattle.kq_model.specs.History.{History, commits_of, log}
+use Rattle.kq_model.specs.History.{History, Log, commits_of, log}
 use Rattle.kq_show.specs.JournalRows.{cursor_after, cursor_of, event_row, journal_columns, rows_behind}
 use Rattle.kq_show.proofs.ExtentLemmas.{number_cell-typed}
 
-pub event_row-typed : (tables : List Table) (place cursor : ℕ) (e : Event) → HasTypes journal_columns (event_row tables place cursor e)
-event_row-typed tables place cursor e =
+pub event_row-typed : (l : Log) (place cursor : ℕ) (e : Event) → HasTypes journal_columns (event_row l place cursor e)
+event_row-typed l place cursor e =
     (number_cell-typed place, ((refl, tt), (number_cell-typed (cursor_of cursor e.operation), (number_cell-typed e.by.actor, (number_cell-typed e.by.number, ((refl, tt), tt))))))
 
 -- the rows of some events, and then those of the others
-pub rows_behind-append : (tables : List Table) (place cursor : ℕ) (h g : History)
-    → rows_behind tables place cursor (h ++ g) ≡ rows_behind tables place cursor h ++ rows_behind tables (place + length h) (cursor + length (log h)) g
-rows_behind-append tables place cursor [] g = let p : place + 0 ≡ place = omega arith in let c : cursor + 0 ≡ cursor = omega arith in rw (p, c) refl
-rows_behind-append tables place cursor (e ∷ h) g =
+pub rows_behind-append : (l : Log) (place cursor : ℕ) (h g : History)
+    → rows_behind l place cursor (h ++ g) ≡ rows_behind l place cursor h ++ rows_behind l (place + length h) (cursor + length (log h)) g
+rows_behind-append l place cursor [] g = let p : place + 0 ≡ place = omega arith in let c : cursor + 0 ≡ cursor = omega arith in rw (p, c) refl
+rows_behind-append l place cursor (e ∷ h) g =
     let p : place + length (e ∷ h) ≡ place + 1 + length h = omega arith in
     let front = length-append (commits_of e.operation) (log h) in
     let c : cursor + length (log (e ∷ h)) ≡ cursor_after cursor e + length (log h) = omega (arith, front) in
-    rw (p, c) (ap (λ rs. event_row tables (place + 1) (cursor_after cursor e) e ∷ rs) (rows_behind-append tables (place + 1) (cursor_after cursor e) h g))
+    rw (p, c) (ap (λ rs. event_row l (place + 1) (cursor_after cursor e) e ∷ rs) (rows_behind-append l (place + 1) (cursor_after cursor e) h g))
 
 -- what is left of some events, and the next
 pub next_event : {H : Type 0} (value : H → Event) (handles : List H) (i : ℕ) (h : H) → i < length handles → h ≡ get_or handles i h
@@ -34,12 +33,12 @@ next_event value handles i h within is =
 
 -- ---- one event more
 
-pub rows-next : (tables : List Table) (place cursor after i : ℕ) (rows more whole : List (List Value)) (row : List Value) (e : Event) (before left : History)
-    → before ≡ e ∷ left → after ≡ cursor_after cursor e → row ≡ event_row tables (place + i + 1) after e → more ≡ rows ++ row ∷ []
-    → rows ++ rows_behind tables (place + i) cursor before ≡ whole → more ++ rows_behind tables (place + (i + 1)) after left ≡ whole
-rows-next tables place cursor after i rows more whole row e before left b a is m h =
+pub rows-next : (l : Log) (place cursor after i : ℕ) (rows more whole : List (List Value)) (row : List Value) (e : Event) (before left : History)
+    → before ≡ e ∷ left → after ≡ cursor_after cursor e → row ≡ event_row l (place + i + 1) after e → more ≡ rows ++ row ∷ []
+    → rows ++ rows_behind l (place + i) cursor before ≡ whole → more ++ rows_behind l (place + (i + 1)) after left ≡ whole
+rows-next l place cursor after i rows more whole row e before left b a is m h =
     let p : place + (i + 1) ≡ place + i + 1 = omega arith in
-    rw (m, is, a, p) (append_assoc rows (event_row tables (place + i + 1) (cursor_after cursor e) e ∷ []) (rows_behind tables (place + i + 1) (cursor_after cursor e) left) ∙ rw b at h)
+    rw (m, is, a, p) (append_assoc rows (event_row l (place + i + 1) (cursor_after cursor e) e ∷ []) (rows_behind l (place + i + 1) (cursor_after cursor e) left) ∙ rw b at h)
 
 pub count-next : (cursor after total : ℕ) (e : Event) (before left : History) → before ≡ e ∷ left → after ≡ cursor_after cursor e → cursor + length (log before) ≡ total → after + length (log left) ≡ total
 count-next cursor after total e before left b a h =
@@ -48,14 +47,14 @@ count-next cursor after total e before left b a h =
     omega (arith, n, a, all)
 
 -- none is left
-pub rows-done : (tables : List Table) (place cursor i : ℕ) (rows whole : List (List Value)) (h : History) → length h ≤ i → rows ++ rows_behind tables place cursor (drop i h) ≡ whole → rows ≡ whole
-rows-done tables place cursor i rows whole h all e = sym (append-nil rows) ∙ rw (drop_all i h all) at e
+pub rows-done : (l : Log) (place cursor i : ℕ) (rows whole : List (List Value)) (h : History) → length h ≤ i → rows ++ rows_behind l place cursor (drop i h) ≡ whole → rows ≡ whole
+rows-done l place cursor i rows whole h all e = sym (append-nil rows) ∙ rw (drop_all i h all) at e
 
 -- ---- some events more
 
-pub rows-part : (tables : List Table) (at cursor after n : ℕ) (rows more whole : List (List Value)) (before part left : History)
-    → before ≡ part ++ left → n ≡ length part → after ≡ cursor + length (log part) → more ≡ rows ++ rows_behind tables at cursor part
-    → rows ++ rows_behind tables at cursor before ≡ whole → more ++ rows_behind tables (at + n) after left ≡ whole
-rows-part tables at cursor after n rows more whole before part left b long a m h =
-    rw (m, a, long) (append_assoc rows (rows_behind tables at cursor part) (rows_behind tables (at + length part) (cursor + length (log part)) left)
-    ∙ ap (λ rs. rows ++ rs) (sym (rows_behind-append tables at cursor part left)) ∙ rw b at h)
+pub rows-part : (l : Log) (at cursor after n : ℕ) (rows more whole : List (List Value)) (before part left : History)
+    → before ≡ part ++ left → n ≡ length part → after ≡ cursor + length (log part) → more ≡ rows ++ rows_behind l at cursor part
+    → rows ++ rows_behind l at cursor before ≡ whole → more ++ rows_behind l (at + n) after left ≡ whole
+rows-part l at cursor after n rows more whole before part left b long a m h =
+    rw (m, a, long) (append_assoc rows (rows_behind l at cursor part) (rows_behind l (at + length part) (cursor + length (log part)) left)
+    ∙ ap (λ rs. rows ++ rs) (sym (rows_behind-append l at cursor part left)) ∙ rw b at h)

@@ -6,11 +6,11 @@ use Rattle.kq_value.specs.declared.ty.Ty.TheVariants as ty
 use Rattle.kq_value.specs.declared.value.Value.{Value}
 use Rattle.kq_value.specs.declared.value.Value.TheVariants.{Text}
 use Rattle.kq_model.specs.declared.table.Table.{Table}
-use Rattle.kq_model.specs.declared.event.Commit.TheVariants.{CreateTable, AlterMerge, Ingest}
+use Rattle.kq_model.specs.declared.event.Commit.TheVariants.{CreateTable, CreateView, AlterMerge, Ingest}
 use Rattle.kq_model.specs.declared.event.Operation.{Operation}
 use Rattle.kq_model.specs.declared.event.Operation.TheVariants as operation
 use Rattle.kq_model.specs.declared.event.Event.{Event}
-use Rattle.kq_model.specs.History.{History, commits_of, log, tables}
+use Rattle.kq_model.specs.History.{History, Log, Viewed, commits_of, log, tables, views}
 use Rattle.kq_show.specs.Cells.{column, number_cell}
 
 abbrev pub journal_columns : List Field
@@ -20,23 +20,29 @@ journal_columns =
 
 abbrev pub kind_of : Operation → List ℕ
 kind_of (operation.Commit (CreateTable name schema)) = codes "CreateTable"
+kind_of (operation.Commit (CreateView view)) = codes "CreateView"
 kind_of (operation.Commit (AlterMerge table columns)) = codes "AlterMerge"
 kind_of (operation.Commit (Ingest batches failures)) = codes "Ingest"
 kind_of (operation.Fold view to) = codes "Fold"
 kind_of (operation.Merge table old new) = codes "Merge"
 
 -- the name of a table by its number; a number that no table has has no name
-abbrev pub name_of : List Table → ℕ → List ℕ
-name_of tables number = unwrap_or (option_map (λ (t : Table). t.name) (slice_get tables number)) []
+abbrev pub name_of : Log → ℕ → List ℕ
+name_of l number = unwrap_or (option_map (λ (t : Table). t.name) (slice_get (tables l) number)) []
 
--- the table that an event makes or widens, that its own batch is for, or whose extents it merges; no view has a name yet
-abbrev pub entity_of : List Table → Operation → List ℕ
-entity_of tables (operation.Commit (CreateTable name schema)) = name
-entity_of tables (operation.Commit (AlterMerge table columns)) = name_of tables table
-entity_of tables (operation.Commit (Ingest [] failures)) = []
-entity_of tables (operation.Commit (Ingest (own ∷ derived) failures)) = name_of tables own.table
-entity_of tables (operation.Fold view to) = []
-entity_of tables (operation.Merge table old new) = name_of tables table
+-- and that of a view
+abbrev pub view_name_of : Log → ℕ → List ℕ
+view_name_of l number = unwrap_or (option_map (λ (v : Viewed). v.view.name) (slice_get (views l) number)) []
+
+-- the table that an event makes or widens, that its own batch is for, or whose extents it merges, or the view that it makes or folds, where all these commits were made
+abbrev pub entity_of : Log → Operation → List ℕ
+entity_of l (operation.Commit (CreateTable name schema)) = name
+entity_of l (operation.Commit (CreateView view)) = view.name
+entity_of l (operation.Commit (AlterMerge table columns)) = name_of l table
+entity_of l (operation.Commit (Ingest [] failures)) = []
+entity_of l (operation.Commit (Ingest (own ∷ derived) failures)) = name_of l own.table
+entity_of l (operation.Fold view to) = view_name_of l view
+entity_of l (operation.Merge table old new) = name_of l table
 
 -- the cursor that is shown of an operation: a fold's target, and else the cursor after it
 abbrev pub cursor_of : ℕ → Operation → ℕ
@@ -44,22 +50,22 @@ cursor_of cursor (operation.Commit c) = cursor
 cursor_of cursor (operation.Fold view to) = to
 cursor_of cursor (operation.Merge table old new) = cursor
 
--- the event's place, its kind, its cursor, its mark, and its table
-abbrev pub event_row : List Table → ℕ → ℕ → Event → List Value
-event_row tables place cursor e =
+-- the event's place, its kind, its cursor, its mark, and its table or view
+abbrev pub event_row : Log → ℕ → ℕ → Event → List Value
+event_row l place cursor e =
     number_cell place ∷ Text (kind_of e.operation) ∷ number_cell (cursor_of cursor e.operation) ∷ number_cell e.by.actor ∷ number_cell e.by.number
-    ∷ Text (entity_of tables e.operation) ∷ []
+    ∷ Text (entity_of l e.operation) ∷ []
 
 -- the cursor after an event
 abbrev pub cursor_after : ℕ → Event → ℕ
 cursor_after cursor e = cursor + length (commits_of e.operation)
 
 -- a row for each event behind so many events and commits
-abbrev pub rows_behind : List Table → ℕ → ℕ → History → List (List Value)
-rows_behind tables place cursor [] = []
-rows_behind tables place cursor (e ∷ h) =
-    event_row tables (place + 1) (cursor_after cursor e) e ∷ rows_behind tables (place + 1) (cursor_after cursor e) h
+abbrev pub rows_behind : Log → ℕ → ℕ → History → List (List Value)
+rows_behind l place cursor [] = []
+rows_behind l place cursor (e ∷ h) =
+    event_row l (place + 1) (cursor_after cursor e) e ∷ rows_behind l (place + 1) (cursor_after cursor e) h
 
 -- a row for each event, in order
 abbrev pub journal_rows : History → List (List Value)
-journal_rows h = rows_behind (tables (log h)) 0 0 h
+journal_rows h = rows_behind (log h) 0 0 h

@@ -1,3 +1,4 @@
 pub mod Cells
 pub mod ExtentRows
 pub mod JournalRows
+pub mod ViewRows

@@ -2,8 +2,8 @@
 ghost use Rattle.std.specs.Prelude.{◌≡◌, ◌<◌, ◌≤◌, ◌+◌, ◌^◌, ◌++◌, [], All, IfOk, OnOk, false, length, map};
 ghost use Rattle.std.specs.Arc.{arc_value};
 ghost use Rattle.kq_value.specs.Typed.{HasTypes};
-ghost use Rattle.kq_model.specs.History.{commits_of, log, tables};
-ghost use Rattle.kq_show.specs.JournalRows.{cursor_of, entity_of, event_row, journal_columns, journal_rows, kind_of, name_of, rows_behind};
+ghost use Rattle.kq_model.specs.History.{commits_of, log};
+ghost use Rattle.kq_show.specs.JournalRows.{cursor_of, entity_of, event_row, journal_columns, journal_rows, kind_of, name_of, rows_behind, view_name_of};
 
 use crate::cells::{number_cell, schema_of};
 use kq_catalog::Snapshot;
@@ -13,7 +13,7 @@ use kq_value::{Memory, Schema, Text, Ty, Value};
 use std::alloc::Global;
 use std::sync::Arc;
 
-/// A row for each event: Place, from 1, Kind, Cursor, Actor, Number and Entity, the table's name.
+/// A row for each event: Place, from 1, Kind, Cursor, Actor, Number and Entity, the name of the table or view.
 pub fn journal_of(snapshot: &Snapshot) -> Result<Answer, Memory>
     ensures schema { IfOk result (λ a. a.schema ≡ journal_columns) }
     ensures unordered { IfOk result (λ a. a.ordered ≡ false) }
@@ -70,7 +70,7 @@ fn add_rows(
     requires room { place + length events.now < 2 ^ 64 }
     requires below { cursor ≤ place }
     requires typed { All (HasTypes journal_columns) rows.old }
-    ensures rows { OnOk result (rows.new ≡ rows.old ++ rows_behind (tables (log snapshot.now.history)) place cursor (map arc_value events.now)) }
+    ensures rows { OnOk result (rows.new ≡ rows.old ++ rows_behind (log snapshot.now.history) place cursor (map arc_value events.now)) }
     ensures typed { OnOk result (All (HasTypes journal_columns) rows.new) }
     ensures cursor { IfOk result (λ after. after ≡ cursor + length (log (map arc_value events.now))) }
     ensures below { IfOk result (λ after. after ≤ place + length events.now) }
@@ -103,7 +103,7 @@ fn fill_row(
     row: &mut Vec<Value>,
 ) -> Result<(), Memory>
     requires { row.old.items ≡ [] }
-    ensures { OnOk result (row.new.items ≡ event_row (tables (log snapshot.now.history)) place cursor event.now) }
+    ensures { OnOk result (row.new.items ≡ event_row (log snapshot.now.history) place cursor event.now) }
 {
     let kind = Text::from_str(snapshot.allocator(), kind(&event.operation))?;
     let entity = entity(snapshot, &event.operation)?;
@@ -131,6 +131,7 @@ fn kind(operation: &Operation) -> &'static str
 {
     match operation {
         Operation::Commit(Commit::CreateTable { .. }) => "CreateTable",
+        Operation::Commit(Commit::CreateView(_)) => "CreateView",
         Operation::Commit(Commit::AlterMerge { .. }) => "AlterMerge",
         Operation::Commit(Commit::Ingest { .. }) => "Ingest",
         Operation::Fold { .. } => "Fold",
@@ -139,25 +140,35 @@ fn kind(operation: &Operation) -> &'static str
 }
 
 fn entity(snapshot: &Snapshot, operation: &Operation) -> Result<Text, Memory>
-    ensures { IfOk result (λ t. t ≡ entity_of (tables (log snapshot.now.history)) operation.now) }
+    ensures { IfOk result (λ t. t ≡ entity_of (log snapshot.now.history) operation.now) }
 {
     match operation {
         Operation::Commit(Commit::CreateTable { name, .. }) => name.clone_in(),
+        Operation::Commit(Commit::CreateView(view)) => view.get().name.clone_in(),
         Operation::Commit(Commit::AlterMerge { table, .. }) => table_name(snapshot, *table),
         Operation::Commit(Commit::Ingest { batches, .. }) => match batches.as_slice().first() {
             Some(own) => table_name(snapshot, own.table),
             None => Text::from_str(snapshot.allocator(), ""),
         },
-        Operation::Fold { .. } => Text::from_str(snapshot.allocator(), ""),
+        Operation::Fold { view, .. } => view_name(snapshot, *view),
         Operation::Merge { table, .. } => table_name(snapshot, *table),
     }
 }
 
-fn table_name(snapshot: &Snapshot, number: u32) -> Result<Text, Memory>
-    ensures { IfOk result (λ t. t ≡ name_of (tables (log snapshot.now.history)) number) }
+pub(crate) fn table_name(snapshot: &Snapshot, number: u32) -> Result<Text, Memory>
+    ensures { IfOk result (λ t. t ≡ name_of (log snapshot.now.history) number) }
 {
     match snapshot.table_at(number) {
         Some(table) => table.name.clone_in(),
+        None => Text::from_str(snapshot.allocator(), ""),
+    }
+}
+
+fn view_name(snapshot: &Snapshot, number: u32) -> Result<Text, Memory>
+    ensures { IfOk result (λ t. t ≡ view_name_of (log snapshot.now.history) number) }
+{
+    match snapshot.view_at(number) {
+        Some(view) => view.name.clone_in(),
         None => Text::from_str(snapshot.allocator(), ""),
     }
 }

@@ -1,9 +1,11 @@
-//! What the shows tell of a catalogue, as answers: the extents of a table, and the journal. Which command asks for which, and how an answer is printed, is left to others.
+//! What the shows tell of a catalogue, as answers: the extents of a table, a view, and the journal. Which command asks for which, and how an answer is printed, is left to others.
 #![tactic(auto)]
 
 mod cells;
 mod extents;
 mod journal;
+mod views;
 
 pub use extents::extents_of;
 pub use journal::journal_of;
+pub use views::view_of;

@@ -4,7 +4,7 @@ use crate::page::Page;
 use crate::reading::{Reader, assert_reads, assert_rows, repeated};
 use crate::tabulars::put_query;
 use kq_command::{
-    Change, Column, Columns, Command, Identifier, Ingestion, Quoted, Show, read_command,
+    Change, Column, Columns, Command, Identifier, Ingestion, NewView, Quoted, Show, read_command,
 };
 use std::alloc::{AllocError, Global};
 use std::test::Fail;
@@ -43,6 +43,27 @@ fn put_ingestion(page: &mut Page<'_>, ingestion: &Ingestion) {
     page.put(ingestion.body.as_str());
 }
 
+/// The view and its table, what is given, and the query as its text in braces and as its tree.
+fn put_view(page: &mut Page<'_>, view: &NewView) {
+    page.put("view ");
+    put_identifier(page, &view.name);
+    page.put(" on ");
+    put_identifier(page, &view.table);
+    if view.unless_there {
+        page.put(" unless there");
+    }
+    if view.backfill {
+        page.put(" backfilled");
+    }
+    if let Some(at) = view.repeated {
+        page.put_place(" twice", at);
+    }
+    page.put(" {");
+    page.put(view.query.as_str());
+    page.put("} ");
+    put_query(page, &view.body.tree);
+}
+
 /// A table to be made as `NAME@PLACE` and then each column as ` NAME@PLACE:TYPE`, TYPE by its place in the order of types.
 pub fn put_command(page: &mut Page<'_>, command: &Command) {
     match command {
@@ -51,12 +72,17 @@ pub fn put_command(page: &mut Page<'_>, command: &Command) {
             page.put("query ");
             put_query(page, &query.tree);
         }
+        Command::Show(Show::View(view)) => {
+            page.put("shown ");
+            put_identifier(page, view);
+        }
         Command::Show(Show::Extents(table)) => {
             page.put("extents ");
             put_identifier(page, table);
         }
         Command::Show(Show::Journal) => page.put("journal"),
         Command::Change(Change::Ingest(ingestion)) => put_ingestion(page, ingestion),
+        Command::Change(Change::CreateView(view)) => put_view(page, view),
         Command::Change(Change::CreateTable { name, columns }) => {
             put_identifier(page, name);
             put_columns(page, columns.as_slice());
@@ -69,6 +95,10 @@ pub fn put_command(page: &mut Page<'_>, command: &Command) {
         Command::Merge(table) => {
             page.put("merge ");
             put_identifier(page, table);
+        }
+        Command::Fold(view) => {
+            page.put("fold ");
+            put_identifier(page, view);
         }
     }
 }
@@ -94,6 +124,13 @@ fn texts_read_as_their_commands(rt: HostRuntime) -> Result<(), Fail> {
 .show journal => journal
 #merge E => merge E@7
 # merge ['my table'] => merge my table@8
+.create materialized-view V on table E { E | summarize n = count() by k } => view V@26 on E@37 {E | summarize n = count() by k} E|Summarize n=count() by k
+.create async ifnotexists materialized-view with (backfill=true) with on table E {E|count} => view with@65 on E@79 unless there backfilled {E|count} E|Count
+.create ifnotexists materialized-view with (backfill=false, backfill=true) ['v'] on table ['my table'] { print 'é' } => view v@75 on my table@90 unless there twice@60 {print 'é'} Print 'é'
+.create materialized-view with on table E { ['E'] } => view with@26 on E@40 {['E']} ['E']
+.show materialized-view V => shown V@24
+# fold V => fold V@7
+#fold ['by'] => fold by@6
 E => query E
 count | count; => query count|Count
 let x = E; print x.y => query x=E:E; Print {x .y}
@@ -113,6 +150,10 @@ fn commands_go_over_lines(rt: HostRuntime) -> Result<(), Fail> {
             "E@38 k@46:0 v@64:1",
         ),
         (".ingest inline into table E <|\n1,2", "E@26 < 1,2"),
+        (
+            ".create\nmaterialized-view V\non table E {// its rows\n  E // all\n|// of them\ncount// so many\n}",
+            "view V@26 on E@37 {E // all\n|// of them\ncount} E|Count",
+        ),
         (".ingest inline into table E<| \t\r\n 1 \n", "E@26 < 1 \n"),
         (
             ".ingest // 1\ninline\ninto // <|\ntable\n['my table'] // x\n<| // 'a",
@@ -137,11 +178,7 @@ fn commands_go_over_lines(rt: HostRuntime) -> Result<(), Fail> {
 fn other_forms_are_not_built_yet(rt: HostRuntime) -> Result<(), Fail> {
     let rows = "\
 .alter table E policy update '[]'
-.create materialized-view V on table E { E | summarize n = count() by k }
-.create async ifnotexists materialized-view with (backfill=true) with on table E { E }
-.show materialized-view V
 .show ingestion failures
-# fold V
 #export X
 #export X over E { E }
 ";
@@ -154,14 +191,14 @@ fn other_forms_are_not_built_yet(rt: HostRuntime) -> Result<(), Fail> {
 #[test]
 fn as_many_as_120_brackets_are_read(rt: HostRuntime) -> Result<(), Fail> {
     let nested = [("(", 120), ("1", 1), (")", 120)];
-    let view = ".create materialized-view V on table E { print a[";
+    let export = "#export X over E { print a[";
     for (text, want) in [
         (
             [("print ", 1), nested[0], nested[1], nested[2]],
             [("query Print ", 1), nested[0], nested[1], nested[2]],
         ),
         (
-            [(view, 1), ("a[f(", 59), (")]", 59), ("] }", 1)],
+            [(export, 1), ("a[f(", 59), (")]", 59), ("] }", 1)],
             [("unbuilt", 1), ("", 0), ("", 0), ("", 0)],
         ),
     ] {

@@ -7,7 +7,7 @@ use std::alloc::Global;
 use std::test::Fail;
 
 // An actor begins the command of a text, or finishes, at an empty text, what it began.
-fn step(alloc: Global, actor: u32, text: &str) -> Result<Step, Fail> {
+pub(super) fn step(alloc: Global, actor: u32, text: &str) -> Result<Step, Fail> {
     let by = By { actor, number: 1 };
     if text.is_empty() {
         return Ok(Step::Finish(by));
@@ -36,6 +36,8 @@ fn code(reply: &Reply) -> (u8, u64) {
         Reply::Ingested { cursor, rows: _ } => (b'i', *cursor),
         Reply::Skipped { cursor } => (b's', *cursor),
         Reply::Merged { extents } => (b'm', *extents),
+        Reply::Folded { cursor } => (b'c', *cursor),
+        Reply::Rows { text } => (b'r', text.len() as u64),
         Reply::Nothing => (b'n', 0),
         Reply::Refused(Refusal::Exists { at }) => (b'e', *at),
         Reply::Refused(Refusal::Full { limit }) => (b'f', *limit),
@@ -77,9 +79,20 @@ const F: &str = ".create table F (k:long)";
 
 const INTO_E: &str = ".ingest inline into table E <|\n1";
 
+const TWO_INTO_E: &str = ".ingest inline into table E <|\n2";
+
 const MERGE_E: &str = "#merge E";
 
 const WIDER_E: &str = ".alter-merge table E (v:long)";
+
+const VIEW: &str = ".create materialized-view V on table E { E | summarize n = count() by k }";
+
+const FOLD_V: &str = "#fold V";
+
+// The rows of the view over three records, and over the first two.
+const WHOLE: &str = "rows 2\nk:long\tn:long\n1\t2\n2\t1\n";
+
+const PART: &str = "rows 1\nk:long\tn:long\n1\t2\n";
 
 const ONCE_INTO_E: &str =
     ".ingest inline into table E with (tags='[\"ingest-by:a\"]', ingestIfNotExists='[\"a\"]') <|\n1";
@@ -217,6 +230,99 @@ fn of_two_merges_the_second_to_finish_picks_again(rt: HostRuntime) -> Result<(),
         (5, b'm', 2),
     ];
     let holds = come_to(rt.alloc(), Limits::full(), &rows, &expected, 6)?;
+    assert!(rt; holds);
+    Ok(())
+}
+
+fn place_of(trace: &Trace, at: usize) -> Option<u64> {
+    let told = trace.outcomes.get(at)?;
+    Some(told.outcome.place)
+}
+
+// The place of an outcome, and the rows that it printed.
+fn printed(trace: &Trace, at: usize) -> Option<(u64, &[u8])> {
+    let told = trace.outcomes.get(at)?;
+    match &told.outcome.reply {
+        Reply::Rows { text } => Some((told.outcome.place, text.as_slice())),
+        _ => None,
+    }
+}
+
+#[test]
+fn of_two_folds_the_second_to_finish_tells_the_cursor_of_the_first(
+    rt: HostRuntime,
+) -> Result<(), Fail> {
+    let rows = [
+        (0, E),
+        (0, ""),
+        (1, VIEW),
+        (1, ""),
+        (2, INTO_E),
+        (2, ""),
+        (3, INTO_E),
+        (3, ""),
+        (8, FOLD_V),
+        (9, FOLD_V),
+        (4, MERGE_E),
+        (4, ""),
+        (5, TWO_INTO_E),
+        (5, ""),
+        (8, ""),
+        (9, ""),
+        (6, "V | sort by k asc"),
+        (6, ""),
+        (7, "materialized_view('V')"),
+        (7, ""),
+    ];
+    let expected = [
+        (0, b'd', 1),
+        (1, b'd', 2),
+        (2, b'i', 3),
+        (3, b'i', 4),
+        (4, b'm', 2),
+        (5, b'i', 5),
+        (8, b'c', 4),
+        (9, b'c', 4),
+        (6, b'r', WHOLE.len() as u64),
+        (7, b'r', PART.len() as u64),
+    ];
+    let steps = steps(rt.alloc(), &rows)?;
+    let trace = run_steps(rt.alloc(), Limits::full(), steps)?;
+    assert!(rt; tells(&trace, &expected));
+    for (at, place) in [(4, 5), (5, 6), (6, 7), (7, 7)] {
+        assert!(rt; place_of(&trace, at) == Some(place), "outcome {at}");
+    }
+    assert!(rt; printed(&trace, 8) == Some((7, WHOLE.as_bytes())));
+    assert!(rt; printed(&trace, 9) == Some((7, PART.as_bytes())));
+    assert!(rt; trace.catalog.place() == 7);
+    Ok(())
+}
+
+#[test]
+fn a_fold_that_a_later_one_overtook_tells_the_cursor_of_that(rt: HostRuntime) -> Result<(), Fail> {
+    let rows = [
+        (0, E),
+        (0, ""),
+        (1, VIEW),
+        (1, ""),
+        (2, INTO_E),
+        (2, ""),
+        (8, FOLD_V),
+        (3, TWO_INTO_E),
+        (3, ""),
+        (9, FOLD_V),
+        (9, ""),
+        (8, ""),
+    ];
+    let expected = [
+        (0, b'd', 1),
+        (1, b'd', 2),
+        (2, b'i', 3),
+        (3, b'i', 4),
+        (9, b'c', 4),
+        (8, b'c', 4),
+    ];
+    let holds = come_to(rt.alloc(), Limits::full(), &rows, &expected, 5)?;
     assert!(rt; holds);
     Ok(())
 }

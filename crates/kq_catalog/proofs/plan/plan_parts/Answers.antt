@@ -1,4 +1,4 @@
-use Rattle.std.proofs.Common.{rules, ◌≡◌, ◌<◌, ◌+◌, ℕ, List, [], ◌∷◌, ◌++◌, length, map, take, ap, sym, ◌∙◌, subst, arith, cond, nat_eq}
+use Rattle.std.proofs.Common.{refl, rules, ◌≡◌, ◌<◌, ◌+◌, ℕ, List, [], ◌∷◌, ◌++◌, length, map, take, ap, sym, ◌∙◌, subst, arith, cond, nat_eq}
 use Rattle.std.specs.Arc.{arc_value}
 use Rattle.std.proofs.lemmas.Iterator.Adapters.{YieldsList-from_vec}
 use Rattle.std.proofs.lemmas.Iterator.Consumers.{YieldsList-turn, YieldsList-so_far, YieldsList-end}
@@ -73,5 +73,6 @@ returns c =
     record {
       is = ap (λ (bs : List Batch). Ingest bs c.args.failures) batches;
       edits = c.loop-part.invariant.1 ∙ ap (λ (ps : List Part). new_extents c.args.cursor c.args.id [] (map batch_of ps)) whole;
+      view = refl;
       made = counted ∙ count_changes c.args.cursor c.args.id done cs c.loop-part.invariant.1 ∙ ap (λ (ps : List Part). length (map batch_of ps)) whole;
     }

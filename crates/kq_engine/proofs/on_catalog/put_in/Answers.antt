@@ -10,13 +10,13 @@ use Rattle.kq_engine.proofs.on_catalog.put_in.Goals as goal
 pub overflow_add-cursor : goal.overflow_add-cursor
 overflow_add-cursor c =
     let old = c.args.catalog.now in
-    let fit = Commit-lawful old.limits (log (hist old)) c.args.work.now.command (commit_of c.args.intent) c.requires in
+    let fit = Commit-lawful old.limits (log (hist old)) c.args.work.now.command (commit_of c.args.intent) c.requires.due in
     omega (arith, fit.room, c.cursor.ensures.cursor, old.limits.few_commits)
 
-pub stage-requires : goal.stage-requires
-stage-requires c =
+pub stage-requires-clause-lawful : goal.stage-requires-clause-lawful
+stage-requires-clause-lawful c =
     let old = c.args.catalog.now in
-    (Commit-lawful old.limits (log (hist old)) c.args.work.now.command (commit_of c.args.intent) c.requires).lawful
+    (Commit-lawful old.limits (log (hist old)) c.args.work.now.command (commit_of c.args.intent) c.requires.due).lawful
 
 pub commit_ready-requires : goal.commit_ready-requires
 commit_ready-requires c = record { event = event_by c.args.work.now.by c.args.intent; staged = c.in_ok-staged.ensures.staged }
@@ -25,6 +25,6 @@ pub returns-clause-acts : goal.returns-clause-acts
 returns-clause-acts c =
     let old = c.args.catalog.now in
     let new = c.commit_ready.new.self in
-    Acts-commit old.limits (hist old) (hist new) c.args.work.now (length (hist old)) (commit_of c.args.intent) c.place-end.result c.reply_for-reply.result c.requires
+    Acts-commit old.limits (hist old) (hist new) c.args.work.now (length (hist old)) (commit_of c.args.intent) c.place-end.result c.reply_for-reply.result c.requires.due
     (c.commit_ready.ensures.history ∙ c.in_ok-staged.ensures.staged.history) c.place-end.ensures.place
     (c.reply_for-reply.ensures ∙ ap (λ (n : ℕ). reply_to (commit_of c.args.intent) (n + 1)) c.cursor.ensures.cursor)

@@ -5,14 +5,14 @@ use Rattle.std.proofs.lemmas.List.Elements.{All-push}
 use Rattle.kq_value.specs.Typed.{HasTypes}
 use Rattle.kq_value.specs.declared.value.Value.{Value}
 use Rattle.kq_model.specs.declared.event.Event.{Event}
-use Rattle.kq_model.specs.History.{commits_of, log, tables}
+use Rattle.kq_model.specs.History.{commits_of, log}
 use Rattle.kq_show.specs.JournalRows.{cursor_after, event_row, journal_columns}
 use Rattle.kq_show.proofs.JournalLemmas.{count-next, event_row-typed, next_event, rows-next}
 use Rattle.kq_show.proofs.journal.add_rows.Goals as goal
 
 pub loop-i-preserved : goal.loop-i-preserved
 loop-i-preserved c =
-    let named = tables (log c.args.snapshot.now.history) in
+    let named = log c.args.snapshot.now.history in
     let es = map arc_value c.args.events.now in
     let i = c.loop-i.i in
     let cursor = c.loop-i.cursor in

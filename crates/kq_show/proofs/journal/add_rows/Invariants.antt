@@ -2,7 +2,7 @@ use Rattle.std.proofs.Common.{◌≡◌, ◌≤◌, ◌+◌, ◌++◌, [], drop,
 use Rattle.std.specs.Arc.{arc_value}
 use Rattle.std.specs.List.{All}
 use Rattle.kq_value.specs.Typed.{HasTypes}
-use Rattle.kq_model.specs.History.{log, tables}
+use Rattle.kq_model.specs.History.{log}
 use Rattle.kq_show.specs.JournalRows.{journal_columns, rows_behind}
 use Rattle.kq_show.proofs.journal.add_rows.Given as goal
 
@@ -12,6 +12,6 @@ invariant-loop-i l = record {
   typed : All (HasTypes journal_columns) l.rows;
   below : l.cursor ≤ l.place + l.i;
   count : l.cursor + length (log (drop l.i (map arc_value l.events))) ≡ l.initial.cursor + length (log (map arc_value l.events));
-  rows : l.rows ++ rows_behind (tables (log l.snapshot.history)) (l.place + l.i) l.cursor (drop l.i (map arc_value l.events))
-      ≡ l.initial.rows ++ rows_behind (tables (log l.snapshot.history)) l.place l.initial.cursor (map arc_value l.events);
+  rows : l.rows ++ rows_behind (log l.snapshot.history) (l.place + l.i) l.cursor (drop l.i (map arc_value l.events))
+      ≡ l.initial.rows ++ rows_behind (log l.snapshot.history) l.place l.initial.cursor (map arc_value l.events);
 }

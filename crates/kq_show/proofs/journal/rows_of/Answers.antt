@@ -1,7 +1,7 @@
 use Rattle.std.proofs.Common.{◌≡◌, ◌+◌, ◌++◌, drop, length, map, sym, ap, ◌∙◌, arith}
 use Rattle.std.specs.Arc.{arc_value}
 use Rattle.std.proofs.lemmas.List.{length-map}
-use Rattle.kq_model.specs.History.{log, tables}
+use Rattle.kq_model.specs.History.{log}
 use Rattle.kq_show.proofs.JournalLemmas.{rows-part}
 use Rattle.kq_show.proofs.Walks.{StandsAt-within}
 use Rattle.kq_show.proofs.journal.rows_of.Goals as goal
@@ -19,6 +19,6 @@ loop-at-preserved c =
       within = omega (arith, within, n);
       below = c.in_ok-cursor.ensures.below;
       typed = c.in_ok-cursor.ensures.typed;
-      rows = rows-part (tables (log h)) at c.loop-at.cursor _ (length events) c.loop-at.rows _ _ (drop at h) part (drop (at + length events) h) front (sym n)
+      rows = rows-part (log h) at c.loop-at.cursor _ (length events) c.loop-at.rows _ _ (drop at h) part (drop (at + length events) h) front (sym n)
           c.in_ok-cursor.ensures.cursor c.in_ok-cursor.ensures.rows c.loop-at.invariant.rows;
     }

@@ -12,14 +12,14 @@ use Rattle.kq_catalog.proofs.state.State.plan.Goals as goal
 
 pub overflow_add-self-inside : goal.overflow_add-self-inside
 overflow_add-self-inside c =
-    let v : CatalogView = record { limits = c.self.inside.limits; history = c.self.inside.journal; held = c.self.inside.tables } in
+    let v : CatalogView = record { limits = c.self.inside.limits; history = c.self.inside.journal; held = c.self.inside.tables; views = c.self.inside.views } in
     let few = made_few v c.self.invariant.sound in
     let place = ap (λ (w : CatalogView). length (hist w)) c.self.view_is in
     omega (arith, c.self.invariant.made_count, few, place, c.place-place.ensures.place, c.place-place.ensures.small)
 
 pub plan_parts-requires-clause-ids : goal.plan_parts-requires-clause-ids
 plan_parts-requires-clause-ids c =
-    let v : CatalogView = record { limits = c.self.inside.limits; history = c.self.inside.journal; held = c.self.inside.tables } in
+    let v : CatalogView = record { limits = c.self.inside.limits; history = c.self.inside.journal; held = c.self.inside.tables; views = c.self.inside.views } in
     let now = c.args.self.now in
     let few = made_few v c.self.invariant.sound in
     let place = ap (λ (w : CatalogView). length (hist w)) c.self.view_is in

@@ -1,4 +1,6 @@
-use Rattle.std.proofs.Common.{◌≡◌, ◌+◌, length, ◌++◌, ◌∷◌, [], refl, ap, sym, ◌∙◌, subst, arith}
+use Rattle.std.proofs.Common.{◌≡◌, ◌+◌, Option, None, length, ◌++◌, ◌∷◌, [], refl, ap, sym, ◌∙◌, subst, arith}
+use Rattle.std.specs.Option.{IfSome}
+use Rattle.kq_names.specs.Places.{place_of}
 use Rattle.kq_model.specs.declared.event.Commit.{Commit}
 use Rattle.kq_model.specs.declared.event.Event.{Event}
 use Rattle.kq_model.specs.declared.event.Operation.TheVariants as operation
@@ -11,9 +13,11 @@ use Rattle.kq_model.specs.Tagged.{is_tagged_by}
 use Rattle.kq_tagged.specs.Index.{Adds}
 use Rattle.kq_catalog.specs.Edits.{IsPlan, edits_by}
 use Rattle.kq_catalog.specs.Held.{tables_in}
-use Rattle.kq_catalog.specs.Intents.{commit_of, event_by}
+use Rattle.kq_catalog.specs.Intents.{commit_of, event_by, view_by}
 use Rattle.kq_catalog.specs.Seen.{CatalogView, Sound, hist}
+use Rattle.kq_catalog.specs.Views.{HeldView, names_held, with_new}
 use Rattle.kq_catalog.proofs.Standing.{bounded, made_few, changes_fit, Holds-push}
+use Rattle.kq_catalog.proofs.Viewing.{count_views, new_name}
 use Rattle.kq_catalog.proofs.state.State.with_event.Goals as goal
 
 pub with_all-requires : goal.with_all-requires
@@ -21,33 +25,53 @@ with_all-requires c =
     let v = c.args.self.now in
     let cs = c.in_ok-commit.field-0.changes.items in
     let sound : Sound v = subst Sound c.self.view_is c.self.invariant.sound in
-    let plan : IsPlan (cursor_of (hist v) + 1) (1 + made_in (hist v)) (commit_of c.args.intent) c.in_ok-commit.field-0 = c.in_ok-commit.ensures in
-    subst (λ (w : CatalogView). FitAll (tables_in w.held) (edits_by cs)) (sym c.self.view_is) (changes_fit v (cursor_of (hist v) + 1) (1 + made_in (hist v)) (commit_of c.args.intent) cs sound c.requires plan.edits)
+    let plan : IsPlan (cursor_of (hist v) + 1) (1 + made_in (hist v)) c.args.intent c.in_ok-commit.field-0 = c.in_ok-commit.ensures in
+    subst (λ (w : CatalogView). FitAll (tables_in w.held) (edits_by cs)) (sym c.self.view_is) (changes_fit v (cursor_of (hist v) + 1) (1 + made_in (hist v)) (commit_of c.args.intent) cs sound c.requires.lawful plan.edits)
+
+pub with_new-requires-clause-new : goal.with_new-requires-clause-new
+with_new-requires-clause-new c =
+    let v : CatalogView = record { limits = c.self.inside.limits; history = c.self.inside.journal; held = c.self.inside.tables; views = c.self.inside.views } in
+    let lawful : LawfulCommit v.limits (log (hist v)) (commit_of c.args.intent) = subst (λ (w : CatalogView). LawfulCommit w.limits (log (hist w)) (commit_of c.args.intent)) (sym c.self.view_is) c.requires.lawful in
+    let plan : IsPlan (cursor_of (hist c.args.self.now) + 1) (1 + made_in (hist c.args.self.now)) c.args.intent c.in_ok-commit.field-0 = c.in_ok-commit.ensures in
+    subst (λ (o : Option HeldView). IfSome o (λ (x : HeldView). place_of x.view.name (names_held v.views) ≡ None)) (sym plan.view)
+    (new_name v.limits (hist v) (cursor_of (hist c.args.self.now) + 1) c.args.intent v.views c.self.invariant.sound.views lawful)
+
+pub with_new-requires-clause-few : goal.with_new-requires-clause-few
+with_new-requires-clause-few c =
+    let v : CatalogView = record { limits = c.self.inside.limits; history = c.self.inside.journal; held = c.self.inside.tables; views = c.self.inside.views } in
+    let b = bounded v c.self.invariant.sound in
+    omega (arith, count_views (hist v) v.views c.self.invariant.sound.views, b.few_views, v.limits.few_views)
+
+pub overflow_add-self-inside : goal.overflow_add-self-inside
+overflow_add-self-inside c =
+    let v : CatalogView = record { limits = c.self.inside.limits; history = c.self.inside.journal; held = c.self.inside.tables; views = c.self.inside.views } in
+    let b = bounded v c.self.invariant.sound in
+    omega (arith, c.self.invariant.count, b.few_commits, c.self.inside.limits.few_commits)
 
 pub overflow_add-result : goal.overflow_add-result
 overflow_add-result c =
-    let v : CatalogView = record { limits = c.self.inside.limits; history = c.self.inside.journal; held = c.self.inside.tables } in
+    let v : CatalogView = record { limits = c.self.inside.limits; history = c.self.inside.journal; held = c.self.inside.tables; views = c.self.inside.views } in
     let b = bounded v c.self.invariant.sound in
     omega (arith, c.self.invariant.count, b.few_commits, c.self.inside.limits.few_commits)
 
 pub overflow_add-result-2 : goal.overflow_add-result-2
 overflow_add-result-2 c =
     let now = c.args.self.now in
-    let v : CatalogView = record { limits = c.self.inside.limits; history = c.self.inside.journal; held = c.self.inside.tables } in
+    let v : CatalogView = record { limits = c.self.inside.limits; history = c.self.inside.journal; held = c.self.inside.tables; views = c.self.inside.views } in
     let few = made_few v c.self.invariant.sound in
-    let plan : IsPlan (cursor_of (hist now) + 1) (1 + made_in (hist now)) (commit_of c.args.intent) c.in_ok-commit.field-0 = c.in_ok-commit.ensures in
+    let plan : IsPlan (cursor_of (hist now) + 1) (1 + made_in (hist now)) c.args.intent c.in_ok-commit.field-0 = c.in_ok-commit.ensures in
     let place = ap (λ (w : CatalogView). length (hist w)) c.self.view_is in
-    omega (arith, c.self.invariant.made_count, few, place, c.place-place.ensures.place, c.place-place.ensures.small, plan.made, one_made now.limits (log (hist now)) (commit_of c.args.intent) c.requires)
+    omega (arith, c.self.invariant.made_count, few, place, c.place-place.ensures.place, c.place-place.ensures.small, plan.made, one_made now.limits (log (hist now)) (commit_of c.args.intent) c.requires.lawful)
 
 pub invariant_of-result : goal.invariant_of-result
 invariant_of-result c =
     let now = c.args.self.now in
-    let v : CatalogView = record { limits = c.self.inside.limits; history = c.self.inside.journal; held = c.self.inside.tables } in
+    let v : CatalogView = record { limits = c.self.inside.limits; history = c.self.inside.journal; held = c.self.inside.tables; views = c.self.inside.views } in
     let commit = commit_of c.args.intent in
     let made = c.in_ok-commit.field-0 in
     let cs = made.changes.items in
-    let plan : IsPlan (cursor_of (hist now) + 1) (1 + made_in (hist now)) commit made = c.in_ok-commit.ensures in
-    let lawful : LawfulCommit v.limits (log (hist v)) commit = subst (λ (w : CatalogView). LawfulCommit w.limits (log (hist w)) commit) (sym c.self.view_is) c.requires in
+    let plan : IsPlan (cursor_of (hist now) + 1) (1 + made_in (hist now)) c.args.intent made = c.in_ok-commit.ensures in
+    let lawful : LawfulCommit v.limits (log (hist v)) commit = subst (λ (w : CatalogView). LawfulCommit w.limits (log (hist w)) commit) (sym c.self.view_is) c.requires.lawful in
     let edits : edits_by cs ≡ edits_of (cursor_of (hist v) + 1) (1 + made_in (hist v)) commit =
     subst (λ (w : CatalogView). edits_by cs ≡ edits_of (cursor_of (hist w) + 1) (1 + made_in (hist w)) commit) (sym c.self.view_is) plan.edits in
     let journal : c.in_ok-journal.journal ≡ hist v ++ event_by c.args.by c.args.intent ∷ [] =
@@ -57,5 +81,7 @@ invariant_of-result c =
     let tags = c.in_ok-tags.tags in
     let adds : Adds index (λ t tag. is_tagged_by t tag commit) (c.self.inside.cursor + 1) tags =
     subst (λ (k : Commit). Adds index (λ t tag. is_tagged_by t tag k) (c.self.inside.cursor + 1) tags) plan.is c.in_ok-tags.ensures in
-    rw (journal, c.in_ok-tables.ensures)
-    (Holds-push v c.self.inside.cursor c.self.inside.made made.made (event_by c.args.by c.args.intent) commit cs index tags c.self.invariant lawful refl edits plan.made adds)
+    let views : c.in_ok-views.views ≡ with_new v.views (view_by (cursor_of (hist v) + 1) c.args.intent) =
+    c.in_ok-views.ensures ∙ ap (with_new v.views) plan.view ∙ ap (λ (w : CatalogView). with_new v.views (view_by (cursor_of (hist w) + 1) c.args.intent)) (sym c.self.view_is) in
+    rw (journal, c.in_ok-tables.ensures, views)
+    (Holds-push v c.self.inside.cursor c.self.inside.made made.made (event_by c.args.by c.args.intent) c.args.intent cs index tags c.self.invariant lawful c.requires.begins refl edits plan.made adds)

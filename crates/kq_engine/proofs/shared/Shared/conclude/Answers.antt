@@ -1,10 +1,14 @@
-use Rattle.std.proofs.Common.{subst, sym}
-use Rattle.kq_engine.specs.Shared.{Concludes}
+use Rattle.std.proofs.Common.{◌≡◌, length, ap, ◌∙◌, subst}
+use Rattle.kq_engine.specs.Found.{IsReady}
+use Rattle.kq_engine.specs.Shared.{PassView}
 use Rattle.kq_engine.proofs.Sharing.{Concludes-answered}
 use Rattle.kq_engine.proofs.shared.Shared.conclude.Goals as goal
 
 pub returns-in-Answered : goal.returns-in-Answered
 returns-in-Answered g c =
     let pass = c.args.pass.now in
-    subst (Concludes c.args.self.now.limits pass pass c.args.prepared.work) (sym c.answered.ensures)
-    (Concludes-answered c.args.self.now.limits pass c.args.prepared c.in-Answered.reply c.requires.fresh c.requires.prepared c.in-Answered.is)
+    let limits = c.args.self.now.limits in
+    let work = c.args.work.now in
+    let ready = subst (IsReady limits pass.seen work.now work.command) c.in-Answered.is c.requires.ready in
+    let at : c.pass.inside.seen ≡ length pass.seen = c.pass.invariant.1 ∙ ap (λ (p : PassView). length p.seen) c.pass.view_is in
+    rw (c.answered.ensures, at) (Concludes-answered limits pass work c.in-Answered.reply c.requires.fresh ready)

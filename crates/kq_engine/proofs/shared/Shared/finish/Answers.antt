@@ -7,34 +7,36 @@ use Rattle.kq_catalog.specs.Grown.{numbers_of}
 use Rattle.kq_catalog.proofs.Grown.{same_limits}
 use Rattle.kq_engine.specs.declared.work.Outcome.{Outcome}
 use Rattle.kq_engine.specs.Fits.{Advances, event_by}
-use Rattle.kq_engine.specs.Found.{IsPrepared}
+use Rattle.kq_engine.specs.Found.{IsReady}
 use Rattle.kq_engine.proofs.Sharing.{Finishes-step}
 use Rattle.kq_engine.proofs.shared.Shared.finish.Goals as goal
 
-pub finish-answer-requires : goal.finish-answer-requires
-finish-answer-requires g c =
+pub conclude-answer-requires-clause-ready : goal.conclude-answer-requires-clause-ready
+conclude-answer-requires-clause-ready g c =
+    let limits = c.args.self.now.limits in
+    let work = c.args.work.now in
     let pass = c.pass.inside.pass in
     let taken = c.take-catalog.result in
-    let prepared : IsPrepared c.args.self.now.limits pass.seen c.args.prepared = rw (← c.pass.view_is) at c.requires.prepared in
-    let fixed : numbers_of taken.limits ≡ numbers_of c.args.self.now.limits = search rules in
-    let first : take c.args.prepared.place (hist taken) ≡ pass.seen = ap (λ (n : ℕ). take n (hist taken)) prepared.at ∙ take-IsPrefix pass.seen (hist taken) c.take-catalog.ensures.seen in
-    subst (λ (l : Limits). IsPrepared l (take c.args.prepared.place (hist taken)) c.args.prepared) (sym (same_limits _ _ fixed))
-    (subst (λ (h : History). IsPrepared c.args.self.now.limits h c.args.prepared) (sym first) prepared)
+    let place = c.pass.inside.seen in
+    let ready : IsReady limits pass.seen work.now work.command c.args.ready = rw (← c.pass.view_is) at c.requires.ready in
+    let fixed : numbers_of taken.limits ≡ numbers_of limits = search rules in
+    let first : take place (hist taken) ≡ pass.seen = ap (λ (n : ℕ). take n (hist taken)) c.pass.invariant.1 ∙ take-IsPrefix pass.seen (hist taken) c.take-catalog.ensures.seen in
+    subst (λ (l : Limits). IsReady l (take place (hist taken)) work.now work.command c.args.ready) (sym (same_limits _ _ fixed))
+    (subst (λ (h : History). IsReady limits h work.now work.command c.args.ready) (sym first) ready)
 
 pub give-requires-clause-begins : goal.give-requires-clause-begins
 give-requires-clause-begins g c =
-    let appends = c.finish-answer.ensures.step.appends in
-    rw c.take-catalog.ensures.pass (event_by c.args.prepared.work.by appends.made, sym appends.appended)
+    let appends = c.conclude-answer.ensures.step.appends in
+    rw c.take-catalog.ensures.pass (event_by c.args.work.now.by appends.made, sym appends.appended)
 
 pub returns : goal.returns
 returns g c =
     let old = c.take-catalog.result.history in
-    let new = c.finish-answer.new.catalog.history in
-    let work = c.args.prepared.work in
-    let began = c.args.prepared.place in
+    let new = c.conclude-answer.new.catalog.history in
+    let work = c.args.work.now in
     let pass = c.pass.inside.pass in
-    let here = rw (← c.pass.view_is) at c.requires.prepared.at in
+    let began = c.pass.inside.seen in
     let fixed : numbers_of c.take-catalog.result.limits ≡ numbers_of c.args.self.now.limits = search rules in
-    let told = subst (λ (o : Outcome). Advances c.take-catalog.result.limits old new work began o) (sym c.told-outcome.ensures) c.finish-answer.ensures.step in
+    let told = subst (λ (o : Outcome). Advances c.take-catalog.result.limits old new work began o) (sym c.told-outcome.ensures) c.conclude-answer.ensures.step in
     let step = subst (λ (l : Limits). Advances l old new work began c.told-outcome.result) (same_limits _ _ fixed) told in
-    rw (← c.pass.view_is, c.give.ensures.pass, c.take-catalog.ensures.pass) (Finishes-step c.args.self.now.limits pass.of pass.seen old new pass.worth pass.made pass.taken work began c.told-outcome.result here c.take-catalog.ensures.seen step)
+    rw (← c.pass.view_is, c.give.ensures.pass, c.take-catalog.ensures.pass) (Finishes-step c.args.self.now.limits pass.of pass.seen old new pass.worth pass.made pass.taken work began c.told-outcome.result c.pass.invariant.1 c.take-catalog.ensures.seen step)
