@@ -1,7 +1,8 @@
--- The feeds that words ask for.
-use Rattle.std.proofs.Common.{◌≡◌, ◌≤◌, ◌&&◌, Bool, true, false, ℕ, cond, List, length, nat_le, Option, Some, None, option_and_then, unwrap_or, refl, subst, arith}
+-- The feeds and the workers that words ask for.
+use Rattle.std.proofs.Common.{◌≡◌, ◌≤◌, ◌&&◌, Bool, true, false, ℕ, cond, List, length, nat_le, ◌∷◌, [], Option, Some, None, option_and_then, option_map, unwrap_or, refl, subst, arith}
 use Rattle.std.proofs.lemmas.Bool.Decides.{nat_tests}
-use Rattle.kq_words.specs.Words.{Asked, Said, Text, asked, asked_by, all_asked, are_distinct, feeds_given, read, number_given, texts_of}
+use Rattle.std.specs.Str.Parse.{digits_value}
+use Rattle.kq_words.specs.Words.{Asked, Said, Text, asked, asked_by, all_asked, are_distinct, feeds_given, is_number, read, number_given, number_in, texts_of}
 use Rattle.kq_words.specs.Words.Kind.{workers, generate, feed}
 
 -- at most seven, no two equal
@@ -41,3 +42,48 @@ of_said None a e = absurd cc
 
 pub asked-feeds : (words : List Text) (a : Asked) → asked words ≡ Some a → AreFeeds a.feeds
 asked-feeds words a e = of_said (read None words) a e
+
+-- ---- the workers
+
+few_if : (b : Bool) (n w : ℕ) → (b ≡ true → n ≤ 8) → cond b (Some n) None ≡ Some w → w ≤ 8
+few_if true n w few e = let same : n ≡ w = cc in subst (λ (k : ℕ). k ≤ 8) same (few refl)
+few_if false n w few e = absurd cc
+
+number_few : (text : Text) (w : ℕ) → number_in 0 8 text ≡ Some w → w ≤ 8
+number_few text w e = few_if (is_number text && (nat_le 0 n && nat_le n 8)) n w few e
+  where
+    n : ℕ
+    n = digits_value 10 text
+
+    few : is_number text && (nat_le 0 n && nat_le n 8) ≡ true → n ≤ 8
+    few t =
+        let both = both_true (is_number text) (nat_le 0 n && nat_le n 8) t in
+        let last = both_true (nat_le 0 n) (nat_le n 8) both.1 in
+        grind (arith, nat_tests, last.1)
+
+few_of_one : (n : Option ℕ) (w : Option ℕ) → ((k : ℕ) → n ≡ Some k → k ≤ 8) → option_map (λ (k : ℕ). Some k) n ≡ Some w → unwrap_or w 0 ≤ 8
+few_of_one None w few e = absurd cc
+few_of_one (Some n) None few e = absurd cc
+few_of_one (Some n) (Some w) few e = let same : n ≡ w = cc in subst (λ (k : ℕ). k ≤ 8) same (few n refl)
+
+given_few : (texts : List Text) (w : Option ℕ) → number_given 0 8 texts ≡ Some w → unwrap_or w 0 ≤ 8
+given_few [] None e = omega arith
+given_few [] (Some w) e = absurd cc
+given_few (text ∷ []) w e = few_of_one (number_in 0 8 text) w (number_few text) e
+given_few (text ∷ second ∷ more) w e = absurd cc
+
+all_few : (w n : Option (Option ℕ)) (f : Option (List Text)) (a : Asked) → ((k : Option ℕ) → w ≡ Some k → unwrap_or k 0 ≤ 8) → all_asked w n f ≡ Some a → a.workers ≤ 8
+all_few (Some w) (Some n) (Some fs) a few e =
+    let all : Asked = record { workers = unwrap_or w 0; generate = n; feeds = fs } in
+    let same : all ≡ a = cc in
+    subst (λ (x : Asked). x.workers ≤ 8) same (few w refl)
+all_few (Some w) (Some n) None a few e = absurd cc
+all_few (Some w) None f a few e = absurd cc
+all_few None n f a few e = absurd cc
+
+few_of_said : (said : Option (List Said)) (a : Asked) → option_and_then asked_by said ≡ Some a → a.workers ≤ 8
+few_of_said (Some said) a e = all_few (number_given 0 8 (texts_of workers said)) (number_given 1 1000000 (texts_of generate said)) _ a (given_few (texts_of workers said)) e
+few_of_said None a e = absurd cc
+
+pub asked-workers : (words : List Text) (a : Asked) → asked words ≡ Some a → a.workers ≤ 8
+asked-workers words a e = few_of_said (read None words) a e

@@ -4,3 +4,4 @@ mod Opening
 mod Running
 mod Serving
 mod Wholes
+mod Working

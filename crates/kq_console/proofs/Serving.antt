@@ -9,7 +9,7 @@ use Rattle.kq_model.specs.History.{History}
 use Rattle.kq_engine.specs.Shared.{PassView}
 use Rattle.kq_session.specs.Session.{owns}
 use Rattle.kq_session.proofs.Serving.{Explained-later}
-use Rattle.kq_console.specs.Together.{IsServed, AreServed, ServedOne, ServedAll}
+use Rattle.kq_console.specs.Together.{IsServed, AreServed, Passed, ServedOne, ServedAll, all_owns}
 use Rattle.kq_console.specs.Views.{OpenedView, EndedView}
 
 IsServed-later : (limits : Limits) (h new : History) (actor : ℕ) (o : OpenedView) (s : EndedView) → IsPrefix h new → IsServed limits h actor o s → IsServed limits new actor o s
@@ -85,3 +85,26 @@ ServedAll-more limits of old rest mine rest' mine' joined o last whole feeds ses
     let count : actor ≡ length (o ∷ feeds) = omega (arith, is_last) in
     let all = ServedAll-push limits of old rest mine rest' mine' joined (o ∷ feeds) ss last e actor of_old some is_rest is_mine others one count of_joined first_seen second_seen worth made in
     subst (λ (l : List OpenedView). ServedAll limits old joined l sessions) (sym os) (subst (ServedAll limits old joined ((o ∷ feeds) ++ last ∷ [])) (sym is_sessions) all)
+
+-- a worker beside them, which makes no commit
+pub ServedAll-worker : (limits : Limits) (of : TurnId) (old rest mine rest' mine' joined : PassView) (os : List OpenedView) (ss : List EndedView)
+    → old.of ≡ of → 2 ≤ old.worth → rest ≡ record old { worth = old.worth - 1 } → mine ≡ record old { worth = 1; made = 0; taken = [] }
+    → ServedAll limits rest rest' os ss → Passed mine mine' []
+    → joined.of ≡ of → IsPrefix rest'.seen joined.seen → joined.worth ≡ rest'.worth + mine'.worth → joined.made ≡ rest'.made + mine'.made
+    → ServedAll limits old joined os ss
+ServedAll-worker limits of old rest mine rest' mine' joined os ss of_old some is_rest is_mine others worked of_joined seen worth made =
+    let rest_seen : IsPrefix old.seen rest'.seen = subst (λ (h : History). IsPrefix h rest'.seen) (ap (λ (p : PassView). p.seen) is_rest) others.passed.seen in
+    let rest_worth = ap (λ (p : PassView). p.worth) is_rest in
+    let rest_made = ap (λ (p : PassView). p.made) is_rest in
+    let mine_worth = ap (λ (p : PassView). p.worth) is_mine in
+    let mine_made = ap (λ (p : PassView). p.made) is_mine in
+    let none : all_owns [] ≡ 0 = refl in
+    record {
+      passed = record {
+        of = of_joined ∙ sym of_old;
+        worth = omega (arith, some, worth, others.passed.worth, worked.worth, rest_worth, mine_worth);
+        seen = IsPrefix-trans old.seen rest'.seen joined.seen rest_seen seen;
+        made = omega (arith, made, others.passed.made, worked.made, rest_made, mine_made, none);
+      };
+      served = AreServed-later limits rest'.seen joined.seen 0 os ss seen others.served;
+    }

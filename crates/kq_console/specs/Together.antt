@@ -26,7 +26,8 @@ AreServed limits h n (o ∷ os) (s ∷ ss) = IsServed limits h n o s × AreServe
 abbrev pub all_owns : List EndedView → ℕ
 all_owns = sum_by (λ (s : EndedView). owns s.session.receipts)
 
--- a pass went through sessions: it has seen at least as much, and the commits made through it since are theirs
+-- a pass went through sessions: it has seen at least as much, and the commits made through it since are theirs; a worker's
+-- went through none
 pub record Passed (old new : PassView) (sessions : List EndedView) : Type 0 where
   pub of : new.of ≡ old.of
   pub worth : new.worth ≡ old.worth

@@ -1,14 +1,14 @@
 -- What the words of a run ask for, and what its status says of them.
-use Rattle.std.specs.Prelude.{◌≡◌, ◌≢◌, ◌⊎◌, ◌==◌, ◌&&◌, ℕ, Bool, true, false, not, List, [], Option, Some, None, String, is_some, map, string_bytes}
+use Rattle.std.specs.Prelude.{◌≡◌, ◌≢◌, ◌⊎◌, ℕ, Bool, true, false, not, List, [], Option, Some, None, String, is_some, map, string_bytes}
 use Rattle.kq_words.specs.Words.{Asked, asked}
 
 -- what the words ask for, where they have the form
 abbrev pub asked_in : {A : Type 0} → List (String A) → Option Asked
 asked_in words = asked (map string_bytes words)
 
--- no workers and no generated script, so session 0 and the feeds alone
+-- no generated script, so that each session has its own
 abbrev pub asks_no_more : Asked → Bool
-asks_no_more asked = asked.workers == 0 && not (is_some asked.generate)
+asks_no_more asked = not (is_some asked.generate)
 
 abbrev pub AsksNoMore : Option Asked → Type 0
 AsksNoMore None = ⊥

@@ -1,8 +1,8 @@
-//! The program: it serves a script from standard input, beside it each feed in a thread of its own, and ends with a
-//! status.
+//! The program: it serves a script from standard input, beside it each feed and each worker in a thread of its own, and
+//! ends with a status.
 //!
 //! Everything is left to the crates below it; here the feeds are opened, the catalogue is made, the sessions are served,
-//! and what comes of them is handed back.
+//! the workers are started and stopped, and what comes of them is handed back.
 #![tactic(auto)]
 
 mod ended;
@@ -12,6 +12,7 @@ mod program;
 #[cfg(test)]
 mod tests;
 mod together;
+mod workers;
 
 pub use ended::{Ended, Run};
 use kq_world::{OpenGate, RealWorld};

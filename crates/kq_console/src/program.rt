@@ -9,7 +9,8 @@ ghost use Rattle.kq_console.specs.Words.{AsksMore, AsksNoMore, IsJustWhere, IsOf
 use crate::ended::{EndedSession, Run};
 use crate::feeds::open_feeds;
 use crate::opened::{Opened, OpenedSession};
-use crate::together::{Together, serve_all};
+use crate::together::Together;
+use crate::workers::serve_beside_workers;
 use kq_engine::Shared;
 use kq_model::Limits;
 use kq_value::Text;
@@ -17,6 +18,7 @@ use kq_words::{Options, OptionsError};
 use kq_world::{Clock, Gate, OpenFault, Sink, Source, World};
 use std::alloc::Global;
 use std::sync::Wait;
+use std::sync::atomic::AtomicBool;
 use std::thread::Threads;
 
 /// The words haven't the form.
@@ -31,8 +33,8 @@ pub const NOT_OPENED: u8 = 5;
 /// The words ask for something that isn't built yet.
 pub const UNBUILT: u8 = 7;
 
-/// Runs session 0 and the feeds beside each other on a new catalogue. `words` are the words after the program's name.
-/// It waits for all of them.
+/// Runs session 0, the feeds and the workers beside each other on a new catalogue. `words` are the words after the
+/// program's name. It waits for all of them.
 pub fn run<R: Threads + Wait + Sync, W: World, G: Gate + Sync>(
     rt: &R,
     alloc: Global,
@@ -51,7 +53,7 @@ pub fn run<R: Threads + Wait + Sync, W: World, G: Gate + Sync>(
 {
     match Options::from_words(alloc, words) {
         Ok(options) if asks_no_more(&options) => {
-            run_sessions(rt, alloc, world, options.feeds, gate)
+            run_sessions(rt, alloc, world, options.feeds, options.workers, gate)
         }
         Ok(_) => not_begun(alloc, UNBUILT),
         Err(OptionsError::Form) => not_begun(alloc, WRONG_WORDS),
@@ -59,45 +61,49 @@ pub fn run<R: Threads + Wait + Sync, W: World, G: Gate + Sync>(
     }
 }
 
-// Whether sessions alone are asked for, each with its own script, and no workers.
+// Whether each session has its own script, and none is generated.
 fn asks_no_more(options: &Options) -> bool
     ensures { result ≡ asks_no_more (as_asked options.now) }
 {
-    options.workers == 0 && options.generate.is_none()
+    options.generate.is_none()
 }
 
-// Opens the feeds of these names, and runs them beside session 0.
+// Opens the feeds of these names, and runs them and the workers beside session 0.
 fn run_sessions<R: Threads + Wait + Sync, W: World, G: Gate + Sync>(
     rt: &R,
     alloc: Global,
     world: &mut W,
     names: Vec<Text>,
+    workers: u32,
     gate: &G,
 ) -> Run<W>
     requires begun { W.begun world.old ≡ false }
     requires different { are_distinct names.items ≡ true }
     requires few { length names.items ≤ 7 }
+    requires few_workers { workers ≤ 8 }
     ensures status { IsOfSession result.status }
     ensures opens { OpensFeeds names.items (W.asked world.old) (W.asked world.new) (W.faults world.old) (W.faults world.new) result }
     ensures run { Runs names.items (W.first_contents world.old) (W.feed_contents world.old) result }
 {
     match open_feeds(alloc, world, names) {
-        Ok(feeds) => run_opened(rt, alloc, world, feeds, gate),
+        Ok(feeds) => run_opened(rt, alloc, world, feeds, workers, gate),
         Err(OpenFault::Failed) => not_begun(alloc, NOT_OPENED),
         Err(OpenFault::Memory) => not_begun(alloc, MEMORY),
     }
 }
 
-// Runs the feeds that were opened beside session 0.
+// Runs the feeds that were opened, and the workers, beside session 0.
 fn run_opened<R: Threads + Wait + Sync, W: World, G: Gate + Sync>(
     rt: &R,
     alloc: Global,
     world: &mut W,
     feeds: Vec<Opened<W>>,
+    workers: u32,
     gate: &G,
 ) -> Run<W>
     requires begun { W.begun world.old ≡ false }
     requires few { length feeds.items ≤ 7 }
+    requires few_workers { workers ≤ 8 }
     ensures status { IsOfSession result.status }
     ensures opened { result.status ≢ NOT_OPENED }
     ensures asked { W.asked world.new ≡ W.asked world.old }
@@ -105,8 +111,9 @@ fn run_opened<R: Threads + Wait + Sync, W: World, G: Gate + Sync>(
     ensures run { (told : List ℕ → Contents) (names : List (List ℕ)) → AreOpened told names feeds.items → Runs names (W.first_contents world.old) told result }
 {
     let sessions = feeds.len() + 1;
-    // One pass more than there are sessions.
-    let Ok((shared, pass)) = Shared::start(alloc, Limits::full(), sessions as u32 + 1) else {
+    // One pass more than there are sessions and workers.
+    let passes = sessions as u32 + workers + 1;
+    let Ok((shared, pass)) = Shared::start(alloc, Limits::full(), passes) else {
         return not_begun(alloc, MEMORY);
     };
     let (Ok(room), Ok(name)) = (
@@ -119,7 +126,10 @@ fn run_opened<R: Threads + Wait + Sync, W: World, G: Gate + Sync>(
         name,
         parts: world.first(),
     };
-    let Together { pass, sessions } = serve_all(rt, alloc, &shared, pass, first, feeds, room, gate);
+    let stop = AtomicBool::new(false);
+    let Together { pass, sessions } = serve_beside_workers(
+        rt, alloc, &shared, pass, workers, &stop, first, feeds, room, gate,
+    );
     let catalog = shared.close(pass);
     // A catalogue is sound wherever it can be looked at.
     let _place = catalog.place();

@@ -2,4 +2,5 @@ mod feeds;
 mod scripts;
 mod steps;
 mod views;
+mod workers;
 mod worlds;

@@ -146,8 +146,10 @@ first_of [] all id others is e = cc
 first_of (first ∷ small) all id others is e = let same : first.id ≡ id = cc in subst (λ (n : ℕ). list_any (nat_eq n) (item_ids all) ≡ true) same (passes_in is_small_item all first small is)
 
 -- the first of what is picked now isn't gone
-pub not_gone : (h : History) (command : Command) (m : Merging) (id : ℕ) → IsMergingFor h command m → IsGone h m id → ⊥
-not_gone h command m id is gone =
-    let merging = (merges_of h command m is).of.merging in
+pub none_gone : (h : History) (number : ℕ) (m : Merging) (id : ℕ) → IsMergingIn h number m → IsGone h m id → ⊥
+none_gone h number m id merging gone =
     let ids : item_ids (take 64 (small_items h m.table)) ≡ id ∷ gone.others = ap (λ (t : ℕ). item_ids (picked h t)) merging.table ∙ sym merging.all ∙ gone.is in
     true≢false (sym (first_of (small_items h m.table) (extents h m.table) id gone.others refl ids) ∙ gone.gone)
+
+pub not_gone : (h : History) (command : Command) (m : Merging) (id : ℕ) → IsMergingFor h command m → IsGone h m id → ⊥
+not_gone h command m id is gone = let merges = merges_of h command m is in none_gone h merges.of.found.number m id merges.of.merging gone

@@ -1,9 +1,9 @@
 // What a fold of a view finds.
-ghost use Rattle.std.specs.Prelude.{◌≡◌, IfErr, IfOk, Some};
+ghost use Rattle.std.specs.Prelude.{◌≡◌, ◌<◌, IfErr, IfOk, Some};
 ghost use Rattle.std.specs.List.Sorted.{IsPermutation};
 ghost use Rattle.kq_engine.specs.Found.{FindsFold, LagsBehind};
 ghost use Rattle.kq_engine.specs.Folds.{AnswersFold, FoldsView, IsFoldingIn, view_number};
-ghost use Rattle.kq_model.specs.History.{cursor, log, mark};
+ghost use Rattle.kq_model.specs.History.{cursor, log, mark, view_count};
 ghost use Rattle.kq_model.specs.Views.{covered};
 ghost use Rattle.kq_query.specs.Answers.{RefusesBy};
 ghost use Rattle.kq_query.specs.Views.{view_numbered};
@@ -35,6 +35,18 @@ pub(crate) fn find_fold(snapshot: &Snapshot, view: &Identifier) -> Result<Found,
         return Ok(Found::Says(Reply::Folded { cursor }));
     }
     Ok(Found::Folds(fold_view(snapshot, number, found)?))
+}
+
+/// The part of a view that stands, which goes by its number, up to the snapshot's cursor.
+pub(crate) fn folding_at(snapshot: &Snapshot, number: u32) -> Result<Folding, Refusal>
+    requires { number < view_count (log snapshot.now.history) }
+    ensures folding { IfOk result (IsFoldingIn snapshot.now.history number) }
+    ensures refused { IfErr result (RefusesBy (FoldsView snapshot.now.history number)) }
+{
+    match snapshot.view_at(number) {
+        Some(view) => fold_view(snapshot, number, view),
+        None => unreachable!(),
+    }
 }
 
 fn fold_view(snapshot: &Snapshot, number: u32, view: &View) -> Result<Folding, Refusal>

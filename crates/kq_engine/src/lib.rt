@@ -16,10 +16,13 @@ mod run;
 mod shared;
 mod shows;
 mod tags;
+mod tend;
+mod upkeep;
 mod work;
 
 pub use on_catalog::finish;
 pub use on_snapshot::begin;
 pub use run::{Step, Told, Trace, run_steps};
 pub use shared::{Pass, Shared};
+pub use upkeep::Upkeep;
 pub use work::{Barring, Folding, Offer, Outcome, Prepared, Ready, Work};

@@ -1,5 +1,5 @@
 // What a merge of a table finds.
-ghost use Rattle.std.specs.Prelude.{◌≡◌, IfErr, IfOk, Some, map};
+ghost use Rattle.std.specs.Prelude.{◌≡◌, ◌<◌, IfErr, IfOk, Some, length, map};
 ghost use Rattle.std.specs.Arc.{arc_value};
 ghost use Rattle.std.specs.List.{slice_get};
 ghost use Rattle.kq_engine.specs.Found.{FindsMerge, Stands};
@@ -34,6 +34,17 @@ pub(crate) fn find_merge(snapshot: &Snapshot, table: &Identifier) -> Result<Foun
     match merging_in(snapshot, number, found)? {
         Some(merging) => Ok(Found::Merges(merging)),
         None => Ok(Found::Says(Reply::Nothing)),
+    }
+}
+
+/// All extents that are picked in a table that stands, which goes by its number, with the one that they become.
+pub(crate) fn merging_at(snapshot: &Snapshot, number: u32) -> Result<Option<Merging>, Memory>
+    requires { number < length (tables (log snapshot.now.history)) }
+    ensures { IfOk result (PicksIn snapshot.now.history number) }
+{
+    match snapshot.table_at(number) {
+        Some(table) => merging_in(snapshot, number, table),
+        None => unreachable!(),
     }
 }
 

@@ -133,8 +133,8 @@ fn merge_now(catalog: &mut Catalog, work: &Work, merging: Merging) -> Result<Out
     }
 }
 
-// Makes the merge unless the first of its extents is gone.
-fn merge(catalog: &mut Catalog, by: By, merging: Merging) -> Result<Outcome, MergeFault>
+/// Makes the merge unless the first of its extents is gone.
+pub(crate) fn merge(catalog: &mut Catalog, by: By, merging: Merging) -> Result<Outcome, MergeFault>
     requires { WasPicked (hist catalog.old) merging }
     ensures limits { catalog.new.limits ≡ catalog.old.limits }
     ensures puts { IfOk result (PutsMerge (hist catalog.old) (hist catalog.new) by merging) }
@@ -151,8 +151,8 @@ fn merge(catalog: &mut Catalog, by: By, merging: Merging) -> Result<Outcome, Mer
     })
 }
 
-// Brings the view forward, unless it is materialized as far.
-fn fold(catalog: &mut Catalog, by: By, folding: Folding) -> Result<Outcome, Memory>
+/// Brings the view forward, unless it is materialized as far.
+pub(crate) fn fold(catalog: &mut Catalog, by: By, folding: Folding) -> Result<Outcome, Memory>
     requires { WasFolded (hist catalog.old) folding.view folding.to folding.part }
     ensures limits { catalog.new.limits ≡ catalog.old.limits }
     ensures puts { IfOk result (PutsFold (hist catalog.old) (hist catalog.new) by folding) }

@@ -3,6 +3,7 @@ ghost use Rattle.std.specs.Prelude.{◌≡◌, ◌+◌, ◌-◌, ◌≤◌, ◌+
 ghost use mathlib.Core.List.{IsPrefix};
 ghost use Rattle.kq_turn.specs.Histories.{IsLongerOf};
 ghost use Rattle.kq_model.specs.History.{cursor};
+ghost use Rattle.kq_model.specs.Lawful.{AreLawful};
 ghost use Rattle.kq_catalog.specs.Seen.{hist};
 ghost use Rattle.kq_value.specs.Typed.{IsMoment};
 ghost use Rattle.kq_reply.specs.declared.reply.Reply.TheVariants as replies;
@@ -32,7 +33,7 @@ use std::sync::Wait;
 /// Contracts see the lock and the catalogue's limits.
 #[derive(Drop)]
 pub struct Shared {
-    turn: Turn<Catalog>,
+    pub(crate) turn: Turn<Catalog>,
     limits: Limits,
 }
 
@@ -55,8 +56,8 @@ impl Model for Shared {
 /// history that it took.
 #[derive(Drop)]
 pub struct Pass {
-    pass: TurnPass<Catalog>,
-    seen: u64,
+    pub(crate) pass: TurnPass<Catalog>,
+    pub(crate) seen: u64,
 }
 
 impl Model for Pass {
@@ -154,6 +155,7 @@ impl Shared {
         requires { pass.old.of ≡ self.now.turn }
         ensures limits { IfOk result (λ s. s.limits ≡ self.now.limits) }
         ensures history { IfOk result (λ s. s.history ≡ pass.new.seen) }
+        ensures lawful { AreLawful self.now.limits pass.new.seen }
         ensures seen { IsPrefix pass.old.seen pass.new.seen }
         ensures pass { pass.new ≡ record pass.old { seen = pass.new.seen; taken = pass.old.taken ++ length pass.new.seen ∷ [] } }
     {
@@ -254,8 +256,8 @@ fn is_fold(command: &Command) -> bool
     matches!(command, Command::Fold(_))
 }
 
-// An answer has the place of its snapshot.
-fn answered(place: u64, reply: Reply) -> Outcome
+/// An answer has the place of its snapshot.
+pub(crate) fn answered(place: u64, reply: Reply) -> Outcome
     ensures { result ≡ record { place = place; own = false; reply = reply } }
 {
     Outcome {
@@ -265,8 +267,8 @@ fn answered(place: u64, reply: Reply) -> Outcome
     }
 }
 
-// A refusal has the place of what was seen.
-fn refused(place: u64, refusal: Refusal) -> Outcome
+/// A refusal has the place of what was seen.
+pub(crate) fn refused(place: u64, refusal: Refusal) -> Outcome
     ensures { result ≡ record { place = place; own = false; reply = replies.Refused refusal } }
 {
     Outcome {

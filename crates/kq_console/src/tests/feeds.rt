@@ -54,7 +54,7 @@ fn a_feed_goes_on_beside_a_fault_of_session_0(rt: HostRuntime) -> Result<(), Fai
 }
 
 // As many feeds with one script as there are names.
-fn equal_feeds(
+pub(super) fn equal_feeds(
     alloc: Global,
     names: &[&str],
     script: &[u8],

@@ -61,19 +61,19 @@ pub fn feed(
     Ok(Feed { name, parts })
 }
 
-fn words(alloc: Global, names: &[&str]) -> Result<Vec<String>, Memory> {
+fn words(alloc: Global, said: &[&str]) -> Result<Vec<String>, Memory> {
     let mut words = Vec::new(alloc);
-    for name in names {
-        words.push(String::from_str(alloc, name)?)?;
+    for word in said {
+        words.push(String::from_str(alloc, word)?)?;
     }
     Ok(words)
 }
 
-/// A run whose words are the feeds' names.
+/// A run with these words.
 pub fn served<R: Threads + Wait + Sync, G: Gate + Sync>(
     rt: &R,
     alloc: Global,
-    names: &[&str],
+    said: &[&str],
     first: Parts<MemorySource, MemorySink, ListClock>,
     feeds: Vec<Feed>,
     gate: &G,
@@ -81,7 +81,7 @@ pub fn served<R: Threads + Wait + Sync, G: Gate + Sync>(
     requires first { IsFresh first }
     requires feeds { All (λ f. IsFresh f.parts) feeds.items }
 {
-    let words = words(alloc, names)?;
+    let words = words(alloc, said)?;
     let mut world = MemoryWorld::new(alloc, first, feeds, Vec::new(alloc));
     Ok(run(rt, alloc, words.as_slice(), &mut world, gate))
 }

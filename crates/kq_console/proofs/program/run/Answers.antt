@@ -1,6 +1,6 @@
 use Rattle.std.proofs.Common.{arith, map, string_bytes}
 use Rattle.kq_words.specs.Words.{as_asked}
-use Rattle.kq_console.proofs.Asking.{asked-feeds}
+use Rattle.kq_console.proofs.Asking.{asked-feeds, asked-workers}
 use Rattle.kq_console.proofs.Completing.{Completes-runs}
 use Rattle.kq_console.proofs.Opening.{OpensFeeds-none}
 use Rattle.kq_console.proofs.program.run.Goals as goal
@@ -10,6 +10,9 @@ run_sessions-requires-clause-different g c κs within = (asked-feeds (map string
 
 pub run_sessions-requires-clause-few : goal.run_sessions-requires-clause-few
 run_sessions-requires-clause-few g c κs within = (asked-feeds (map string_bytes c.args.words.now) (as_asked c.in-Ok.options) c.in-Ok.ensures.ok).few
+
+pub run_sessions-requires-clause-few_workers : goal.run_sessions-requires-clause-few_workers
+run_sessions-requires-clause-few_workers g c κs within = asked-workers (map string_bytes c.args.words.now) (as_asked c.in-Ok.options) c.in-Ok.ensures.ok
 
 pub returns-in-Ok-clause-complete : goal.returns-in-Ok-clause-complete
 returns-in-Ok-clause-complete g c =
