@@ -7,7 +7,8 @@ use Rattle.std.proofs.lemmas.Slice.Eq.{bytes_eq-Decides}
 use Rattle.kq_bind_policy.specs.declared.fault.PolicyFault.{PolicyFault}
 use Rattle.kq_bind_policy.specs.declared.fault.PolicyFault.TheVariants as fault
 use Rattle.kq_bind_policy.specs.Answers.{BindsTo, AnswersPolicy, Judges}
-use Rattle.kq_bind_policy.specs.Policies.{reads_view, table_read, reads_table, asks_moment, IsLeafOf, IsPolicyBody}
+use Rattle.kq_bind_policy.specs.Policies.{table_read, reads_table}
+use Rattle.kq_model.specs.PolicyBodies.{reads_view, asks_moment, IsLeafOf, IsPolicyBody}
 use Rattle.kq_bind_steps.specs.Flows.{columns_at}
 use Rattle.kq_plan.specs.declared.work.LeafKind.TheVariants as kind
 use Rattle.kq_plan.specs.Fits.{GivesColumns, Fits}

@@ -3,7 +3,8 @@ use Rattle.std.specs.Prelude.{◌≡◌, ℕ, List, Option, Result, Ok, Err}
 use Rattle.kq_bind.specs.Queries.{query_bound}
 use Rattle.kq_bind_policy.specs.declared.fault.PolicyFault.{PolicyFault}
 use Rattle.kq_bind_policy.specs.declared.fault.PolicyFault.TheVariants as fault
-use Rattle.kq_bind_policy.specs.Policies.{IsPolicyBody, IsPolicyPlan}
+use Rattle.kq_bind_policy.specs.Policies.{IsPolicyPlan}
+use Rattle.kq_model.specs.PolicyBodies.{IsPolicyBody}
 use Rattle.kq_bind_steps.specs.Flows.{columns_at}
 use Rattle.kq_control.specs.ControlTrees.{query}
 use Rattle.kq_control.specs.Statements.{IsStatement}

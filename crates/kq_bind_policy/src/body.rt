@@ -1,8 +1,9 @@
 // What the steps of a policy's plan may be.
 ghost use Rattle.std.specs.Prelude.{◌≡◌, ◌↔◌, IsTrue, map};
 ghost use Rattle.std.specs.List.{list_any};
-ghost use Rattle.kq_bind_policy.specs.Policies.{IsPolicyBody};
 ghost use Rattle.kq_bind_policy.specs.Policies as the;
+ghost use Rattle.kq_model.specs.PolicyBodies.{IsPolicyBody};
+ghost use Rattle.kq_model.specs.PolicyBodies as form;
 ghost use Rattle.kq_plan.specs.Plans.{planned_of, stepping_of};
 
 use crate::moments::work_asks;
@@ -10,7 +11,7 @@ use kq_plan::{LeafKind, Plan, Step, Work};
 use kq_value::Text;
 
 fn reads_view(step: &Step) -> bool
-    ensures { result ≡ the.reads_view (stepping_of step.now) }
+    ensures { result ≡ form.reads_view (stepping_of step.now) }
 {
     match &step.work {
         Work::Leaf(LeafKind::View, _) => true,
@@ -20,7 +21,7 @@ fn reads_view(step: &Step) -> bool
 }
 
 fn some_reads_view(steps: &[Step]) -> bool
-    ensures { result ≡ list_any the.reads_view (map stepping_of steps.now) }
+    ensures { result ≡ list_any form.reads_view (map stepping_of steps.now) }
 {
     for step in steps {
         if reads_view(step) {
@@ -51,7 +52,7 @@ fn some_reads_table(steps: &[Step], table: &Text) -> bool
 }
 
 fn some_asks_moment(steps: &[Step]) -> bool
-    ensures { result ≡ list_any the.asks_moment (map stepping_of steps.now) }
+    ensures { result ≡ list_any form.asks_moment (map stepping_of steps.now) }
 {
     for step in steps {
         if work_asks(&step.work) {

@@ -1,7 +1,7 @@
 // The steps that ask for the moment of a command.
 ghost use Rattle.std.specs.Prelude.{◌≡◌, map};
 ghost use Rattle.std.specs.List.{list_any};
-ghost use Rattle.kq_bind_policy.specs.Moments as the;
+ghost use Rattle.kq_model.specs.Moments as the;
 ghost use Rattle.kq_expr.specs.Terms.{term_of, terms_of};
 ghost use Rattle.kq_plan.specs.Plans.{aggregating_of, doing_of, sorting_of};
 

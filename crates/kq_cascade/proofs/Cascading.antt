@@ -5,20 +5,20 @@ use Rattle.std.proofs.lemmas.List.Elements.{All-nil, All-cons, All-push, Contain
 use Rattle.kq_model.specs.declared.batch.Batch.{Batch}
 use Rattle.kq_model.specs.declared.batch.Failure.{Failure}
 use Rattle.kq_model.specs.declared.cause.Cause.{Cause}
-use Rattle.kq_cascade.specs.declared.entry.Due.{Due}
+use Rattle.kq_model.specs.declared.policy.Due.{Due}
 use Rattle.kq_cascade.specs.declared.running.CascadeFault.{CascadeFault}
 use Rattle.kq_cascade.specs.declared.running.CascadeFault.TheVariants.{PolicyFailed, Full, Memory}
 use Rattle.kq_cascade.specs.declared.running.Derived.{Derived}
-use Rattle.kq_cascade.specs.Derived.{Row, Queries, Made, Failed, TooMany, FailsBy, gave_none, gave_too_many, Comes, Leaves, fails, next_batch, IsDerived}
-use Rattle.kq_cascade.specs.Enabled.{enabled}
-use Rattle.kq_cascade.specs.Force.{Rules, IsStanding}
+use Rattle.kq_model.specs.Derived.{Row, Queries, Made, Failed, TooMany, FailsBy, gave_none, gave_too_many, Comes, Leaves, fails, next_batch, IsDerived}
+use Rattle.kq_model.specs.Enabled.{enabled}
+use Rattle.kq_model.specs.Force.{Rules, IsStanding}
 use Rattle.kq_cascade.specs.Makes.{among, Makes, RefusesBy}
 use Rattle.kq_cascade.specs.Runs.{batch_of, IsReady, Opens, Notes, Runs, opens, notes, FailsWhole}
 use Rattle.kq_cascade.specs.Steps.{State, begun, due_at, no_due, opened, left, IsLaid, Settles, FallsTo}
-use Rattle.kq_cascade.specs.Typed.{IsTyped}
+use Rattle.kq_model.specs.Typed.{IsTyped}
 use Rattle.kq_cascade.proofs.Following.{Course, Agrees, Rests, Rests-begun, Then-left, Rests-opened, Rests-too_many, Found, Settled, Settles-settled, GoesOn, Fallen, Falls-fallen}
 use Rattle.kq_cascade.proofs.Listing.{left-enabled}
-use Rattle.kq_cascade.proofs.Wider.{Within, IsDerived-wider}
+use Rattle.kq_model.proofs.Wider.{Within, IsDerived-wider}
 
 -- the course over the queries of some entries
 abbrev pub course : ℕ → Rules → Queries → List Due → Batch → List Due → Course

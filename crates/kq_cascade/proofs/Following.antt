@@ -5,12 +5,12 @@ use Rattle.std.proofs.lemmas.List.Elements.{All-take}
 use Rattle.kq_model.specs.declared.batch.Batch.{Batch}
 use Rattle.kq_model.specs.declared.batch.Failure.{Failure}
 use Rattle.kq_model.specs.declared.cause.Cause.{Cause}
-use Rattle.kq_cascade.specs.declared.entry.Due.{Due}
+use Rattle.kq_model.specs.declared.policy.Due.{Due}
 use Rattle.kq_cascade.specs.declared.stack.Frame.{Frame}
-use Rattle.kq_cascade.specs.Derived.{Row, Queries, Cascade, Made, Failed, TooMany, Comes, first, Follows, no_more, too_many, ended, goes_on, Leaves, gives, after, ends, batches_of, failures_of, next_batch}
-use Rattle.kq_cascade.specs.Force.{Rules, in_force}
+use Rattle.kq_model.specs.Derived.{Row, Queries, Cascade, Made, Failed, TooMany, Comes, first, Follows, no_more, too_many, ended, goes_on, Leaves, gives, after, ends, batches_of, failures_of, next_batch}
+use Rattle.kq_model.specs.Force.{Rules, in_force}
 use Rattle.kq_cascade.specs.Steps.{State, batch_at, no_batch, due_at, advanced, left, IsOn, ArePiled, IsLaid, Settles, found, none_left, resumed, Falls, notes, drops, drops_all, begun, failure_at}
-use Rattle.kq_cascade.specs.Typed.{IsTyped}
+use Rattle.kq_model.specs.Typed.{IsTyped}
 
 -- what a cascade is run with: the limit, the rules, the queries, the enabled entries, and the ingestion's own batch
 pub record Course : Type 1 where

@@ -1,7 +1,7 @@
 -- The query of one entry, and rows widened to its target's columns.
-use Rattle.std.proofs.Common.{◌≡◌, ◌+◌, ℕ, List, [], ◌∷◌, ◌++◌, All, Err, Some, length, map, take, drop, get_or, ◌<◌, refl, ap, sym, ◌∙◌, subst, arith}
-use Rattle.std.proofs.lemmas.List.{take-append-drop, map-append, take_more}
-use Rattle.std.proofs.lemmas.List.Elements.{All-nil, All-cons, All-head, All-tail, All-push}
+use Rattle.std.proofs.Common.{◌≡◌, ◌+◌, ℕ, List, [], ◌∷◌, ◌++◌, All, Err, Some, length, map, take, get_or, ◌<◌, refl, ap, sym, ◌∙◌, subst, arith}
+use Rattle.std.proofs.lemmas.List.{map-append, take_more}
+use Rattle.std.proofs.lemmas.List.Elements.{All-head, All-tail, All-push}
 use Rattle.std.proofs.lemmas.Option.{get_or_from_slice_get}
 use Rattle.std.specs.List.{slice_get}
 use Rattle.kq_rows.specs.Chunks.{HasWidth}
@@ -9,14 +9,15 @@ use Rattle.kq_value.specs.declared.schema.Field.{Field}
 use Rattle.kq_value.specs.declared.value.Value.{Value}
 use Rattle.kq_value.specs.Typed.{HasTypes}
 use Rattle.kq_widened.specs.Widened.{widened}
-use Rattle.kq_widened.proofs.Widened.{widened-whole, widened-typed, typed-long}
-use Rattle.kq_cascade.specs.declared.entry.Due.{Due}
+use Rattle.kq_widened.proofs.Widened.{widened-whole, typed-long}
+use Rattle.kq_model.specs.declared.policy.Due.{Due}
 use Rattle.kq_cascade.specs.declared.tables.QueryFault.{QueryFault}
 use Rattle.kq_cascade.specs.declared.tables.QueryFault.TheVariants.{Fails, Memory}
-use Rattle.kq_cascade.specs.Derived.{Row, Queries, gave_none}
+use Rattle.kq_model.specs.Derived.{Row, Queries, gave_none}
 use Rattle.kq_cascade.specs.Queried.{Answers, IsQueried}
-use Rattle.kq_cascade.specs.Typed.{IsLead, IsTyped}
+use Rattle.kq_model.specs.Typed.{IsLead, IsTyped}
 use Rattle.kq_model.specs.declared.batch.Batch.{Batch}
+use Rattle.kq_model.proofs.Leading.{lead-typed, leads-typed}
 
 pub Queried-err : (q : Queries) (d : Due) (rows : List Row) (fault : QueryFault) → Answers (q d rows) (Err fault) → IsQueried q d rows (Err fault)
 Queried-err q d rows (Fails cause) answer = gave_none answer
@@ -30,18 +31,8 @@ widened-all fields (r ∷ rows) wide =
     ap (λ (x : Row). x ∷ map (widened fields) rows) (widened-whole fields r (omega (arith, here)))
     ∙ ap (λ (xs : List Row). r ∷ xs) (widened-all fields rows (All-tail (HasWidth (length fields)) r rows wide))
 
--- a row that lacks the last columns alone is widened to all, and then has their types
-pub lead-typed : (fields : List Field) (row : List Value) → IsLead fields row → HasTypes fields (widened fields row)
-lead-typed fields row lead =
-    subst (λ (fs : List Field). HasTypes fs (widened fs row)) (take-append-drop lead.count fields) (widened-typed (take lead.count fields) (drop lead.count fields) row lead.typed)
-
 pub lead-wide : (fields : List Field) (row : List Value) → IsLead fields row → length (widened fields row) ≡ length fields
 lead-wide fields row lead = typed-long fields (widened fields row) (lead-typed fields row lead)
-
-pub leads-typed : (fields : List Field) (rows : List Row) → All (IsLead fields) rows → All (HasTypes fields) (map (widened fields) rows)
-leads-typed fields [] leads = All-nil (HasTypes fields)
-leads-typed fields (r ∷ rows) leads =
-    All-cons (HasTypes fields) (widened fields r) (map (widened fields) rows) (lead-typed fields r (All-head (IsLead fields) r rows leads)) (leads-typed fields rows (All-tail (IsLead fields) r rows leads))
 
 pub next-typed : (columns : ℕ → List Field) (fields : List Field) (given rows : List Row) (target : ℕ) (tags : List (List ℕ)) (b : Batch) → b ≡ record { table = target; rows = rows; tags = tags } → rows ≡ map (widened fields) given
     → fields ≡ columns target → All (IsLead (columns target)) given → IsTyped columns b

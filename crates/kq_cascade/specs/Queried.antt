@@ -1,10 +1,10 @@
 -- What the query of an entry gives.
 use Rattle.std.specs.Prelude.{◌≤◌, List, Result, Ok, Err, length}
 use Rattle.kq_model.specs.declared.cause.Cause.{Cause}
-use Rattle.kq_cascade.specs.declared.entry.Due.{Due}
+use Rattle.kq_model.specs.declared.policy.Due.{Due}
 use Rattle.kq_cascade.specs.declared.tables.QueryFault.{QueryFault}
 use Rattle.kq_cascade.specs.declared.tables.QueryFault.TheVariants.{Fails, Memory}
-use Rattle.kq_cascade.specs.Derived.{Row, Queries, FailsBy}
+use Rattle.kq_model.specs.Derived.{Row, Queries, FailsBy}
 
 -- the call answers what the query may give, or tells want of memory
 abbrev pub Answers : (Result (List Row) Cause → Type 0) → Result (List Row) QueryFault → Type 0

@@ -4,11 +4,11 @@ use Rattle.kq_model.specs.declared.batch.Batch.{Batch}
 use Rattle.kq_model.specs.declared.cause.Cause.{Cause}
 use Rattle.kq_cascade.specs.declared.running.CascadeFault.{CascadeFault}
 use Rattle.kq_cascade.specs.declared.running.CascadeFault.TheVariants.{PolicyFailed, Full, Memory}
-use Rattle.kq_cascade.specs.declared.entry.Due.{Due}
-use Rattle.kq_cascade.specs.Derived.{Row, Queries, FailsBy, next_batch}
-use Rattle.kq_cascade.specs.Force.{Rules, IsStanding}
+use Rattle.kq_model.specs.declared.policy.Due.{Due}
+use Rattle.kq_model.specs.Derived.{Row, Queries, FailsBy, next_batch}
+use Rattle.kq_model.specs.Force.{Rules, IsStanding}
 use Rattle.kq_cascade.specs.Steps.{State, FallsTo, IsLaid, batch_at, due_at, opened}
-use Rattle.kq_cascade.specs.Typed.{IsTyped}
+use Rattle.kq_model.specs.Typed.{IsTyped}
 
 abbrev pub batch_of : State → Batch
 batch_of s = batch_at s.batches s.top.own

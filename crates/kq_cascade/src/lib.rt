@@ -3,8 +3,6 @@
 #![tactic(auto)]
 
 mod batch;
-mod entry;
-mod force;
 mod progress;
 mod query;
 mod running;
@@ -12,6 +10,5 @@ mod stack;
 mod tables;
 
 pub use batch::BatchRows;
-pub use entry::{Due, Entry};
 pub use running::{CascadeFault, Derived, cascade};
 pub use tables::{QueryFault, Tables};

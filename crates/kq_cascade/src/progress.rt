@@ -3,9 +3,8 @@ ghost use Rattle.std.specs.Prelude.{◌≡◌, ◌<◌, ◌^◌, IfOk, OnOk, len
 ghost use Rattle.kq_cascade.specs.Steps.{Falls, IsLaid, IsNext, Settles, batch_at, begun, noted, opened, state_of};
 
 use crate::batch::BatchRows;
-use crate::entry::Due;
 use crate::stack::{Frame, Stack};
-use kq_model::{Cause, Failure, Failures};
+use kq_model::{Cause, Due, Failure, Failures};
 use kq_value::Memory;
 use std::alloc::Global;
 

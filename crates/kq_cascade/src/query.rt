@@ -1,16 +1,15 @@
 // The query of one entry, and the batch of what it gives.
 ghost use Rattle.std.specs.Prelude.{◌≡◌, ◌++◌, [], All, IfOk, OnOk, if◌then◌else◌, map};
-ghost use Rattle.kq_cascade.specs.Derived.{next_batch};
-ghost use Rattle.kq_cascade.specs.Force.{IsStanding};
+ghost use Rattle.kq_model.specs.Derived.{next_batch};
+ghost use Rattle.kq_model.specs.Force.{IsStanding};
 ghost use Rattle.kq_cascade.specs.Queried.{IsQueried};
-ghost use Rattle.kq_cascade.specs.Typed.{IsLead, IsTyped};
+ghost use Rattle.kq_model.specs.Typed.{IsLead, IsTyped};
 ghost use Rattle.kq_value.specs.Typed.{HasTypes};
 ghost use Rattle.kq_widened.specs.Widened.{widened};
 
 use crate::batch::BatchRows;
-use crate::entry::Due;
 use crate::tables::{QueryFault, Tables};
-use kq_model::Cause;
+use kq_model::{Cause, Due};
 use kq_rows::Rows;
 use kq_value::{Field, Memory, Tags, Value};
 use kq_widened::widen;
@@ -57,9 +56,9 @@ pub(crate) fn next_batch<T: Tables>(
 }
 
 fn tags_for(alloc: Global, due: Due, tags: &Tags) -> Result<Tags, Memory>
-    ensures { IfOk result (λ own. own ≡ (if due.propagates then tags.now else [])) }
+    ensures { IfOk result (λ own. own ≡ (if due.propagate then tags.now else [])) }
 {
-    if due.propagates {
+    if due.propagate {
         tags.clone_in()
     } else {
         Ok(Tags::new(alloc))

@@ -6,12 +6,10 @@ ghost use Rattle.kq_cascade.specs.Runs.{FailsWhole, IsReady, IsWhole, Runs};
 ghost use Rattle.kq_cascade.specs.Steps.{FallsTo, IsLaid, state_of};
 
 use crate::batch::BatchRows;
-use crate::entry::Due;
-use crate::force::enabled;
 use crate::progress::Progress;
 use crate::query::{next_batch, query};
 use crate::tables::{QueryFault, Tables};
-use kq_model::{Cause, Failures};
+use kq_model::{Cause, Due, Failures};
 use kq_rows::Rows;
 use kq_value::{Memory, Tags};
 use std::alloc::{AllocFailed, Global};
@@ -69,15 +67,15 @@ pub fn cascade<T: Tables>(
     ensures made { IfOk result (Makes limit (T.rules tables.now) (T.gives tables.now) (record { table = table; rows = rows; tags = tags })) }
     ensures refused { IfErr result (RefusesBy limit (T.rules tables.now) (T.gives tables.now) (record { table = table; rows = rows; tags = tags })) }
 {
-    let dues = enabled(alloc, tables)?;
+    let dues = tables.dues();
     let mut progress = Progress::new(alloc, BatchRows::new(table, rows, tags))?;
     let mut asked = Vec::new(alloc);
-    while let Some(due) = progress.next(dues.as_slice()) {
+    while let Some(due) = progress.next(dues) {
         if asked.len() as u64 >= limit {
             return Err(CascadeFault::Full { limit });
         }
         asked.push(due)?;
-        run(alloc, tables, dues.as_slice(), due, &mut progress)?;
+        run(alloc, tables, dues, due, &mut progress)?;
     }
     let (batches, failures) = progress.into_made(alloc)?;
     Ok(Derived {

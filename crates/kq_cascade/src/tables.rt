@@ -1,12 +1,12 @@
 // What a cascade runs on.
-ghost use Rattle.std.specs.Prelude.{◌≡◌, ◌<◌, All, IfOk, Some, length, slice_get};
-ghost use Rattle.kq_cascade.specs.Force.{IsStanding, policy_at};
+ghost use Rattle.std.specs.Prelude.{◌≡◌, All, IfOk};
+ghost use Rattle.kq_model.specs.Enabled.{enabled};
+ghost use Rattle.kq_model.specs.Force.{IsStanding};
 ghost use Rattle.kq_cascade.specs.Queried.{Answers};
-ghost use Rattle.kq_cascade.specs.Typed.{IsLead};
+ghost use Rattle.kq_model.specs.Typed.{IsLead};
 ghost use Rattle.kq_value.specs.Typed.{HasTypes};
 
-use crate::entry::{Due, Entry};
-use kq_model::Cause;
+use kq_model::{Cause, Due};
 use kq_rows::Rows;
 use kq_value::{Field, Memory};
 use std::alloc::Global;
@@ -32,8 +32,8 @@ impl From<Memory> for QueryFault {
 /// The tables with their update policies, and the queries of the entries, as they are right before a commit.
 pub trait Tables {
     ghost use Rattle.std.specs.Prelude.{List, Result};
-    ghost use Rattle.kq_cascade.specs.Force.{Rules};
-    ghost use Rattle.kq_cascade.specs.declared.entry.Due.{Due as Standing};
+    ghost use Rattle.kq_model.specs.Force.{Rules};
+    ghost use Rattle.kq_model.specs.declared.policy.Due.{Due as Standing};
     ghost use Rattle.kq_model.specs.declared.cause.Cause.{Cause as Reason};
     ghost use Rattle.kq_value.specs.declared.value.Value.{Value as Cell};
 
@@ -43,19 +43,9 @@ pub trait Tables {
     /// What the query of an entry may give where its source is these rows alone, and every other table its records right before the commit, each cut to the columns that it had when the entry was set: rows, or the cause for which it gives none.
     ghost gives: { Self → Standing → List (List Cell) → Result (List (List Cell)) Reason → Type 0 };
 
-    /// The number of tables, each of which has a policy.
-    fn table_count(&self) -> u32
-        ensures { result ≡ length (rules self.now).policies };
-
-    /// The number of entries of a table's policy.
-    fn entry_count(&self, target: u32) -> u32
-        requires { target < length (rules self.now).policies }
-        ensures { result ≡ length (policy_at (rules self.now).policies target) };
-
-    /// The entry at a place of a table's policy.
-    fn entry(&self, target: u32, place: u32) -> Entry
-        requires { place < length (policy_at (rules self.now).policies target) }
-        ensures { slice_get (policy_at (rules self.now).policies target) place ≡ Some result };
+    /// The enabled entries of all policies: targets in the order of their creation, and entries in array order.
+    fn dues(&self) -> &[Due]
+        ensures { result.now ≡ enabled (rules self.now).policies };
 
     fn columns(&self, table: u32) -> &[Field]
         ensures { result.now ≡ (rules self.now).columns table };

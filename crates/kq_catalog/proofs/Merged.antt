@@ -1,5 +1,5 @@
 -- A merge keeps that of each table is held what the history says of it.
-use Rattle.std.proofs.Common.{◌≡◌, ◌<◌, ◌≤◌, ◌+◌, refl, subst, ℕ, zero, suc, Bool, true, false, not, cond, List, [], ◌∷◌, ◌++◌, All, Contains, length, map, take, drop, get_or, slice_index_or, nat_eq, nat_lt, Some, None, min, ap, sym, ◌∙◌, arith, append-nil, append_assoc, length-append, length-take, take-append-drop, add-zero, zero-add}
+use Rattle.std.proofs.Common.{◌≡◌, ◌<◌, ◌≤◌, ◌+◌, refl, subst, ℕ, zero, suc, Bool, true, false, not, List, [], ◌∷◌, ◌++◌, All, Contains, length, map, take, drop, slice_index_or, nat_eq, nat_lt, Some, ap, sym, ◌∙◌, arith, append-nil, append_assoc, length-append, length-take, take-append-drop, zero-add}
 use Rattle.std.specs.List.{AllZip, filter, flat_map, slice_get, list_any}
 use Rattle.std.specs.List.Sorted.{IsPermutation}
 use Rattle.std.proofs.lemmas.Bool.{eq-eqb, eqb-true, ltb-true, ltb-false, true≢false}
@@ -17,14 +17,12 @@ use Rattle.kq_extent.specs.Split.{put, without_first}
 use Rattle.kq_extent.specs.Wide.{wide, wide_held}
 use Rattle.kq_extent.proofs.Wide.{held_records-wide, records_in-wide}
 use Rattle.kq_model.specs.declared.event.By.{By}
-use Rattle.kq_model.specs.declared.event.Event.{Event}
-use Rattle.kq_model.specs.declared.event.Operation.{Operation}
-use Rattle.kq_model.specs.declared.event.Operation.TheVariants as operation
 use Rattle.kq_model.specs.declared.table.Table.{Table}
 use Rattle.kq_model.specs.Edits.{changed, with_merged as state_merged}
-use Rattle.kq_model.specs.History.{History, Log, log, cursor as cursor_of, tables, commits_of}
-use Rattle.kq_model.specs.Lawful.{AreLawful, IsMerge, LawfulOperation}
-use Rattle.kq_model.specs.Records.{ExtentItem, extents, has_id_of, ids_of, is_small_item, item_ids, made_in, made_of, merged, picked, records, schema_of, small_items, united}
+use Rattle.kq_model.specs.History.{History, Log, log, tables}
+use Rattle.kq_model.specs.Lawful.{AreLawful, IsMerge}
+use Rattle.kq_model.specs.Policies.{noted, policies}
+use Rattle.kq_model.specs.Records.{ExtentItem, extents, has_id_of, ids_of, is_small_item, item_ids, made_in, merged, picked, records, schema_of, small_items, united}
 use Rattle.kq_model.specs.Tables.{TableState, states_from, table_states}
 use Rattle.kq_model.proofs.Bounded.{no_items}
 use Rattle.kq_model.proofs.Histories.{AreLawful-push, log-append, log-push}
@@ -340,7 +338,9 @@ pub Holds-merge : (c : CatalogView) (cursor made : ℕ) (by : By) (m : Merging) 
       limits = c.limits;
       history = hist c ++ merge_event by (1 + made_in (hist c)) m ∷ [];
       held = changed (with_merged (length m.old) (record { id = 1 + made_in (hist c); records = m.extent.records; tags = m.extent.tags })) m.table c.held;
+      policies = c.policies;
       views = c.views;
+      failures = c.failures;
     }) cursor (made + 1) index
 Holds-merge c cursor made by m index holds picked_then front =
     let h = hist c in
@@ -358,7 +358,9 @@ Holds-merge c cursor made by m index holds picked_then front =
       sound = record {
         tables = subst (AllZip IsHeld (changed (with_merged (length m.old) e) m.table c.held)) (sym (table_states-merge h event m.table m.old new refl))
             (AllZip-changed_at IsHeld (with_merged (length m.old) e) (state_merged m.old new) m.table c.held (table_states h) keeps holds.sound.tables);
+        policies = holds.sound.policies ∙ ap policies (sym logged);
         views = views-merge c.limits h event m.table m.old new c.views holds.sound.lawful holds.sound.views refl;
+        failures = holds.sound.failures ∙ ap noted (sym logged);
         lawful = AreLawful-push c.limits h event holds.sound.lawful (record { operation = merge_lawful c m holds.sound picked_then front });
       };
       count = holds.count ∙ ap length (sym logged);

@@ -24,3 +24,9 @@ pub set-changed : {X : Type 0} (f : X → X) (n : ℕ) (xs : List X) (x : X) →
 set-changed f n [] x at = let within = slice_get_within [] n x at in absurd (omega (arith, within))
 set-changed f zero (y ∷ xs) x at = let same : y ≡ x = cc in ap (λ z. f z ∷ xs) (sym same)
 set-changed f (suc n) (y ∷ xs) x at = ap (λ zs. y ∷ zs) (set-changed f n xs x at)
+
+-- an item in the place of whatever stands there
+pub set-any : {X : Type 0} (n : ℕ) (xs : List X) (x : X) → n < length xs → slice_set xs n x ≡ changed (λ (old : X). x) n xs
+set-any n [] x within = absurd (omega (arith, within))
+set-any zero (y ∷ xs) x within = refl
+set-any (suc n) (y ∷ xs) x within = ap (λ zs. y ∷ zs) (set-any n xs x (omega (arith, within)))

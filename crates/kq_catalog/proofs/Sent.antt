@@ -10,9 +10,13 @@ use Rattle.kq_shared.specs.contracts.list.SharedList as list
 use Rattle.kq_names.specs.contracts.names.Names as names
 use Rattle.kq_extent.proofs.Sent.{held_send, held_sync}
 use Rattle.kq_tagged.proofs.Sent.{index_send, index_sync}
+use Rattle.kq_model.specs.contracts.batch.Noted as noted
 use Rattle.kq_model.specs.contracts.event.Event as event
+use Rattle.kq_model.specs.contracts.policy.Entries as entries
 use Rattle.kq_catalog.specs.contracts.held.HeldTable as table
 use Rattle.kq_catalog.specs.contracts.tables.Tables as tables
+use Rattle.kq_catalog.specs.contracts.policies.Policies as policies
+use Rattle.kq_catalog.specs.contracts.policies.Policies.TheInside as policies_inside
 use Rattle.kq_catalog.specs.contracts.held_view.HeldView as held_view
 use Rattle.kq_catalog.specs.contracts.held_view.HeldView.TheInside as held_view_inside
 use Rattle.kq_catalog.specs.contracts.views.Views as views
@@ -20,7 +24,7 @@ use Rattle.kq_catalog.specs.contracts.state.State as state
 use Rattle.kq_catalog.specs.contracts.snapshot.Snapshot as snapshot
 use Rattle.kq_catalog.specs.contracts.catalog.Catalog as catalog
 use Rattle.kq_catalog.specs.contracts.catalog.Staged as staged
-use Rattle.kq_catalog.proofs.SentViews.{parted_send, parted_sync, shared_view_send, shared_view_sync}
+use Rattle.kq_catalog.proofs.SentViews.{due_send, due_sync, entries_send, entries_sync, noted_send, noted_sync, parted_send, parted_sync, shared_view_send, shared_view_sync}
 
 text_send : IsSend text.the_row
 text_send = search (sendable, crosses) depth 40 fits 5000
@@ -83,10 +87,10 @@ views_sync : IsSync views.the_row
 views_sync = search (held_views_sync, names_send, names_sync, sendable, crosses) depth 40 fits 5000
 
 event_send : IsSend event.the_row
-event_send = search (text_send, tags_send, recorded_send, shared_view_send, sendable, crosses) depth 40 fits 5000
+event_send = search (text_send, tags_send, recorded_send, entries_send, shared_view_send, sendable, crosses) depth 40 fits 5000
 
 event_sync : IsSync event.the_row
-event_sync = search (text_sync, tags_sync, recorded_sync, shared_view_sync, sendable, crosses) depth 40 fits 5000
+event_sync = search (text_sync, tags_sync, recorded_sync, entries_sync, shared_view_sync, sendable, crosses) depth 40 fits 5000
 
 journal_send : IsSend (list.the_row event.the_row)
 journal_send = list_send event.the_row event_send event_sync
@@ -94,11 +98,35 @@ journal_send = list_send event.the_row event_send event_sync
 journal_sync : IsSync (list.the_row event.the_row)
 journal_sync = list_sync event.the_row event_send event_sync
 
+held_policies_send : IsSend (list.the_row entries.the_row)
+held_policies_send = list_send entries.the_row entries_send entries_sync
+
+held_policies_sync : IsSync (list.the_row entries.the_row)
+held_policies_sync = list_sync entries.the_row entries_send entries_sync
+
+policies_inside_send : IsSend policies_inside.the_row
+policies_inside_send = search (held_policies_send, due_send, due_sync, sendable, crosses) depth 40 fits 5000
+
+policies_inside_sync : IsSync policies_inside.the_row
+policies_inside_sync = search (held_policies_sync, due_send, due_sync, sendable, crosses) depth 40 fits 5000
+
+policies_send : IsSend policies.the_row
+policies_send = search (policies_inside_send, sendable, crosses) depth 40 fits 5000
+
+policies_sync : IsSync policies.the_row
+policies_sync = search (policies_inside_sync, sendable, crosses) depth 40 fits 5000
+
+failures_send : IsSend (list.the_row noted.the_row)
+failures_send = list_send noted.the_row noted_send noted_sync
+
+failures_sync : IsSync (list.the_row noted.the_row)
+failures_sync = list_sync noted.the_row noted_send noted_sync
+
 state_send : IsSend state.the_row
-state_send = search (journal_send, tables_send, views_send, index_send, sendable, crosses) depth 40 fits 5000
+state_send = search (journal_send, tables_send, policies_send, views_send, failures_send, index_send, sendable, crosses) depth 40 fits 5000
 
 state_sync : IsSync state.the_row
-state_sync = search (journal_sync, tables_sync, views_sync, index_sync, sendable, crosses) depth 40 fits 5000
+state_sync = search (journal_sync, tables_sync, policies_sync, views_sync, failures_sync, index_sync, sendable, crosses) depth 40 fits 5000
 
 pub snapshot_send : IsSend snapshot.the_row
 snapshot_send = search (state_send, state_sync, sendable, crosses) depth 40 fits 5000

@@ -1,4 +1,4 @@
--- Views with their parts may go to another thread, and many threads may share them. The lemma on each type is found from those on
+-- Views with their parts, and the entries of policies, may go to another thread, and many threads may share them. The lemma on each type is found from those on
 -- its parts; where a type is seen as another, from that on what is inside.
 use denote.Param.Send.{IsSend, IsSync, sendable}
 use Rattle.std.proofs.Crossing.{crosses}
@@ -35,6 +35,11 @@ use Rattle.kq_group.specs.contracts.groups.Groups as groups
 use Rattle.kq_group.specs.contracts.groups.Groups.TheInside as groups_inside
 use Rattle.kq_parted.specs.contracts.parted.Parted as parted
 use Rattle.kq_parted.specs.contracts.parted.Parted.TheInside as parted_inside
+use Rattle.kq_model.specs.contracts.batch.Noted as noted
+use Rattle.kq_model.specs.contracts.policy.Due as due
+use Rattle.kq_model.specs.contracts.policy.Entry as entry
+use Rattle.kq_model.specs.contracts.policy.Entries as entries
+use Rattle.kq_model.specs.contracts.policy.Entries.TheInside as entries_inside
 use Rattle.kq_model.specs.contracts.view.View as view
 use Rattle.kq_model.specs.contracts.view.SharedView as shared_view
 use Rattle.kq_model.specs.contracts.view.SharedView.TheInside as shared_view_inside
@@ -248,3 +253,33 @@ shared_view_send = search (shared_view_inside_send, sendable, crosses) depth 60 
 
 pub shared_view_sync : IsSync shared_view.the_row
 shared_view_sync = search (shared_view_inside_sync, sendable, crosses) depth 60 fits 20000
+
+entry_send : IsSend entry.the_row
+entry_send = search (text_send, plan_send, sendable, crosses) depth 60 fits 20000
+
+entry_sync : IsSync entry.the_row
+entry_sync = search (text_sync, plan_sync, sendable, crosses) depth 60 fits 20000
+
+entries_inside_send : IsSend entries_inside.the_row
+entries_inside_send = search (entry_send, entry_sync, sendable, crosses) depth 60 fits 20000
+
+entries_inside_sync : IsSync entries_inside.the_row
+entries_inside_sync = search (entry_send, entry_sync, sendable, crosses) depth 60 fits 20000
+
+pub entries_send : IsSend entries.the_row
+entries_send = search (entries_inside_send, sendable, crosses) depth 60 fits 20000
+
+pub entries_sync : IsSync entries.the_row
+entries_sync = search (entries_inside_sync, sendable, crosses) depth 60 fits 20000
+
+pub due_send : IsSend due.the_row
+due_send = search (sendable, crosses) depth 60 fits 20000
+
+pub due_sync : IsSync due.the_row
+due_sync = search (sendable, crosses) depth 60 fits 20000
+
+pub noted_send : IsSend noted.the_row
+noted_send = search (sendable, crosses) depth 60 fits 20000
+
+pub noted_sync : IsSync noted.the_row
+noted_sync = search (sendable, crosses) depth 60 fits 20000

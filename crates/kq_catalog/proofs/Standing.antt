@@ -6,7 +6,9 @@ use Rattle.std.proofs.lemmas.List.{length-map, length_push}
 use Rattle.std.proofs.lemmas.Option.{slice_get-map, slice_get_within}
 use Rattle.kq_value.specs.declared.schema.Field.{Field}
 use Rattle.kq_value.specs.Typed.{HasTypes}
+use Rattle.kq_model.specs.declared.batch.Noted.{Noted}
 use Rattle.kq_model.specs.declared.event.Commit.{Commit}
+use Rattle.kq_model.specs.declared.event.Commit.TheVariants.{CreateTable, SetPolicy, CreateView, AlterMerge, Ingest}
 use Rattle.kq_model.specs.declared.event.Event.{Event}
 use Rattle.kq_model.specs.declared.event.Operation.{Operation}
 use Rattle.kq_model.specs.declared.event.Operation.TheVariants as operation
@@ -14,11 +16,13 @@ use Rattle.kq_model.specs.declared.table.Table.{Table}
 use Rattle.kq_model.specs.Edits.{FitAll, edited_by, edits_of}
 use Rattle.kq_model.specs.History.{History, log, cursor as cursor_of, tables, commits_of}
 use Rattle.kq_model.specs.Lawful.{LawfulCommit, LawfulOperation}
+use Rattle.kq_model.specs.Policies.{noted, noted_by, policies, policies_with}
 use Rattle.kq_model.specs.Records.{records, rows_in, extents, made_by, made_in, made_of, records_given, schema_of}
 use Rattle.kq_widened.specs.Widened.{widened_record, widened_records}
 use Rattle.kq_model.specs.Tables.{TableState, states_from, table_states}
 use Rattle.kq_model.proofs.Bounded.{IsBounded, IsBounded-lawful, few_made}
 use Rattle.kq_model.proofs.Histories.{log-push, AreLawful-push}
+use Rattle.kq_model.proofs.Policies.{length-policies, noted-push, policies-push}
 use Rattle.kq_model.proofs.Records.{made_in-push}
 use Rattle.kq_model.proofs.States.{table_states-push, table_states-tables}
 use Rattle.kq_model.proofs.Fitting.{FitAll-lawful}
@@ -30,6 +34,7 @@ use Rattle.kq_catalog.specs.declared.intent.Intent.{Intent}
 use Rattle.kq_catalog.specs.Edits.{edits_by, put_all}
 use Rattle.kq_catalog.specs.Held.{HeldTable, IsHeld, tables_in}
 use Rattle.kq_catalog.specs.Intents.{Begins, commit_of, view_by}
+use Rattle.kq_catalog.specs.Policies.{SetsStanding}
 use Rattle.kq_catalog.specs.Seen.{CatalogView, Holds, Sound, hist}
 use Rattle.kq_catalog.specs.Tagged.{TellsTags}
 use Rattle.kq_catalog.specs.Views.{with_new}
@@ -90,9 +95,11 @@ typed_at c n x t sound is at =
 pub bounded : (c : CatalogView) → Sound c → IsBounded c.limits (log (hist c))
 bounded c sound = IsBounded-lawful c.limits (hist c) sound.lawful
 
--- no more extents were made than there were events
-pub made_few : (c : CatalogView) → Sound c → made_in (hist c) ≤ length (hist c)
-made_few c sound = few_made c.limits (hist c) sound.lawful
+-- few extents were made beside the events
+pub made_few : (c : CatalogView) → Sound c → made_in (hist c) ≤ length (hist c) + 4398046510080
+made_few c sound =
+    let b = bounded c sound in
+    omega (arith, few_made c.limits (hist c) sound.lawful, b.few_commits, c.limits.few_commits)
 
 pub few_records : (c : CatalogView) (n : ℕ) → Sound c → length (records (log (hist c)) n) < 9223372036854775808
 few_records c n sound =
@@ -100,18 +107,32 @@ few_records c n sound =
     let same = length-map (records_given (log (hist c)) n) (widened_record (schema_of (log (hist c)) n)) in
     omega (arith, same, b.few_records n, b.few_commits, c.limits.few_commits)
 
+-- a policy for each table
+pub count_policies : (c : CatalogView) → Sound c → length c.policies ≡ length (tables (log (hist c)))
+count_policies c sound = ap length sound.policies ∙ length-policies (log (hist c))
+
+-- a lawful commit sets the policy of a table that stands
+pub sets_standing : (c : CatalogView) (commit : Commit) → Sound c → LawfulCommit c.limits (log (hist c)) commit → SetsStanding (length c.policies) commit
+sets_standing c (CreateTable name schema) sound lawful = tt
+sets_standing c (SetPolicy table entries) sound lawful =
+    let within = slice_get_within (tables (log (hist c))) table lawful.table lawful.stands in
+    omega (arith, within, count_policies c sound)
+sets_standing c (CreateView view) sound lawful = tt
+sets_standing c (AlterMerge table columns) sound lawful = tt
+sets_standing c (Ingest batches failures) sound lawful = tt
+
 -- the edits of a lawful commit fit what is held
 pub changes_fit : (c : CatalogView) (cursor id : ℕ) (commit : Commit) (cs : List Change) → Sound c → LawfulCommit c.limits (log (hist c)) commit → edits_by cs ≡ edits_of cursor id commit → FitAll (tables_in c.held) (edits_by cs)
 changes_fit c cursor id commit cs sound lawful are =
     subst (λ (ts : List Table). FitAll ts (edits_by cs)) (sym (tables_held c sound))
-    (subst (FitAll (tables (log (hist c)))) (sym are) (FitAll-lawful c.limits (log (hist c)) cursor id commit lawful))
+    (subst (FitAll (tables (log (hist c)))) (sym are) (FitAll-lawful c.limits (hist c) cursor id commit sound.lawful lawful))
 
 -- a catalogue with one commit more
 pub Holds-push : (c : CatalogView) (cursor made more : ℕ) (event : Event) (intent : Intent) (cs : List Change) (index tags : List Entry) → Holds c cursor made index → LawfulCommit c.limits (log (hist c)) (commit_of intent) → Begins intent
     → event.operation ≡ operation.Commit (commit_of intent)
     → edits_by cs ≡ edits_of (cursor_of (hist c) + 1) (1 + made_in (hist c)) (commit_of intent) → more ≡ made_by (commit_of intent)
     → Adds index (λ t tag. is_tagged_by t tag (commit_of intent)) (cursor + 1) tags
-    → Holds (record { limits = c.limits; history = hist c ++ event ∷ []; held = put_all c.held cs; views = with_new c.views (view_by (cursor_of (hist c) + 1) intent) }) (cursor + 1) (made + more) tags
+    → Holds (record { limits = c.limits; history = hist c ++ event ∷ []; held = put_all c.held cs; policies = policies_with (commit_of intent) c.policies; views = with_new c.views (view_by (cursor_of (hist c) + 1) intent); failures = c.failures ++ noted_by (cursor_of (hist c) + 1) (commit_of intent) }) (cursor + 1) (made + more) tags
 Holds-push c cursor made more event intent cs index tags holds lawful begins is are count adds =
     let h = hist c in
     let commit = commit_of intent in
@@ -122,7 +143,9 @@ Holds-push c cursor made more event intent cs index tags holds lawful begins is 
     record {
       sound = record {
         tables = subst (AllZip IsHeld (put_all c.held cs)) (sym next) (all_changes cs c.held (table_states h) holds.sound.tables fits);
+        policies = ap (policies_with commit) holds.sound.policies ∙ sym (ap policies logged ∙ policies-push (log h) commit);
         views = views-commit c.limits h event intent c.views holds.sound.lawful holds.sound.views is begins;
+        failures = ap (λ (ns : List Noted). ns ++ noted_by (cursor_of h + 1) commit) holds.sound.failures ∙ sym (ap noted logged ∙ noted-push (log h) commit);
         lawful = AreLawful-push c.limits h event holds.sound.lawful (record { operation = subst (LawfulOperation c.limits h) (sym is) lawful });
       };
       count = ap (λ (n : ℕ). n + 1) holds.count ∙ sym (ap length logged ∙ length_push (log h) commit);

@@ -15,29 +15,27 @@ use Rattle.kq_value.specs.declared.value.Value.{Value}
 use Rattle.kq_model.specs.declared.event.By.{By}
 use Rattle.kq_model.specs.declared.event.Commit.{Commit}
 use Rattle.kq_model.specs.declared.event.Event.{Event}
-use Rattle.kq_model.specs.declared.event.Operation.{Operation}
 use Rattle.kq_model.specs.declared.event.Operation.TheVariants as operation
 use Rattle.kq_model.specs.declared.limits.Limits.{Limits}
-use Rattle.kq_model.specs.declared.view.View.{View}
 use Rattle.kq_model.specs.Edits.{changed}
 use Rattle.kq_model.specs.History.{History, Log, log, commits_of, cursor as cursor_of, Viewed, views, views_by, view_count, mark, mark_after, names_of_views}
 use Rattle.kq_model.specs.Lawful.{AreLawful, IsFold, LawfulCommit}
 use Rattle.kq_model.specs.Names.{is_among}
-use Rattle.kq_model.specs.Records.{made_in, made_of}
-use Rattle.kq_model.specs.Tables.{TableState, table_states}
+use Rattle.kq_model.specs.Policies.{noted, policies}
+use Rattle.kq_model.specs.Tables.{TableState}
 use Rattle.kq_model.specs.Views.{covered}
 use Rattle.kq_model.proofs.Bounded.{free_view}
-use Rattle.kq_model.proofs.Histories.{AreLawful-push, log-append, log-push, views-append, views-push}
+use Rattle.kq_model.proofs.Histories.{AreLawful-push, log-append, log-push, views-push}
 use Rattle.kq_model.proofs.Merging.{lawful_parts}
 use Rattle.kq_model.proofs.Places.{WasAt, get-changed, get-push}
 use Rattle.kq_model.proofs.Records.{made_in-push}
 use Rattle.kq_model.proofs.States.{table_states-fold}
 use Rattle.kq_model.proofs.Views.{covered-go_on, covered-none, log-commit, mark-new, mark-push, marked, no_fewer_views, over, view-stays}
 use Rattle.kq_catalog.specs.declared.intent.Intent.{Intent}
-use Rattle.kq_catalog.specs.declared.intent.Intent.TheVariants.{CreateTable, CreateView, AlterMerge, Ingest}
-use Rattle.kq_catalog.specs.Held.{HeldTable, IsHeld}
+use Rattle.kq_catalog.specs.declared.intent.Intent.TheVariants.{CreateTable, SetPolicy, CreateView, AlterMerge, Ingest}
+use Rattle.kq_catalog.specs.Held.{IsHeld}
 use Rattle.kq_catalog.specs.Intents.{Begins, commit_of, view_by}
-use Rattle.kq_catalog.specs.Seen.{CatalogView, Holds, Sound, hist}
+use Rattle.kq_catalog.specs.Seen.{CatalogView, Holds, hist}
 use Rattle.kq_catalog.specs.Tagged.{TellsTags}
 use Rattle.kq_catalog.specs.Views.{AreHeldViews, HeldView, IsHeldView, IsPart, WasFolded, fold_event, folded_view, names_held, new_view, viewed_of, with_new}
 use Rattle.kq_catalog.proofs.Keeping.{map-changed}
@@ -102,6 +100,7 @@ held_new limits h e (CreateView view part) x lawful is new begins =
     let none = covered-none (log (h ++ e ∷ [])) v v.base (mark (h ++ e ∷ []) (view_count (log h))) (omega (arith, at)) in
     subst (IsHeldView (h ++ e ∷ []) (view_count (log h))) same
     (record { cursor = sym at; part = subst (λ (rows : List (List Value)). IsPart (planned_of v.body) rows part) (sym none) (record { order = []; same = IsPermutation-refl []; stands = begins }) })
+held_new limits h e (SetPolicy table entries) x lawful is new begins = cc
 held_new limits h e (AlterMerge table columns) x lawful is new begins = cc
 held_new limits h e (Ingest parts failures) x lawful is new begins = cc
 
@@ -126,6 +125,7 @@ pub views-commit : (limits : Limits) (h : History) (e : Event) (intent : Intent)
     → AreHeldViews (h ++ e ∷ []) (with_new held (view_by (cursor_of h + 1) intent))
 views-commit limits h e (CreateTable name schema) held lawful are is begins = no_new limits h e (commit_of (CreateTable name schema)) held lawful are is refl
 views-commit limits h e (CreateView view part) held lawful are is begins = one_new limits h e (CreateView view part) held (new_view (cursor_of h + 1) view part) lawful are is refl refl begins
+views-commit limits h e (SetPolicy table entries) held lawful are is begins = no_new limits h e (commit_of (SetPolicy table entries)) held lawful are is refl
 views-commit limits h e (AlterMerge table columns) held lawful are is begins = no_new limits h e (commit_of (AlterMerge table columns)) held lawful are is refl
 views-commit limits h e (Ingest parts failures) held lawful are is begins = no_new limits h e (commit_of (Ingest parts failures)) held lawful are is refl
 
@@ -213,7 +213,7 @@ fold_stands h view to part folded =
 
 -- a catalogue after a fold
 pub Holds-fold : (c : CatalogView) (cursor made : ℕ) (by : By) (view to : ℕ) (part : Grouping) (index : List Entry) → Holds c cursor made index → WasFolded (hist c) view to part → mark (hist c) view < to
-    → Holds (record { limits = c.limits; history = hist c ++ fold_event by view to ∷ []; held = c.held; views = changed (folded_view to part) view c.views }) cursor made index
+    → Holds (record { limits = c.limits; history = hist c ++ fold_event by view to ∷ []; held = c.held; policies = c.policies; views = changed (folded_view to part) view c.views; failures = c.failures }) cursor made index
 Holds-fold c cursor made by view to part index holds folded ahead =
     let h = hist c in
     let e = fold_event by view to in
@@ -223,7 +223,9 @@ Holds-fold c cursor made by view to part index holds folded ahead =
     record {
       sound = record {
         tables = subst (λ (ss : List TableState). AllZip IsHeld c.held ss) (sym (table_states-fold h e view to refl)) holds.sound.tables;
+        policies = holds.sound.policies ∙ ap policies (sym logged);
         views = views-fold c.limits h e view to part c.views holds.sound.lawful holds.sound.views refl folded;
+        failures = holds.sound.failures ∙ ap noted (sym logged);
         lawful = AreLawful-push c.limits h e holds.sound.lawful (record { operation = lawful });
       };
       count = holds.count ∙ sym (ap length logged);
@@ -261,6 +263,7 @@ new_name limits h cursor (CreateView view part) held are lawful =
     let name = view.name in
     let free = free_view limits (log h) name lawful.within in
     ap (place_of name) (names_are h held are) ∙ unplaced name (names_of_views (views (log h))) free.no_view
+new_name limits h cursor (SetPolicy table entries) held are lawful = tt
 new_name limits h cursor (AlterMerge table columns) held are lawful = tt
 new_name limits h cursor (Ingest parts failures) held are lawful = tt
 

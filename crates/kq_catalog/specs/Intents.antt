@@ -9,7 +9,7 @@ use Rattle.kq_model.specs.declared.event.Commit.TheVariants as commit
 use Rattle.kq_model.specs.declared.event.Event.{Event}
 use Rattle.kq_model.specs.declared.event.Operation.TheVariants as operation
 use Rattle.kq_catalog.specs.declared.intent.Intent.{Intent}
-use Rattle.kq_catalog.specs.declared.intent.Intent.TheVariants.{CreateTable, CreateView, AlterMerge, Ingest}
+use Rattle.kq_catalog.specs.declared.intent.Intent.TheVariants.{CreateTable, SetPolicy, CreateView, AlterMerge, Ingest}
 use Rattle.kq_catalog.specs.declared.intent.Part.{Part}
 use Rattle.kq_catalog.specs.Views.{HeldView, new_view}
 
@@ -19,6 +19,7 @@ batch_of p = record { table = p.table; rows = p.draft.rows; tags = p.draft.tags 
 
 abbrev pub commit_of : Intent → Commit
 commit_of (CreateTable name schema) = commit.CreateTable name schema
+commit_of (SetPolicy table entries) = commit.SetPolicy table entries
 commit_of (CreateView view part) = commit.CreateView view
 commit_of (AlterMerge table columns) = commit.AlterMerge table columns
 commit_of (Ingest parts failures) = commit.Ingest (map batch_of parts.items) failures
@@ -26,6 +27,7 @@ commit_of (Ingest parts failures) = commit.Ingest (map batch_of parts.items) fai
 -- the view that a commit at a cursor makes, with its part
 abbrev pub view_by : ℕ → Intent → Option HeldView
 view_by cursor (CreateTable name schema) = None
+view_by cursor (SetPolicy table entries) = None
 view_by cursor (CreateView view part) = Some (new_view cursor view part)
 view_by cursor (AlterMerge table columns) = None
 view_by cursor (Ingest parts failures) = None
@@ -33,6 +35,7 @@ view_by cursor (Ingest parts failures) = None
 -- the part of a new view stands for no rows
 abbrev pub Begins : Intent → Type 0
 Begins (CreateTable name schema) = Unit {0}
+Begins (SetPolicy table entries) = Unit {0}
 Begins (CreateView view part) = StandsFor (planned_of view.body) [] part
 Begins (AlterMerge table columns) = Unit {0}
 Begins (Ingest parts failures) = Unit {0}

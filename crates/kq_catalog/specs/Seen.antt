@@ -1,23 +1,28 @@
 -- What contracts see of a catalogue, of a snapshot and of what was staged, and when a catalogue is sound.
 use Rattle.std.specs.Prelude.{◌≡◌, ℕ, List}
 use Rattle.std.specs.List.{AllZip}
+use Rattle.kq_model.specs.declared.batch.Noted.{Noted}
 use Rattle.kq_model.specs.declared.event.Event.{Event}
 use Rattle.kq_model.specs.declared.limits.Limits.{Limits}
 use Rattle.kq_model.specs.History.{History, log, cursor as cursor_of}
 use Rattle.kq_model.specs.Lawful.{AreLawful}
+use Rattle.kq_model.specs.Policies.{noted, policies}
 use Rattle.kq_model.specs.Records.{made_in}
 use Rattle.kq_model.specs.Tables.{table_states}
-use Rattle.kq_tagged.specs.declared.entry.Entry.{Entry}
+use Rattle.kq_model.specs.declared.policy.Entry.{Entry}
+use Rattle.kq_tagged.specs.declared.entry.Entry.{Entry as Tagging}
 use Rattle.kq_catalog.specs.Held.{HeldTable, IsHeld}
 use Rattle.kq_catalog.specs.Tagged.{TellsTags}
 use Rattle.kq_catalog.specs.Views.{AreHeldViews, HeldView}
 
--- the events in order, and the tables and the views by number with what is held of them
+-- the events in order, the tables and the views by number with what is held of them, the entries of each table's update policy, and the failures of ingestions
 pub record CatalogView : Type 0 where
   pub limits : Limits
   pub history : List Event
   pub held : List HeldTable
+  pub policies : List (List Entry)
   pub views : List HeldView
+  pub failures : List Noted
 
 -- a snapshot is seen as the catalogue was
 abbrev pub SnapshotView : Type 0
@@ -32,14 +37,16 @@ pub record StagedView : Type 0 where
 abbrev pub hist : CatalogView → History
 hist c = c.history
 
--- of each table and each view is held what the history says of it, and each event of the history is lawful over the events before it
+-- of each table and each view is held what the history says of it, the policies are those that were set last, the failures are those that were noted, and each event of the history is lawful over the events before it
 pub record Sound (c : CatalogView) : Type 0 where
   pub tables : AllZip IsHeld c.held (table_states (hist c))
+  pub policies : c.policies ≡ policies (log (hist c))
   pub views : AreHeldViews (hist c) c.views
+  pub failures : c.failures ≡ noted (log (hist c))
   pub lawful : AreLawful c.limits (hist c)
 
 -- a sound catalogue, with the number of its commits, that of the extents that were made, and an index of their tags
-pub record Holds (c : CatalogView) (cursor made : ℕ) (index : List Entry) : Type 0 where
+pub record Holds (c : CatalogView) (cursor made : ℕ) (index : List Tagging) : Type 0 where
   pub sound : Sound c
   pub count : cursor ≡ cursor_of (hist c)
   pub made_count : made ≡ made_in (hist c)

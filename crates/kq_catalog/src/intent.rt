@@ -1,6 +1,6 @@
 // What commits are made from.
 use kq_extent::Draft;
-use kq_model::{Failures, SharedView};
+use kq_model::{Entries, Failures, SharedView};
 use kq_parted::Parted;
 use kq_value::{Schema, Text};
 
@@ -10,6 +10,11 @@ pub enum Intent {
     CreateTable {
         name: Text,
         schema: Schema,
+    },
+    /// The entries of a table's update policy. The table goes by its number.
+    SetPolicy {
+        table: u32,
+        entries: Entries,
     },
     /// A view, and its part, which is that of no records.
     CreateView {

@@ -1,5 +1,5 @@
-//! The catalogue: the one mutable state, whose type keeps that its journal is lawful, and that of each table and each view it holds
-//! what the journal says of it.
+//! The catalogue: the one mutable state, whose type keeps that its journal is lawful, and that of each table and each view, of the
+//! update policies and of the failures of ingestions it holds what the journal says of it.
 //!
 //! What stands is one state that nothing changes, and a snapshot is a handle of it. A commit is staged: the next state is
 //! made beside the one that stands, edit by edit. Then it is put in its place, which can't fail. Which commit a command is
@@ -8,14 +8,17 @@
 
 mod catalog;
 mod edit;
+mod enabled;
 mod folding;
 mod grows;
 mod held;
 mod held_view;
 mod intent;
 mod merging;
+mod noting;
 mod ordinals;
 mod plan;
+mod policies;
 mod snapshot;
 mod state;
 mod tables;

@@ -1,6 +1,6 @@
 // Commits with their edits.
 ghost use Rattle.std.specs.Prelude.{ℕ, ◌≡◌, ◌<◌, ◌+◌, ◌^◌, IfOk, length, map};
-ghost use Rattle.kq_catalog.specs.declared.intent.Intent.TheVariants.{CreateTable, CreateView, AlterMerge, Ingest};
+ghost use Rattle.kq_catalog.specs.declared.intent.Intent.TheVariants.{CreateTable, SetPolicy, CreateView, AlterMerge, Ingest};
 ghost use Rattle.kq_catalog.specs.Edits.{IsPlan, total_rows};
 ghost use Rattle.kq_catalog.specs.Intents.{batch_of};
 
@@ -8,7 +8,7 @@ use crate::edit::Change;
 use crate::held_view::HeldView;
 use crate::intent::Part;
 use crate::ordinals::{give_rows, rows_given};
-use kq_model::{Batch, Batches, Commit, Failures, SharedView, Table};
+use kq_model::{Batch, Batches, Commit, Entries, Failures, SharedView, Table};
 use kq_parted::Parted;
 use kq_value::{Memory, Schema, Text};
 use std::alloc::Global;
@@ -47,6 +47,18 @@ pub(crate) fn plan_table(
         view: None,
         made: 0,
     })
+}
+
+/// The plan of a table's update policy.
+pub(crate) fn plan_policy(alloc: Global, table: u32, entries: Entries) -> Plan
+    ensures { (cursor id : ℕ) → IsPlan cursor id (SetPolicy table entries) result }
+{
+    Plan {
+        commit: Commit::SetPolicy { table, entries },
+        changes: Vec::new(alloc),
+        view: None,
+        made: 0,
+    }
 }
 
 /// The plan of a new view.

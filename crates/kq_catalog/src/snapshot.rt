@@ -8,6 +8,8 @@ ghost use Rattle.kq_extent.specs.Seen.{held_records};
 ghost use Rattle.kq_extent.specs.Wide.{wide_held};
 ghost use Rattle.kq_model.specs.declared.table.Table.{Table as Described};
 ghost use Rattle.kq_model.specs.History.{log, cursor as cursor_of, tables, Viewed, views, view_count, is_view, mark};
+ghost use Rattle.kq_model.specs.Force.{policy_at};
+ghost use Rattle.kq_model.specs.Policies.{dues, noted, policies};
 ghost use Rattle.kq_model.specs.Records.{records, rows_in, extents, schema_of};
 ghost use Rattle.kq_model.specs.Tagged.{first_tagged};
 ghost use Rattle.kq_catalog.specs.Held.{AreItems, FindsTable};
@@ -16,7 +18,7 @@ ghost use Rattle.kq_catalog.specs.Views.{FindsView, HoldsPart};
 
 use crate::state::State;
 use kq_extent::TableExtents;
-use kq_model::{Event, Limits, Table, View};
+use kq_model::{Due, Entry, Event, Limits, Noted, Table, View};
 use kq_parted::Parted;
 use kq_value::{Memory, Text};
 use std::alloc::Global;
@@ -96,6 +98,37 @@ impl Snapshot {
         ensures { result ≡ first_tagged (log self.now.history) table tag.now }
     {
         self.state.tagged(table, tag)
+    }
+
+    /// The entries of a table's update policy, by the table's number, in array order.
+    pub fn entries(&self, table: u32) -> &[Entry]
+        requires { table < length (tables (log self.now.history)) }
+        ensures { result.now ≡ policy_at (policies (log self.now.history)) table }
+    {
+        self.state.entries(table)
+    }
+
+    /// The enabled entries of all policies: targets in the order of their creation, and entries in array order.
+    pub fn dues(&self) -> &[Due]
+        ensures { result.now ≡ dues (log self.now.history) }
+    {
+        self.state.dues()
+    }
+
+    /// The number of failures that ingestions noted.
+    pub fn failure_count(&self) -> usize
+        ensures { result ≡ length (noted (log self.now.history)) }
+    {
+        self.state.failure_count()
+    }
+
+    /// Some failures in a row, from a place on: a walk takes them, and goes on behind them.
+    pub fn failures_from(&self, at: usize) -> &[Arc<Noted, Global>]
+        requires { at < length (noted (log self.now.history)) }
+        ensures some { 0 < length result.now }
+        ensures items { StandsAt (noted (log self.now.history)) at (map arc_value result.now) }
+    {
+        self.state.failures_from(at)
     }
 
     /// The number of views.

@@ -8,7 +8,9 @@ ghost use Rattle.kq_extent.specs.Seen.{held_records};
 ghost use Rattle.kq_extent.specs.Wide.{wide_held};
 ghost use Rattle.kq_model.specs.declared.table.Table.{Table as Described};
 ghost use Rattle.kq_model.specs.History.{log, cursor as cursor_of, tables, Viewed, views, view_count, is_view, mark};
+ghost use Rattle.kq_model.specs.Force.{policy_at};
 ghost use Rattle.kq_model.specs.Lawful.{LawfulCommit};
+ghost use Rattle.kq_model.specs.Policies.{dues, noted, policies};
 ghost use Rattle.kq_model.specs.Records.{records, rows_in, extents, made_in, small_items, schema_of};
 ghost use Rattle.kq_model.specs.Tagged.{first_tagged};
 ghost use Rattle.kq_catalog.specs.Edits.{IsPlan};
@@ -20,12 +22,14 @@ ghost use Rattle.kq_catalog.specs.Views.{FindsView, HoldsPart, WasFolded, fold_e
 
 use crate::intent::Intent;
 use crate::merging::Merging;
-use crate::plan::{Plan, plan_columns, plan_parts, plan_table, plan_view};
+use crate::noting::with_failures;
+use crate::plan::{Plan, plan_columns, plan_parts, plan_policy, plan_table, plan_view};
+use crate::policies::Policies;
 use crate::tables::Tables;
 use crate::tagging::with_commit;
 use crate::views::Views;
 use kq_extent::TableExtents;
-use kq_model::{By, Event, Limits, Operation, Table, View};
+use kq_model::{By, Due, Entry, Event, Limits, Noted, Operation, Table, View};
 use kq_parted::Parted;
 use kq_shared::SharedList;
 use kq_tagged::TagIndex;
@@ -41,7 +45,9 @@ pub(crate) struct State {
     limits: Limits,
     journal: SharedList<Event>,
     tables: Tables,
+    policies: Policies,
     views: Views,
+    failures: SharedList<Noted>,
     tags: TagIndex,
     cursor: u64,
     made: u64,
@@ -57,9 +63,9 @@ impl Model for State {
 
     ghost coded = { Prim.hlevel (codes, cell.the_row.coded, expr.the_row.coded) };
 
-    ghost view = { λ s. record { limits = s.limits; history = s.journal; held = s.tables; views = s.views } };
+    ghost view = { λ s. record { limits = s.limits; history = s.journal; held = s.tables; policies = s.policies; views = s.views; failures = s.failures } };
 
-    ghost invariant = { λ s. Holds (record { limits = s.limits; history = s.journal; held = s.tables; views = s.views }) s.cursor s.made s.tags };
+    ghost invariant = { λ s. Holds (record { limits = s.limits; history = s.journal; held = s.tables; policies = s.policies; views = s.views; failures = s.failures }) s.cursor s.made s.tags };
 }
 
 impl State {
@@ -73,7 +79,9 @@ impl State {
             limits,
             journal: SharedList::new(alloc),
             tables: Tables::new(alloc)?,
+            policies: Policies::new(alloc)?,
             views: Views::new(alloc)?,
+            failures: SharedList::new(alloc),
             tags: TagIndex::new(alloc)?,
             cursor: 0,
             made: 0,
@@ -203,6 +211,33 @@ impl State {
         self.views.get(view).part()
     }
 
+    pub(crate) fn entries(&self, table: u32) -> &[Entry]
+        requires { table < length (tables (log self.now.history)) }
+        ensures { result.now ≡ policy_at (policies (log self.now.history)) table }
+    {
+        self.policies.entries(table)
+    }
+
+    pub(crate) fn dues(&self) -> &[Due]
+        ensures { result.now ≡ dues (log self.now.history) }
+    {
+        self.policies.dues()
+    }
+
+    pub(crate) fn failure_count(&self) -> usize
+        ensures { result ≡ length (noted (log self.now.history)) }
+    {
+        self.failures.len()
+    }
+
+    pub(crate) fn failures_from(&self, at: usize) -> &[Arc<Noted, Global>]
+        requires { at < length (noted (log self.now.history)) }
+        ensures some { 0 < length result.now }
+        ensures items { StandsAt (noted (log self.now.history)) at (map arc_value result.now) }
+    {
+        self.failures.part_from(at)
+    }
+
     // The commit with its edits, under the next cursor and the next ids of extents.
     fn plan(&self, intent: Intent) -> Result<Plan, Memory>
         requires { LawfulCommit self.now.limits (log self.now.history) (commit_of intent) }
@@ -212,6 +247,7 @@ impl State {
         let _place = self.place();
         match intent {
             Intent::CreateTable { name, schema } => plan_table(self.alloc, cursor, name, schema),
+            Intent::SetPolicy { table, entries } => Ok(plan_policy(self.alloc, table, entries)),
             Intent::CreateView { view, part } => plan_view(self.alloc, cursor, view, part),
             Intent::AlterMerge { table, columns } => {
                 plan_columns(self.alloc, cursor, table, columns)
@@ -237,7 +273,9 @@ impl State {
             made,
         } = self.plan(intent)?;
         let tables = self.tables.with_all(self.alloc, changes)?;
+        let policies = self.policies.with_commit(self.alloc, &commit)?;
         let views = self.views.with_new(self.alloc, view)?;
+        let failures = with_failures(self.alloc, &self.failures, &commit, self.cursor + 1)?;
         let tags = with_commit(&self.tags, &commit, self.cursor + 1)?;
         let journal = self.journal_with(by, Operation::Commit(commit))?;
         Ok(State {
@@ -245,7 +283,9 @@ impl State {
             limits: self.limits,
             journal,
             tables,
+            policies,
             views,
+            failures,
             tags,
             cursor: self.cursor + 1,
             made: self.made + made,
@@ -296,7 +336,9 @@ impl State {
             limits: self.limits,
             journal,
             tables,
+            policies: self.policies.share()?,
             views: self.views.share()?,
+            failures: self.failures.share()?,
             tags: self.tags.share()?,
             cursor: self.cursor,
             made: new,
@@ -319,13 +361,17 @@ impl State {
         let tables = self.tables.share()?;
         let views = self.views.with_fold(self.alloc, view, to, part)?;
         let tags = self.tags.share()?;
+        let policies = self.policies.share()?;
+        let failures = self.failures.share()?;
         let journal = self.journal_with(by, Operation::Fold { view, to })?;
         Ok(State {
             alloc: self.alloc,
             limits: self.limits,
             journal,
             tables,
+            policies,
             views,
+            failures,
             tags,
             cursor: self.cursor,
             made: self.made,

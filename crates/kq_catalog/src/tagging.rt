@@ -18,9 +18,10 @@ pub(crate) fn with_commit(
     ensures { IfOk result (Adds index.now (λ t tag. is_tagged_by t tag commit.now) cursor) }
 {
     match commit {
-        Commit::CreateTable { .. } | Commit::CreateView(_) | Commit::AlterMerge { .. } => {
-            Ok(index.share()?)
-        }
+        Commit::CreateTable { .. }
+        | Commit::SetPolicy { .. }
+        | Commit::CreateView(_)
+        | Commit::AlterMerge { .. } => Ok(index.share()?),
         Commit::Ingest { batches, .. } => with_batches(index, batches.as_slice(), cursor),
     }
 }

@@ -125,7 +125,7 @@ module _ (text : List ℕ) where
   control_in (ingest m ps t) = λ ts q all. (let (a, b) = ingest_in m ps t ts q all in (a, b.0, b.1))
   control_in (alter_merge m cs) = behind (behind (table_columns_in m cs))
   control_in (create_view v) = behind (behind (view_in v))
-  control_in (set_policy m t) = λ ts q all. tt
+  control_in (set_policy m t) = behind (behind (both (behind (name_in m)) (behind (behind (string_in t)))))
   control_in (show_view m) = behind (behind (behind (name_in m)))
   control_in show_failures = λ ts q all. tt
   control_in (show_extents m) = behind (behind (before (behind (name_in m))))

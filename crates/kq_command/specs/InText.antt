@@ -4,7 +4,7 @@ use Rattle.std.specs.List.{All}
 use Rattle.std.specs.Str.{IsCharBoundary}
 use Rattle.kq_command.specs.Meanings.{piece, string_form}
 use Rattle.kq_command.specs.Unsupported.{is_string}
-use Rattle.kq_control.specs.ControlTrees.{ColumnsTree, PropertiesTree, ControlTree, create_table, ingest, alter_merge, create_view, show_extents, merge, BodyTree, ViewTree, show_view, fold}
+use Rattle.kq_control.specs.ControlTrees.{ColumnsTree, PropertiesTree, ControlTree, create_table, ingest, alter_merge, create_view, show_extents, merge, BodyTree, ViewTree, set_policy, show_view, fold}
 use Rattle.kq_control.specs.declared.tree.Property.{Property}
 use Rattle.kq_grammar.specs.declared.clause.Column.{Column}
 use Rattle.kq_grammar.specs.declared.expression.Name.{Name}
@@ -60,6 +60,7 @@ ControlIn text (create_table n cs) = NameIn text n × ColumnsIn text cs
 ControlIn text (ingest n ps t) = NameIn text n × PropertiesIn text ps × IsPiece text t
 ControlIn text (alter_merge n cs) = NameIn text n × ColumnsIn text cs
 ControlIn text (create_view v) = ViewIn text v
+ControlIn text (set_policy n t) = NameIn text n × IsString text t
 ControlIn text (show_view n) = NameIn text n
 ControlIn text (show_extents n) = NameIn text n
 ControlIn text (merge n) = NameIn text n

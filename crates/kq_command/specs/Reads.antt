@@ -4,19 +4,19 @@ use Rattle.std.specs.Str.{IsUtf8}
 use Rattle.std.specs.Str.Lossy.{utf8_valid_len}
 use Rattle.kq_command.specs.declared.columns.Column.{Column}
 use Rattle.kq_command.specs.declared.columns.Identifier.{Identifier}
-use Rattle.kq_command.specs.declared.command.Change.TheVariants.{CreateTable, AlterMerge, Ingest, CreateView}
+use Rattle.kq_command.specs.declared.command.Change.TheVariants.{CreateTable, AlterMerge, Ingest, CreateView, SetPolicy}
 use Rattle.kq_command.specs.declared.command.Command.{Command}
 use Rattle.kq_command.specs.declared.command.Command.TheVariants.{Query, Show, Change, Merge, Unbuilt, Fold}
 use Rattle.kq_command.specs.declared.command.CommandFault.{CommandFault}
 use Rattle.kq_command.specs.declared.command.CommandFault.TheVariants as fault
-use Rattle.kq_command.specs.declared.command.Show.TheVariants.{View, Extents, Journal}
+use Rattle.kq_command.specs.declared.command.Show.TheVariants.{View, Failures, Extents, Journal}
 use Rattle.kq_command.specs.declared.ingestion.Ingestion.{Ingestion}
 use Rattle.kq_command.specs.Definitions.{IsViewOf}
 use Rattle.kq_command.specs.Ingestions.{properties_of}
-use Rattle.kq_command.specs.Meanings.{identifier_of, columns_of}
+use Rattle.kq_command.specs.Meanings.{identifier_of, columns_of, string_at}
 use Rattle.kq_command.specs.Rows.{rows_after}
 use Rattle.kq_command.specs.Unsupported.{unsupported}
-use Rattle.kq_control.specs.ControlTrees.{PropertiesTree, ControlTree, create_table, alter_merge, ingest, show_extents, show_journal, merge, StatementTree, query, control, create_view, show_view, fold}
+use Rattle.kq_control.specs.ControlTrees.{PropertiesTree, ControlTree, create_table, alter_merge, ingest, show_extents, show_journal, merge, StatementTree, query, control, create_view, set_policy, show_view, show_failures, fold}
 use Rattle.kq_control.specs.Statements.{IsStatement, IsRefused}
 use Rattle.kq_grammar.specs.declared.expression.Name.{Name}
 use Rattle.kq_grammar.specs.TabularViews.{query_of}
@@ -40,7 +40,9 @@ abbrev pub control_command : List ℕ → ControlTree → Command
 control_command text (create_table n cs) = table_of (identifier_of text n) (columns_of text (cs.0 ∷ cs.1))
 control_command text (alter_merge n cs) = widening_of (identifier_of text n) (columns_of text (cs.0 ∷ cs.1))
 control_command text (ingest n ps t) = Change (Ingest (ingestion_of text n ps t))
+control_command text (set_policy n t) = Change (SetPolicy (identifier_of text n) (string_at text t))
 control_command text (show_view n) = Show (View (identifier_of text n))
+control_command text show_failures = Show Failures
 control_command text (show_extents n) = Show (Extents (identifier_of text n))
 control_command text show_journal = Show Journal
 control_command text (merge n) = Merge (identifier_of text n)

@@ -38,6 +38,8 @@ pub struct Query {
 pub enum Show {
     /// `.show materialized-view NAME`
     View(Identifier),
+    /// `.show ingestion failures`
+    Failures,
     /// `.show table NAME extents`
     Extents(Identifier),
     /// `.show journal`
@@ -55,6 +57,8 @@ pub enum Change {
     Ingest(Ingestion),
     /// `.create materialized-view NAME on table NAME { QUERY }`
     CreateView(NewView),
+    /// `.alter table NAME policy update 'JSON'`: the policy is what the string says, whether that is JSON or not.
+    SetPolicy { target: Identifier, policy: Text },
 }
 
 /// Why a text is no command.

@@ -13,7 +13,7 @@ ghost use Rattle.kq_grammar.specs.TabularViews.{query_of};
 use crate::columns::{Column, Columns};
 use crate::command::{Change, Command, CommandFault, Query, Show};
 use crate::ingestion::Ingestion;
-use crate::meanings::{identifier, piece};
+use crate::meanings::{identifier, piece, string_at};
 use crate::memory::Requests;
 use crate::properties::read_properties;
 use crate::rows::rows_after;
@@ -109,14 +109,19 @@ fn built(memory: &mut Requests, text: &str, control: Control) -> Result<Command,
             let view = new_view(memory, text, Box::into_inner(view))?;
             Ok(Command::Change(Change::CreateView(view)))
         }
+        Control::SetPolicy(target, policy) => Ok(Command::Change(Change::SetPolicy {
+            target: identifier(memory, text, target)?,
+            policy: string_at(memory, text, policy)?,
+        })),
         Control::ShowView(view) => Ok(Command::Show(Show::View(identifier(memory, text, view)?))),
+        Control::ShowFailures => Ok(Command::Show(Show::Failures)),
         Control::ShowExtents(table) => Ok(Command::Show(Show::Extents(identifier(
             memory, text, table,
         )?))),
         Control::ShowJournal => Ok(Command::Show(Show::Journal)),
         Control::Merge(table) => Ok(Command::Merge(identifier(memory, text, table)?)),
         Control::Fold(view) => Ok(Command::Fold(identifier(memory, text, view)?)),
-        _ => Ok(Command::Unbuilt),
+        Control::Export(_, _) => Ok(Command::Unbuilt),
     }
 }
 

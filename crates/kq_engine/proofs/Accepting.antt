@@ -13,6 +13,7 @@ use Rattle.kq_engine.specs.Fits.{Makes}
 
 granted : (c : Commit) (cursor : ℕ) → kind_of (reply_to c cursor) ≡ 0
 granted (commits.CreateTable name schema) cursor = refl
+granted (commits.SetPolicy table entries) cursor = refl
 granted (commits.CreateView view) cursor = refl
 granted (commits.AlterMerge table columns) cursor = refl
 granted (commits.Ingest batches failures) cursor = refl

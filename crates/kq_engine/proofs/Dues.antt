@@ -15,19 +15,25 @@ use Rattle.kq_plan.specs.Plans.{Planned}
 use Rattle.kq_query.specs.Answers.{refusal_by}
 use Rattle.kq_value.specs.declared.schema.Field.{Field}
 use Rattle.kq_value.specs.Schema.{same_fields}
+use Rattle.kq_model.specs.declared.batch.Batch.{Batch}
+use Rattle.kq_model.specs.declared.batch.Failure.{Failure}
 use Rattle.kq_model.specs.declared.event.Commit.{Commit}
 use Rattle.kq_model.specs.declared.event.Commit.TheVariants as commits
 use Rattle.kq_model.specs.declared.limits.Limits.{Limits}
 use Rattle.kq_model.specs.declared.table.Table.{Table}
 use Rattle.kq_model.specs.History.{Log, Numbered, Viewed, names_of_views, tables, table_named, table_numbered, is_view, view_count, views}
-use Rattle.kq_model.specs.Lawful.{IsIngestion, IsNewView, bar_to_table, bar_to_view}
+use Rattle.kq_model.specs.Beside.{DueGives}
+use Rattle.kq_model.specs.Derived.{Cascade, Failed, IsDerived, Made, TooMany}
+use Rattle.kq_model.specs.Lawful.{IsIngestion, IsNewView, bar_to_batch, bar_to_table, bar_to_view, own_rows}
 use Rattle.kq_model.specs.Names.{names_of, repeat_of}
+use Rattle.kq_model.specs.Policies.{rules}
 use Rattle.kq_model.specs.Tagged.{least_tagged}
+use Rattle.kq_model.proofs.Given.{IsDerived-led}
 use Rattle.kq_model.proofs.Tables.{table_numbered-at}
 use Rattle.kq_command.specs.declared.columns.Column.{Column}
 use Rattle.kq_command.specs.declared.columns.Identifier.{Identifier}
 use Rattle.kq_command.specs.declared.command.Change.{Change}
-use Rattle.kq_command.specs.declared.command.Change.TheVariants.{CreateTable, AlterMerge, Ingest, CreateView}
+use Rattle.kq_command.specs.declared.command.Change.TheVariants.{CreateTable, AlterMerge, Ingest, CreateView, SetPolicy}
 use Rattle.kq_command.specs.declared.command.Command.{Command}
 use Rattle.kq_command.specs.declared.ingestion.Ingestion.{Ingestion}
 use Rattle.kq_command.specs.declared.command.Command.TheVariants as commands
@@ -38,9 +44,11 @@ use Rattle.kq_ingest.proofs.RowLemmas.{rows_typed}
 use Rattle.kq_reply.specs.declared.refusal.Refusal.{Refusal}
 use Rattle.kq_reply.specs.declared.refusal.Refusal.TheVariants as refusals
 use Rattle.kq_reply.specs.declared.reply.Reply.TheVariants as replies
-use Rattle.kq_engine.specs.Due.{Due, Says, Commits, IsBoundDue, IsChangeDue, IsCounted, IsDueByLog, IsDueByText, IsNewDue, IsPlannedDue, IsViewDue, IsViewMade, MakesView, bad_tags, base_for, stood_due, view_named, barring_tags, body_due, counted, ingest_due, kept_due, named_due, own_batch, refusal_of, refused, rows_due, table_due, text_refusal, unless_tagged, unnamed_due, values_due}
+use Rattle.kq_engine.specs.Due.{Due, Says, Commits, IsBoundDue, IsChangeDue, IsCounted, IsDueByLog, IsDueByText, IsNewDue, IsPlannedDue, IsViewDue, IsViewMade, MakesView, bad_tags, IsBodyDue, IsIngestDue, IsRowsDue, IsTaggedDue, IsValuesDue, base_for, stood_due, view_named, barring_tags, counted, derived_due, kept_due, named_due, own_batch, refusal_of, refused, table_due, text_refusal, unnamed_due}
+use Rattle.kq_show.specs.JournalRows.{name_of}
 use Rattle.kq_engine.specs.Found.{IsCommitDue}
 use Rattle.kq_engine.proofs.Fit.{IsFit, MakesNoView, counted-commit, no_commit}
+use Rattle.kq_engine.proofs.Entering.{policy-fit}
 use Rattle.kq_engine.proofs.Gaining.{widening-fit}
 use Rattle.kq_engine.proofs.Texts.{different_names}
 
@@ -107,52 +115,68 @@ none_over false false f g e = refl
 few_rows : (schema : List Field) (skip : Bool) (limit : ℕ) (body : List ℕ) → first_fault schema skip limit body ≡ None → nat_lt limit (length (rows_of schema skip body)) ≡ false
 few_rows schema skip limit body e = ap (nat_lt limit) (length-map (row_records skip body) (row_of schema)) ∙ none_over _ _ _ _ e
 
-own_ingestion : (l : Log) (i : Ingestion) (found : Numbered) → table_numbered i.table.text (tables l) ≡ Some found → IsIngestion l (own_batch found i ∷ []) []
-own_ingestion l i found named = record {
-  own = own_batch found i;
-  table = found.table;
-  stands = (table_numbered-at i.table.text (tables l) found named).1;
-  typed = rows_typed found.table.schema (row_records i.properties.ignore_first i.body);
-  derived = record { alone = refl; no_failures = refl };
-}
+-- all that comes of a batch is put in
+record IsPut (limits : Limits) (l : Log) (own : Batch) (c : Commit) : Type 0 where
+  batches : List Batch
+  failures : List Failure
+  derived : IsDerived limits.cascade (rules l) (DueGives l) own (Made batches failures)
+  room : nat_lt (length l) limits.commits ≡ true
+  is : commits.Ingest batches failures ≡ c
+
+cascade_put : (limits : Limits) (l : Log) (own : Batch) (c : Commit) (o : Cascade) → IsDerived limits.cascade (rules l) (DueGives l) own o → Commits c ≡ derived_due limits l o → IsPut limits l own c
+cascade_put limits l own c (Made batches failures) derived e =
+    let (room, is) = counted-commit limits l (commits.Ingest batches failures) c e in
+    record { batches = batches; failures = failures; derived = derived; room = room; is = is }
+cascade_put limits l own c (Failed target cause) derived e = absurd (no_commit c (refusals.PolicyFailed (name_of l target) cause) e)
+cascade_put limits l own c TooMany derived e = absurd (no_commit c (refusals.Full limits.cascade) e)
 
 no_skip : (c : Commit) (cursor : ℕ) → Commits c ≡ Says (replies.Skipped cursor) → ⊥
 no_skip c cursor e = cc
 
--- a commit that is due is barred by no tag
-pub unbarred : (c : Commit) (o : Option ℕ) (due : Due) → Commits c ≡ unless_tagged o due → (o ≡ None) × (Commits c ≡ due)
-unbarred c None due e = (refl, e)
-unbarred c (Some cursor) due e = absurd (no_skip c cursor e)
+tagged_put : (limits : Limits) (l : Log) (own : Batch) (c : Commit) (o : Option ℕ) → IsTaggedDue limits l own o (Commits c) → IsPut limits l own c
+tagged_put limits l own c (Some cursor) due = absurd (no_skip c cursor due)
+tagged_put limits l own c None due = cascade_put limits l own c due.cascade due.derived due.due_so
 
-good_values : (c : Commit) (o : Option ℕ) (due : Due) → Commits c ≡ values_due o due → Commits c ≡ due
-good_values c None due e = e
-good_values c (Some at) due e = absurd (no_commit c (refusals.BadTags at) e)
+good_values : (c : Commit) (o : Option ℕ) (IsElseDue : Due → Type 0) → IsValuesDue o IsElseDue (Commits c) → IsElseDue (Commits c)
+good_values c None IsElseDue due = due
+good_values c (Some at) IsElseDue due = absurd (no_commit c (refusals.BadTags at) due)
 
-rows-fit : (limits : Limits) (l : Log) (i : Ingestion) (found : Numbered) (c : Commit) → table_numbered i.table.text (tables l) ≡ Some found → Commits c ≡ rows_due limits l i found → IsFit limits l c
-rows-fit limits l i found c named due = by_fault (first_fault found.table.schema i.properties.ignore_first limits.batch i.body) refl (good_values c (bad_tags i.properties) _ due)
-  where
-    by_fault : (f : Option IngestFault) → first_fault found.table.schema i.properties.ignore_first limits.batch i.body ≡ f → Commits c ≡ body_due limits l (own_batch found i) (barring_tags i.properties) f → IsFit limits l c
-    by_fault (Some fault) sound e = absurd (no_commit c (refusal_of fault) e)
-    by_fault None sound e =
-        let put = (unbarred c (least_tagged l found.number (barring_tags i.properties)) (counted limits l (commits.Ingest (own_batch found i ∷ []) [])) e).1 in
-        let (room, is) = counted-commit limits l (commits.Ingest (own_batch found i ∷ []) []) c put in
-        let few = few_rows found.table.schema i.properties.ignore_first limits.batch i.body sound in
-        subst (IsFit limits l) is (record { room = ltb-true (length l) limits.commits room; lawful = (own_ingestion l i found named, rw (few, room) refl) })
+body_put : (limits : Limits) (l : Log) (own : Batch) (barring : List (List ℕ)) (c : Commit) (fault : Option IngestFault) → IsBodyDue limits l own barring fault (Commits c) → (fault ≡ None) × IsPut limits l own c
+body_put limits l own barring c (Some fault) due = absurd (no_commit c (refusal_of fault) due)
+body_put limits l own barring c None due = (refl, tagged_put limits l own c (least_tagged l own.table barring) due)
 
-ingest-fit : (limits : Limits) (l : Log) (i : Ingestion) (o : Option Numbered) (c : Commit) → table_numbered i.table.text (tables l) ≡ o → Commits c ≡ ingest_due limits l i o → IsFit limits l c
+rows_put : (limits : Limits) (l : Log) (i : Ingestion) (found : Numbered) (c : Commit) → IsRowsDue limits l i found (Commits c)
+    → (first_fault found.table.schema i.properties.ignore_first limits.batch i.body ≡ None) × IsPut limits l (own_batch found i) c
+rows_put limits l i found c due = body_put limits l (own_batch found i) (barring_tags i.properties) c (first_fault found.table.schema i.properties.ignore_first limits.batch i.body) (good_values c (bad_tags i.properties) _ due)
+
+own_ingestion : (limits : Limits) (l : Log) (i : Ingestion) (found : Numbered) (c : Commit) → table_numbered i.table.text (tables l) ≡ Some found → (put : IsPut limits l (own_batch found i) c) → IsIngestion limits l put.batches put.failures
+own_ingestion limits l i found c named put = record {
+  own = own_batch found i;
+  table = found.table;
+  stands = (table_numbered-at i.table.text (tables l) found named).1;
+  typed = rows_typed found.table.schema (row_records i.properties.ignore_first i.body);
+  derived = put.derived;
+}
+
+free_batch : (limits : Limits) (l : Log) (rows : ℕ) → nat_lt limits.batch rows ≡ false → nat_lt (length l) limits.commits ≡ true → bar_to_batch limits l rows ≡ None
+free_batch limits l rows few room = rw (few, room) refl
+
+rows-fit : (limits : Limits) (l : Log) (i : Ingestion) (found : Numbered) (c : Commit) → table_numbered i.table.text (tables l) ≡ Some found → IsRowsDue limits l i found (Commits c) → IsFit limits l c
+rows-fit limits l i found c named due =
+    let (sound, put) = rows_put limits l i found c due in
+    let led = IsDerived-led limits.cascade (rules l) (DueGives l) (own_batch found i) put.batches put.failures put.derived in
+    let few = few_rows found.table.schema i.properties.ignore_first limits.batch i.body sound in
+    let bar = ap (bar_to_batch limits l) (ap own_rows led.is) ∙ free_batch limits l (length (own_batch found i).rows) few put.room in
+    subst (IsFit limits l) put.is (record { room = ltb-true (length l) limits.commits put.room; lawful = (own_ingestion limits l i found c named put, bar) })
+
+ingest-fit : (limits : Limits) (l : Log) (i : Ingestion) (o : Option Numbered) (c : Commit) → table_numbered i.table.text (tables l) ≡ o → IsIngestDue limits l i o (Commits c) → IsFit limits l c
 ingest-fit limits l i None c named due = absurd (no_commit c (refusals.Unknown i.table.at) due)
 ingest-fit limits l i (Some found) c named due = rows-fit limits l i found c named due
 
-rows-no_view : (limits : Limits) (l : Log) (i : Ingestion) (found : Numbered) (c : Commit) (f : Option IngestFault) → Commits c ≡ body_due limits l (own_batch found i) (barring_tags i.properties) f → MakesNoView c
-rows-no_view limits l i found c (Some fault) e = absurd (no_commit c (refusal_of fault) e)
-rows-no_view limits l i found c None e =
-    let made = commits.Ingest (own_batch found i ∷ []) [] in
-    subst MakesNoView (counted-commit limits l made c (unbarred c (least_tagged l found.number (barring_tags i.properties)) (counted limits l made) e).1).1 tt
-
 -- rows that are put in are no view
-pub ingest-no_view : (limits : Limits) (l : Log) (i : Ingestion) (o : Option Numbered) (c : Commit) → Commits c ≡ ingest_due limits l i o → MakesNoView c
+pub ingest-no_view : (limits : Limits) (l : Log) (i : Ingestion) (o : Option Numbered) (c : Commit) → IsIngestDue limits l i o (Commits c) → MakesNoView c
 ingest-no_view limits l i None c due = absurd (no_commit c (refusals.Unknown i.table.at) due)
-ingest-no_view limits l i (Some found) c due = rows-no_view limits l i found c (first_fault found.table.schema i.properties.ignore_first limits.batch i.body) (good_values c (bad_tags i.properties) _ due)
+ingest-no_view limits l i (Some found) c due = subst MakesNoView (rows_put limits l i found c due).1.is tt
 
 -- ---- views
 
@@ -225,6 +249,7 @@ view_lawful : (limits : Limits) (l : Log) (view : NewView) (table : Numbered) (p
 view_lawful limits l view table p (commits.CreateTable name schema) named body making = absurd making.makes
 view_lawful limits l view table p (commits.CreateView v) named body making =
     record { room = making.room; lawful = made_new limits l view table p v named body making.bar making.makes }
+view_lawful limits l view table p (commits.SetPolicy target entries) named body making = absurd making.makes
 view_lawful limits l view table p (commits.AlterMerge more columns) named body making = absurd making.makes
 view_lawful limits l view table p (commits.Ingest batches failures) named body making = absurd making.makes
 
@@ -253,6 +278,7 @@ Due-fit limits l (CreateTable name columns) c good due = table-fit limits l name
 Due-fit limits l (AlterMerge name columns) c good due = widening-fit limits l name columns (table_numbered name.text (tables l)) c (different_names columns good) refl due
 Due-fit limits l (Ingest i) c good due = ingest-fit limits l i (table_numbered i.table.text (tables l)) c refl due
 Due-fit limits l (CreateView view) c good due = view-fit limits l view (table_numbered view.table.text (tables l)) c refl due
+Due-fit limits l (SetPolicy target policy) c good due = policy-fit limits l target policy (table_numbered target.text (tables l)) c refl due
 
 -- a commit that is due is lawful, and one more is allowed
 pub Due-lawful : (limits : Limits) (l : Log) (change : Change) (c : Commit) → IsChangeDue limits l change (Commits c) → IsFit limits l c

@@ -27,6 +27,7 @@ counted-commit limits l c d e = by_test (nat_lt (length l) limits.commits) refl 
 -- the commit makes no view
 abbrev pub MakesNoView : Commit → Type 0
 MakesNoView (commits.CreateTable name schema) = Unit {0}
+MakesNoView (commits.SetPolicy table entries) = Unit {0}
 MakesNoView (commits.CreateView view) = ⊥
 MakesNoView (commits.AlterMerge table columns) = Unit {0}
 MakesNoView (commits.Ingest batches failures) = Unit {0}
@@ -34,6 +35,7 @@ MakesNoView (commits.Ingest batches failures) = Unit {0}
 -- so it is offered without a part
 pub Begins-offered : (intent : Intent) → MakesNoView (commit_of intent) → Begins intent
 Begins-offered (intents.CreateTable name schema) none = tt
+Begins-offered (intents.SetPolicy table entries) none = tt
 Begins-offered (intents.CreateView view part) none = absurd none
 Begins-offered (intents.AlterMerge table columns) none = tt
 Begins-offered (intents.Ingest parts failures) none = tt

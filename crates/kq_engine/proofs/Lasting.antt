@@ -1,5 +1,5 @@
 -- What was found stays due, or is skipped, as the log grows.
-use Rattle.std.proofs.Common.{◌≡◌, ℕ, ℤ, Bool, true, false, cond, List, ◌++◌, length, take, drop, nat_lt, Option, Some, None, Result, Ok, Err, IfOk, inl, refl, ap, sym, ◌∙◌, subst}
+use Rattle.std.proofs.Common.{◌≡◌, ◌||◌, ℕ, ℤ, Bool, true, false, cond, List, [], ◌∷◌, ◌++◌, append-nil, length-append, arith, length, nat_eq, take, drop, nat_lt, Option, Some, None, Result, Ok, Err, IfOk, inl, refl, ap, sym, ◌∙◌, subst}
 use Rattle.std.specs.List.{slice_get}
 use Rattle.std.proofs.lemmas.Bool.{eqb-true, false≢true}
 use Rattle.std.proofs.lemmas.List.{take-append-drop}
@@ -11,7 +11,7 @@ use Rattle.kq_model.proofs.Histories.{log-append}
 use Rattle.kq_model.proofs.Tables.{still_same}
 use Rattle.kq_catalog.specs.Intents.{commit_of}
 use Rattle.kq_command.specs.declared.command.Change.{Change as Changing}
-use Rattle.kq_command.specs.declared.command.Change.TheVariants.{CreateTable, AlterMerge, Ingest, CreateView}
+use Rattle.kq_command.specs.declared.command.Change.TheVariants.{CreateTable, AlterMerge, Ingest, CreateView, SetPolicy}
 use Rattle.kq_command.specs.declared.command.Command.{Command}
 use Rattle.kq_command.specs.declared.command.Command.TheVariants.{Query, Show, Change, Merge, Unbuilt, Fold}
 use Rattle.kq_command.specs.declared.columns.Identifier.{Identifier}
@@ -24,12 +24,14 @@ use Rattle.kq_engine.specs.declared.work.Barring.{Barring}
 use Rattle.kq_engine.specs.declared.work.Found.{Found}
 use Rattle.kq_engine.specs.declared.work.Found.TheVariants as founds
 use Rattle.kq_engine.specs.declared.work.Offer.{Offer}
-use Rattle.kq_engine.specs.Due.{Due, Says, Commits, IsChangeDue, IsDueByLog, IsDueByText, counted, ingest_due, refused, text_refusal, unless_tagged}
+use Rattle.kq_engine.specs.Due.{Due, Says, Commits, IsChangeDue, IsDueByLog, IsDueByText, IsIngestDue, IsRowsDue, counted, refused, text_refusal, unless_tagged}
 use Rattle.kq_engine.specs.Fits.{IsDue}
-use Rattle.kq_engine.specs.Found.{Finds, FindsFold, FindsMerge, IsCommitDue, IsDueTo, IsFound, IsGoodText, IsOffered, IsReadFor, OffersChange, OffersInto, barred_at, is_as_read, is_prepared_outside, is_widened_at, offer_due}
+use Rattle.kq_engine.specs.Found.{Finds, FindsFold, FindsMerge, IsCommitDue, IsDueTo, IsFound, IsGoodText, IsKept, IsOffered, OffersChange, OffersInto, barred_at, is_as_read, is_prepared_outside, is_widened_at, offer_due, stands_alone}
 use Rattle.kq_engine.proofs.Dues.{Due-is_good, ingest-no_view, table-no_view}
 use Rattle.kq_engine.proofs.Gaining.{widening-no_view}
+use Rattle.kq_engine.proofs.Entering.{policy-no_view}
 use Rattle.kq_engine.proofs.Fit.{Begins-offered, no_commit}
+use Rattle.kq_engine.proofs.Keeping.{stands_unwidened}
 use Rattle.kq_engine.proofs.Telling.{change_still}
 
 -- ---- tables for which rows were read
@@ -39,23 +41,42 @@ widened_so None cursor e = absurd (false≢true e)
 widened_so (Some t) cursor e = (t, refl, eqb-true t.widened cursor e)
 
 -- a name finds the table for which rows were read, where it was not widened since
-read_still : (l more : Log) (name : List ℕ) (found : Numbered) (unless : Option Barring) → table_numbered name (tables l) ≡ Some found → IsReadFor found unless → is_as_read (l ++ more) unless ≡ true → table_numbered name (tables (l ++ more)) ≡ Some found
-read_still l more name found None named read still = absurd read
-read_still l more name found (Some barring) named read still =
-    let now = widened_so (slice_get (tables (l ++ more)) barring.table) barring.widened still in
-    still_same l more name found now.0 named (ap (λ (n : ℕ). slice_get (tables (l ++ more)) n) (sym read.0) ∙ now.1) (now.2 ∙ read.1)
+read_still : (l more : Log) (name : List ℕ) (found : Numbered) (b : Barring) → table_numbered name (tables l) ≡ Some found → b.table ≡ found.number → b.widened ≡ found.table.widened → is_widened_at (slice_get (tables (l ++ more)) b.table) b.widened ≡ true
+    → table_numbered name (tables (l ++ more)) ≡ Some found
+read_still l more name found b named number widened still =
+    let now = widened_so (slice_get (tables (l ++ more)) b.table) b.widened still in
+    still_same l more name found now.0 named (ap (λ (n : ℕ). slice_get (tables (l ++ more)) n) (sym number) ∙ now.1) (now.2 ∙ widened)
 
 -- ---- offers
 
 good_due : (limits : Limits) (l : Log) (change : Changing) (due : Due) → text_refusal change ≡ None → IsDueByLog limits l change due → IsChangeDue limits l change due
 good_due limits l change due good by = subst (λ o. IsDueByText limits l change o due) (sym good) by
 
-rows_later : (limits : Limits) (l more : Log) (i : Ingestion) (offer : Offer) (o : Option Numbered) → table_numbered i.table.text (tables l) ≡ o → Commits (commit_of offer.intent) ≡ ingest_due limits l i o → OffersInto limits l i (founds.Commits offer) → is_as_read (l ++ more) offer.unless ≡ true
-    → offer_due limits (l ++ more) offer ≡ ingest_due limits (l ++ more) i (table_numbered i.table.text (tables (l ++ more)))
+-- what an ingestion is due after a log, in the words of its offer
+abbrev IsDueSo : Limits → Ingestion → Offer → Log → Type 0
+IsDueSo limits i offer l = IsIngestDue limits l i (table_numbered i.table.text (tables l)) (offer_due limits l offer)
+
+none_made : (l more : Log) → length (l ++ more) ≡ length l → l ++ more ≡ l
+none_made l [] e = append-nil l
+none_made l (c ∷ more) e = let both = length-append l (c ∷ more) in absurd (omega (arith, e, both))
+
+still_or_alone : (limits : Limits) (l more : Log) (i : Ingestion) (table : Numbered) (offer : Offer) → table_numbered i.table.text (tables l) ≡ Some table → IsRowsDue limits l i table (Commits (commit_of offer.intent))
+    → (kept : IsKept limits l table (λ (later : Log) (due : Due). IsRowsDue limits later i table due) offer) → (same : Bool) → nat_eq (length (l ++ more)) kept.barring.at ≡ same → (same || stands_alone (l ++ more) kept.barring) ≡ true → IsDueSo limits i offer (l ++ more)
+still_or_alone limits l more i table offer named due kept true at still =
+    let e : length (l ++ more) ≡ length l = eqb-true (length (l ++ more)) kept.barring.at at ∙ kept.at in
+    let here : IsIngestDue limits l i (Some table) (offer_due limits l offer) = subst (λ (d : Due). IsRowsDue limits l i table d) (sym kept.here) due in
+    subst (IsDueSo limits i offer) (sym (none_made l more e)) (subst (λ (o : Option Numbered). IsIngestDue limits l i o (offer_due limits l offer)) (sym named) here)
+still_or_alone limits l more i table offer named due kept false at still =
+    let unwidened = stands_unwidened (l ++ more) kept.barring still in
+    subst (λ (o : Option Numbered). IsIngestDue limits (l ++ more) i o (offer_due limits (l ++ more) offer))
+    (sym (read_still l more i.table.text table kept.barring named kept.number kept.widened unwidened)) (kept.alone (l ++ more) still)
+
+rows_later : (limits : Limits) (l more : Log) (i : Ingestion) (offer : Offer) (o : Option Numbered) → table_numbered i.table.text (tables l) ≡ o → IsIngestDue limits l i o (Commits (commit_of offer.intent)) → OffersInto limits l i (founds.Commits offer) → is_as_read (l ++ more) offer.unless ≡ true
+    → IsDueSo limits i offer (l ++ more)
 rows_later limits l more i offer None named due offers still = absurd (no_commit (commit_of offer.intent) (refusals.Unknown i.table.at) due)
 rows_later limits l more i offer (Some table) named due offers still =
-    let read = offers table named in
-    sym (read.1 (l ++ more)) ∙ ap (ingest_due limits (l ++ more) i) (sym (read_still l more i.table.text table offer.unless named read.0 still))
+    let kept = offers table named in
+    still_or_alone limits l more i table offer named due kept (nat_eq (length (l ++ more)) kept.barring.at) refl (ap (is_as_read (l ++ more)) (sym kept.barred) ∙ still)
 
 commit_good : (limits : Limits) (l : Log) (command : Command) (c : Commit) → IsCommitDue limits l command c → IsGoodText command
 commit_good limits l (Query query) c due = absurd due
@@ -85,6 +106,11 @@ Offered-change limits l (Ingest i) offer good due offers = record {
 Offered-change limits l (CreateView view) offer good due offers = record {
   due = (good_due limits l (CreateView view) (Commits (commit_of offer.intent)) good due, refl);
   begins = offers;
+  later = λ outside. absurd (false≢true outside);
+}
+Offered-change limits l (SetPolicy target policy) offer good due offers = record {
+  due = (good_due limits l (SetPolicy target policy) (Commits (commit_of offer.intent)) good due, refl);
+  begins = Begins-offered offer.intent (policy-no_view limits l target policy (table_numbered target.text (tables l)) (commit_of offer.intent) due);
   later = λ outside. absurd (false≢true outside);
 }
 

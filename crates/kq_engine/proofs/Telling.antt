@@ -7,17 +7,19 @@ use Rattle.kq_model.specs.declared.event.By.{By}
 use Rattle.kq_model.specs.declared.event.Commit.{Commit}
 use Rattle.kq_model.specs.declared.event.Commit.TheVariants as commits
 use Rattle.kq_model.specs.declared.limits.Limits.{Limits}
+use Rattle.kq_model.specs.declared.policy.Entry.{Entry}
 use Rattle.kq_model.specs.declared.table.Table.{Table}
 use Rattle.kq_model.specs.History.{History, Log, Numbered, Viewed, cursor, log, is_view, tables, table_named, table_numbered, view_count}
+use Rattle.kq_model.specs.Derived.{Cascade, Failed, Made, TooMany}
 use Rattle.kq_model.specs.Tagged.{least_tagged}
 use Rattle.kq_command.specs.declared.columns.Column.{Column}
 use Rattle.kq_command.specs.declared.columns.Identifier.{Identifier}
 use Rattle.kq_command.specs.declared.command.Change.{Change}
-use Rattle.kq_command.specs.declared.command.Change.TheVariants.{CreateTable, AlterMerge, Ingest, CreateView}
+use Rattle.kq_command.specs.declared.command.Change.TheVariants.{CreateTable, AlterMerge, Ingest, CreateView, SetPolicy}
 use Rattle.kq_command.specs.declared.command.Command.{Command}
 use Rattle.kq_command.specs.declared.command.Command.TheVariants as commands
 use Rattle.kq_command.specs.declared.command.Show.{Show}
-use Rattle.kq_command.specs.declared.command.Show.TheVariants.{View, Extents, Journal}
+use Rattle.kq_command.specs.declared.command.Show.TheVariants.{View, Failures, Extents, Journal}
 use Rattle.kq_command.specs.declared.ingestion.Ingestion.{Ingestion}
 use Rattle.kq_command.specs.Columns.{schema_of}
 use Rattle.kq_command.specs.Widening.{first_clash, new_columns}
@@ -35,11 +37,12 @@ use Rattle.kq_reply.specs.declared.refusal.Refusal.{Refusal}
 use Rattle.kq_reply.specs.declared.refusal.Refusal.TheVariants as refusals
 use Rattle.kq_reply.specs.declared.reply.Reply.{Reply}
 use Rattle.kq_reply.specs.declared.reply.Reply.TheVariants as replies
-use Rattle.kq_engine.specs.Due.{Due, Says, Commits, IsBoundDue, IsCounted, IsDueByLog, IsNewDue, IsPlannedDue, IsViewDue, MakesView, stood_due, view_named, bad_tags, barring_tags, body_due, clash_due, counted, ingest_due, lacking_due, made_due, named_due, own_batch, refused, refusal_of, reply_to, table_due, unless_tagged, values_due, widening_due}
+use Rattle.kq_engine.specs.Due.{Due, Says, Commits, IsBoundDue, IsCounted, IsDueByLog, IsNewDue, IsPlannedDue, IsViewDue, MakesView, stood_due, view_named, bad_tags, barring_tags, IsBodyDue, IsIngestDue, IsTaggedDue, IsValuesDue, clash_due, counted, derived_due, lacking_due, made_due, named_due, own_batch, refused, refusal_of, reply_to, table_due, widening_due, IsEntriesDue, IsPolicyDue}
 use Rattle.kq_engine.specs.Fits.{Makes}
 use Rattle.kq_engine.specs.Folds.{view_number}
 use Rattle.kq_engine.specs.Merges.{IsMarked, IsSettled, IsStill, NamesAll}
 use Rattle.kq_engine.specs.Shows.{AnswersShow, ShowsExtents, ShowsView}
+use Rattle.kq_show.specs.JournalRows.{name_of}
 
 -- ---- a reply that tells of none
 
@@ -60,6 +63,7 @@ kept_still cursor = record { no_merge = λ extents e. cc; no_fold = λ at e. cc 
 
 reply_to-still : (c : Commit) (cursor : ℕ) → IsStill (reply_to c cursor)
 reply_to-still (commits.CreateTable name schema) cursor = record { no_merge = λ extents e. cc; no_fold = λ at e. cc }
+reply_to-still (commits.SetPolicy table entries) cursor = record { no_merge = λ extents e. cc; no_fold = λ at e. cc }
 reply_to-still (commits.CreateView view) cursor = record { no_merge = λ extents e. cc; no_fold = λ at e. cc }
 reply_to-still (commits.AlterMerge table columns) cursor = record { no_merge = λ extents e. cc; no_fold = λ at e. cc }
 reply_to-still (commits.Ingest batches failures) cursor = record { no_merge = λ extents e. cc; no_fold = λ at e. cc }
@@ -138,6 +142,7 @@ view_still h view (Some number) reply printed = printed_still _ reply printed
 
 pub show_still : (h : History) (show : Show) (reply : Reply) → AnswersShow h show reply → IsStill reply
 show_still h (View view) reply answers = view_still h view (view_number h view) reply answers
+show_still h Failures reply answers = printed_still _ reply answers
 show_still h (Extents table) reply answers = extents_still h table (table_numbered table.text (tables (log h))) reply answers
 show_still h Journal reply answers = printed_still _ reply answers
 
@@ -180,23 +185,6 @@ widening_quiet : (limits : Limits) (l : Log) (name : Identifier) (columns : List
 widening_quiet limits l name columns None = refused_still (refusals.Unknown name.at)
 widening_quiet limits l name columns (Some found) = clash_quiet limits l found columns (first_clash found.table.schema columns)
 
-tagged_quiet : (o : Option ℕ) (due : Due) → IsQuiet due → IsQuiet (unless_tagged o due)
-tagged_quiet None due quiet = quiet
-tagged_quiet (Some cursor) due quiet = skipped_still cursor
-
-body_quiet : (limits : Limits) (l : Log) (own : Batch) (barring : List (List ℕ)) (fault : Option IngestFault) → IsQuiet (body_due limits l own barring fault)
-body_quiet limits l own barring (Some fault) = refused_still (refusal_of fault)
-body_quiet limits l own barring None = tagged_quiet (least_tagged l own.table barring) _ (counted_quiet limits l (commits.Ingest (own ∷ []) []))
-
-values_quiet : (o : Option ℕ) (due : Due) → IsQuiet due → IsQuiet (values_due o due)
-values_quiet None due quiet = quiet
-values_quiet (Some at) due quiet = refused_still (refusals.BadTags at)
-
-ingest_quiet : (limits : Limits) (l : Log) (i : Ingestion) (o : Option Numbered) → IsQuiet (ingest_due limits l i o)
-ingest_quiet limits l i None = refused_still (refusals.Unknown i.table.at)
-ingest_quiet limits l i (Some found) =
-    values_quiet (bad_tags i.properties) _ (body_quiet limits l (own_batch found i) (barring_tags i.properties) (first_fault found.table.schema i.properties.ignore_first limits.batch i.body))
-
 stood_quiet : (view : NewView) (v : Viewed) → IsQuiet (stood_due view v)
 stood_quiet view v = quiet_if view.unless_there (Says (replies.Kept v.made)) (refused (refusals.Exists view.name.at)) (kept_still v.made) (refused_still (refusals.Exists view.name.at))
 
@@ -205,6 +193,28 @@ quiet_by due other is quiet = subst IsQuiet (sym is) quiet
 
 quiet_refusal : (due : Due) (r : Refusal) → due ≡ refused r → IsQuiet due
 quiet_refusal due r is = quiet_by due (refused r) is (refused_still r)
+
+derived_quiet : (limits : Limits) (l : Log) (o : Cascade) → IsQuiet (derived_due limits l o)
+derived_quiet limits l (Made batches failures) = counted_quiet limits l (commits.Ingest batches failures)
+derived_quiet limits l (Failed target cause) = refused_still (refusals.PolicyFailed (name_of l target) cause)
+derived_quiet limits l TooMany = refused_still (refusals.Full limits.cascade)
+
+tagged_quiet : (limits : Limits) (l : Log) (own : Batch) (o : Option ℕ) (due : Due) → IsTaggedDue limits l own o due → IsQuiet due
+tagged_quiet limits l own (Some cursor) due is = quiet_by due (Says (replies.Skipped cursor)) is (skipped_still cursor)
+tagged_quiet limits l own None due is = quiet_by due (derived_due limits l is.cascade) is.due_so (derived_quiet limits l is.cascade)
+
+body_quiet : (limits : Limits) (l : Log) (own : Batch) (barring : List (List ℕ)) (fault : Option IngestFault) (due : Due) → IsBodyDue limits l own barring fault due → IsQuiet due
+body_quiet limits l own barring (Some fault) due is = quiet_refusal due (refusal_of fault) is
+body_quiet limits l own barring None due is = tagged_quiet limits l own (least_tagged l own.table barring) due is
+
+values_quiet : (o : Option ℕ) (IsElseDue : Due → Type 0) (due : Due) → (IsElseDue due → IsQuiet due) → IsValuesDue o IsElseDue due → IsQuiet due
+values_quiet None IsElseDue due quiet is = quiet is
+values_quiet (Some at) IsElseDue due quiet is = quiet_refusal due (refusals.BadTags at) is
+
+ingest_quiet : (limits : Limits) (l : Log) (i : Ingestion) (o : Option Numbered) (due : Due) → IsIngestDue limits l i o due → IsQuiet due
+ingest_quiet limits l i None due is = quiet_refusal due (refusals.Unknown i.table.at) is
+ingest_quiet limits l i (Some found) due is =
+    values_quiet (bad_tags i.properties) _ due (body_quiet limits l (own_batch found i) (barring_tags i.properties) (first_fault found.table.schema i.properties.ignore_first limits.batch i.body) due) is
 
 makes_quiet : (l : Log) (view : NewView) (number : ℕ) (p : Planned) (due : Due) → MakesView l view number p due → IsQuiet due
 makes_quiet l view number p (Says reply) makes = absurd makes
@@ -232,11 +242,21 @@ view_quiet : (limits : Limits) (l : Log) (view : NewView) (o : Option Numbered) 
 view_quiet limits l view None due is = quiet_refusal due (refusals.Unknown view.table.at) is
 view_quiet limits l view (Some found) due is = bound_quiet limits l view found is.0 due is.2
 
+entries_quiet : (limits : Limits) (l : Log) (table : Numbered) (entries : List Entry) (due : Due) → IsEntriesDue limits l table entries due → IsQuiet due
+entries_quiet limits l table entries due (inl sets) = quiet_by due (counted limits l (commits.SetPolicy table.number entries)) sets.due_so (counted_quiet limits l (commits.SetPolicy table.number entries))
+entries_quiet limits l table entries due (inr closes) = quiet_refusal due (refusals.Cycle table.table.name) closes.is
+
+policy_quiet : (limits : Limits) (l : Log) (target : Identifier) (policy : List ℕ) (o : Option Numbered) (due : Due) → IsPolicyDue limits l target policy o due → IsQuiet due
+policy_quiet limits l target policy None due is = quiet_refusal due (refusals.Unknown target.at) is
+policy_quiet limits l target policy (Some found) due (inl gives) = entries_quiet limits l found gives.entries due gives.due_so
+policy_quiet limits l target policy (Some found) due (inr none) = quiet_refusal due none.refusal none.is
+
 change_quiet : (limits : Limits) (l : Log) (change : Change) (due : Due) → IsDueByLog limits l change due → IsQuiet due
 change_quiet limits l (CreateTable name columns) due is = subst IsQuiet (sym is.1) (table_quiet limits l name (schema_of columns))
 change_quiet limits l (AlterMerge name columns) due is = subst IsQuiet (sym is) (widening_quiet limits l name columns (table_numbered name.text (tables l)))
-change_quiet limits l (Ingest i) due is = subst IsQuiet (sym is) (ingest_quiet limits l i (table_numbered i.table.text (tables l)))
+change_quiet limits l (Ingest i) due is = ingest_quiet limits l i (table_numbered i.table.text (tables l)) due is
 change_quiet limits l (CreateView view) due is = view_quiet limits l view (table_numbered view.table.text (tables l)) due is
+change_quiet limits l (SetPolicy target policy) due is = policy_quiet limits l target policy (table_numbered target.text (tables l)) due is
 
 pub change_still : (limits : Limits) (l : Log) (change : Change) (reply : Reply) → IsDueByLog limits l change (Says reply) → IsStill reply
 change_still limits l change reply is = change_quiet limits l change (Says reply) is

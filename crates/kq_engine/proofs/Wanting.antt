@@ -12,7 +12,7 @@ use Rattle.kq_model.specs.History.{History, Log, Numbered, log, tables, table_na
 use Rattle.kq_catalog.specs.declared.merging.Merging.{Merging}
 use Rattle.kq_command.specs.declared.columns.Column.{Column}
 use Rattle.kq_command.specs.declared.columns.Identifier.{Identifier}
-use Rattle.kq_command.specs.declared.command.Change.TheVariants.{CreateTable, AlterMerge, Ingest, CreateView}
+use Rattle.kq_command.specs.declared.command.Change.TheVariants.{CreateTable, AlterMerge, Ingest, CreateView, SetPolicy}
 use Rattle.kq_command.specs.declared.command.Command.{Command}
 use Rattle.kq_command.specs.declared.command.Command.TheVariants.{Query, Show, Change, Merge, Unbuilt, Fold}
 use Rattle.kq_command.specs.declared.ingestion.Ingestion.{Ingestion}
@@ -25,7 +25,7 @@ use Rattle.kq_reply.specs.declared.reply.Reply.TheVariants as replies
 use Rattle.kq_bind_supported.specs.Unsupported.{unsupported_query}
 use Rattle.kq_command.specs.declared.definition.NewView.{NewView}
 use Rattle.kq_engine.specs.Folds.{FoldsNamed, view_number}
-use Rattle.kq_engine.specs.Due.{Due, Says, Commits, IsDueByText, IsViewDue, tree_in, clash_due, counted, ingest_due, lacking_due, made_due, named_due, refused, repeated_place, widening_due}
+use Rattle.kq_engine.specs.Due.{Due, Says, Commits, IsDueByText, IsViewDue, IsIngestDue, tree_in, clash_due, counted, lacking_due, made_due, named_due, refused, repeated_place, widening_due, IsPolicyDue}
 use Rattle.kq_engine.specs.Fits.{IsDue}
 use Rattle.kq_engine.specs.Found.{Gains, IsCommitDue, LagsBehind, Stands, TakesMemory, TakesToFind, TakesToShow, is_prepared_outside}
 use Rattle.kq_engine.specs.Merges.{IsMergingFor, MergesNamed}
@@ -35,7 +35,7 @@ use Rattle.kq_engine.proofs.Fit.{no_commit}
 use Rattle.kq_engine.proofs.Gaining.{widening-gains}
 
 -- rows were read only for a table that stands
-rows_wanted : (limits : Limits) (l : Log) (i : Ingestion) (o : Option Numbered) (c : Commit) → Commits c ≡ ingest_due limits l i o → Stands o
+rows_wanted : (limits : Limits) (l : Log) (i : Ingestion) (o : Option Numbered) (c : Commit) → IsIngestDue limits l i o (Commits c) → Stands o
 rows_wanted limits l i None c due = no_commit c (refusals.Unknown i.table.at) due
 rows_wanted limits l i (Some found) c due = tt
 
@@ -51,6 +51,11 @@ view_wanted : (limits : Limits) (l : Log) (view : NewView) (o : Option Numbered)
 view_wanted limits l view None c due = absurd (no_commit c (refusals.Unknown view.table.at) due)
 view_wanted limits l view (Some found) c due = tt
 
+-- a text was read only for a table that stands
+policy_wanted : (limits : Limits) (l : Log) (target : Identifier) (policy : List ℕ) (o : Option Numbered) (c : Commit) → IsPolicyDue limits l target policy o (Commits c) → Stands o
+policy_wanted limits l target policy None c due = absurd (no_commit c (refusals.Unknown target.at) due)
+policy_wanted limits l target policy (Some found) c due = tt
+
 -- a commit that is due takes memory
 pub commit_finds : (limits : Limits) (h : History) (command : Command) (c : Commit) → IsCommitDue limits (log h) command c → TakesToFind h command
 commit_finds limits h (Query query) c due = absurd due
@@ -60,6 +65,7 @@ commit_finds limits h (Change (AlterMerge name columns)) c due = columns_wanted 
 commit_finds limits h (Change (Ingest i)) c due = rows_wanted limits (log h) i (table_numbered i.table.text (tables (log h))) c (Due-is_good limits (log h) (Ingest i) c due.0).1
 commit_finds limits h (Merge table) c due = absurd due
 commit_finds limits h (Change (CreateView view)) c due = view_wanted limits (log h) view (table_numbered view.table.text (tables (log h))) c (Due-is_good limits (log h) (CreateView view) c due.0).1
+commit_finds limits h (Change (SetPolicy target policy)) c due = policy_wanted limits (log h) target policy (table_numbered target.text (tables (log h))) c (Due-is_good limits (log h) (SetPolicy target policy) c due.0).1
 commit_finds limits h (Fold view) c due = absurd due
 commit_finds limits h Unbuilt c due = absurd due
 
@@ -149,8 +155,13 @@ text_find limits l view (Some at) p due = cc
 text_find limits l view None (Some at) due = cc
 text_find limits l view None None due = views_find limits l view (table_numbered view.table.text (tables l)) due
 
+policy_finds : (limits : Limits) (l : Log) (target : Identifier) (policy : List ℕ) (o : Option Numbered) → IsPolicyDue limits l target policy o memory_due → Stands o
+policy_finds limits l target policy None due = cc
+policy_finds limits l target policy (Some found) due = tt
+
 show_finds : (h : History) (asked : Showing) → AnswersShow h asked (replies.Refused refusals.Memory) → TakesToShow h asked
 show_finds h (shows.View view) due = view_finds h view (view_number h view) due
+show_finds h shows.Failures due = tt
 show_finds h (shows.Extents table) due = extents_find h table (table_numbered table.text (tables (log h))) due
 show_finds h shows.Journal due = tt
 
@@ -158,7 +169,7 @@ named_finds : (h : History) (table : Identifier) (o : Option Numbered) → Merge
 named_finds h table None due = cc
 named_finds h table (Some found) due = absurd due
 
-rows_find : (limits : Limits) (l : Log) (i : Ingestion) (o : Option Numbered) → memory_due ≡ ingest_due limits l i o → Stands o
+rows_find : (limits : Limits) (l : Log) (i : Ingestion) (o : Option Numbered) → IsIngestDue limits l i o memory_due → Stands o
 rows_find limits l i None due = cc
 rows_find limits l i (Some found) due = tt
 
@@ -174,6 +185,7 @@ due_finds limits h now (Change (AlterMerge name columns)) due = absurd (not_colu
 due_finds limits h now (Change (Ingest i)) due = ingest_finds limits (log h) i i.properties.repeated due
 due_finds limits h now (Merge table) due = named_finds h table (table_numbered table.text (tables (log h))) due
 due_finds limits h now (Change (CreateView view)) due = text_find limits (log h) view (unsupported_query view.body.text (tree_in view)) view.repeated due
+due_finds limits h now (Change (SetPolicy target policy)) due = policy_finds limits (log h) target policy (table_numbered target.text (tables (log h))) due
 due_finds limits h now (Fold view) due = folds_find h view (view_number h view) due
 due_finds limits h now Unbuilt due = cc
 
@@ -186,6 +198,7 @@ found_wants h (Change (AlterMerge name columns)) outside takes = absurd (false�
 found_wants h (Change (Ingest i)) outside takes = takes
 found_wants h (Merge table) outside takes = takes
 found_wants h (Change (CreateView view)) outside takes = absurd (false≢true outside)
+found_wants h (Change (SetPolicy target policy)) outside takes = absurd (false≢true outside)
 found_wants h (Fold view) outside takes = takes
 found_wants h Unbuilt outside takes = takes
 

@@ -8,14 +8,17 @@ use Rattle.kq_model.specs.declared.event.Commit.{Commit}
 use Rattle.kq_model.specs.declared.event.Commit.TheVariants as commits
 use Rattle.kq_model.specs.declared.limits.Limits.{Limits}
 use Rattle.kq_model.specs.declared.table.Table.{Table}
+use Rattle.kq_model.specs.Beside.{DueGives}
+use Rattle.kq_model.specs.Derived.{Cascade, IsDerived, Made, Failed, TooMany}
 use Rattle.kq_model.specs.History.{Log, tables, table_named, is_view, Numbered, table_numbered, History, Viewed, log, names_of_views, view_count, views}
 use Rattle.kq_model.specs.Lawful.{own_rows}
 use Rattle.kq_model.specs.Names.{repeat_of}
+use Rattle.kq_model.specs.Policies.{rules}
 use Rattle.kq_model.specs.Tagged.{ingested_by, least_tagged}
 use Rattle.kq_command.specs.declared.columns.Column.{Column}
 use Rattle.kq_command.specs.declared.columns.Identifier.{Identifier}
 use Rattle.kq_command.specs.declared.command.Change.{Change}
-use Rattle.kq_command.specs.declared.command.Change.TheVariants.{CreateTable, AlterMerge, Ingest, CreateView}
+use Rattle.kq_command.specs.declared.command.Change.TheVariants.{CreateTable, AlterMerge, Ingest, CreateView, SetPolicy}
 use Rattle.kq_command.specs.declared.ingestion.Ingestion.{Ingestion}
 use Rattle.kq_command.specs.declared.ingestion.Properties.{Properties}
 use Rattle.kq_command.specs.declared.ingestion.Quoted.{Quoted}
@@ -40,11 +43,21 @@ use Rattle.kq_command.specs.declared.definition.NewView.{NewView}
 use Rattle.kq_grouping.specs.Bodies.{IsBody}
 use Rattle.kq_grammar.specs.TabularViews.{query_of}
 use Rattle.kq_grammar.specs.Trees.{QueryTree}
+use Rattle.kq_entries.specs.declared.fault.EntriesFault.{EntriesFault}
+use Rattle.kq_entries.specs.declared.fault.EntriesFault.TheVariants as unread
+use Rattle.kq_entries.specs.Entries.{IsBadPolicy, IsPolicyOf}
+use Rattle.kq_model.specs.declared.policy.Entry.{Entry}
+use Rattle.kq_model.specs.Cycles.{IsOnCycle}
+use Rattle.kq_model.specs.Policies.{policies, with_policy}
 use Rattle.kq_model.specs.declared.view.View.{View}
 use Rattle.kq_names.specs.Places.{place_of}
+use Rattle.kq_plan.specs.Names.{Known}
 use Rattle.kq_plan.specs.Plans.{Planned, planned_of}
+use Rattle.kq_policy_json.specs.declared.fault.JsonFault.TheVariants as json
+use Rattle.kq_policy_json.specs.PolicyTexts.{fault_of}
 use Rattle.kq_query.specs.Answers.{refusal_by}
 use Rattle.kq_query.specs.Worlds.{known_in}
+use Rattle.kq_show.specs.JournalRows.{name_of}
 
 -- what is due: a reply alone, or a commit
 pub data Due : Type 0 where
@@ -57,6 +70,7 @@ refused r = Says (replies.Refused r)
 -- the reply to a commit, by its cursor
 abbrev pub reply_to : Commit → ℕ → Reply
 reply_to (commits.CreateTable name schema) cursor = replies.Done cursor
+reply_to (commits.SetPolicy table entries) cursor = replies.Done cursor
 reply_to (commits.CreateView view) cursor = replies.Done cursor
 reply_to (commits.AlterMerge table columns) cursor = replies.Done cursor
 reply_to (commits.Ingest batches failures) cursor = replies.Ingested cursor (own_rows batches)
@@ -86,6 +100,7 @@ text_refusal (CreateTable name columns) = option_map (λ (at : ℕ). refusals.Mi
 text_refusal (AlterMerge name columns) = option_map (λ (at : ℕ). refusals.Mistyped at) (repeated_place columns)
 text_refusal (Ingest ingestion) = option_map (λ (at : ℕ). refusals.Mistyped at) ingestion.properties.repeated
 text_refusal (CreateView view) = view_refusal view
+text_refusal (SetPolicy target policy) = None
 
 -- ---- `.create table`
 
@@ -178,29 +193,45 @@ abbrev pub unless_tagged : Option ℕ → Due → Due
 unless_tagged (Some cursor) due = Says (replies.Skipped cursor)
 unless_tagged None due = due
 
--- a batch of its own is put in, unless one of these tags stands on an extent of its table
-abbrev pub batch_due : Limits → Log → Batch → List (List ℕ) → Due
-batch_due limits l own barring = unless_tagged (least_tagged l own.table barring) (counted limits l (commits.Ingest (own ∷ []) []))
+-- all that comes of a batch by the update policies is put in; where its cascade fails nothing is, the batch itself neither
+abbrev pub derived_due : Limits → Log → Cascade → Due
+derived_due limits l (Made batches failures) = counted limits l (commits.Ingest batches failures)
+derived_due limits l (Failed target cause) = refused (refusals.PolicyFailed (name_of l target) cause)
+derived_due limits l TooMany = refused (refusals.Full limits.cascade)
+
+-- a batch of its own is due what may come of it by the policies that the log leaves, over the tables as they are right after it
+pub record IsCascadeDue (limits : Limits) (l : Log) (own : Batch) (due : Due) : Type 0 where
+  pub cascade : Cascade
+  pub derived : IsDerived limits.cascade (rules l) (DueGives l) own cascade
+  pub due_so : due ≡ derived_due limits l cascade
+
+abbrev pub IsTaggedDue : Limits → Log → Batch → Option ℕ → Due → Type 0
+IsTaggedDue limits l own (Some cursor) due = due ≡ Says (replies.Skipped cursor)
+IsTaggedDue limits l own None due = IsCascadeDue limits l own due
+
+-- a batch is skipped where one of these tags stands on an extent of its table, and then no policy runs
+abbrev pub IsBatchDue : Limits → Log → Batch → List (List ℕ) → Due → Type 0
+IsBatchDue limits l own barring due = IsTaggedDue limits l own (least_tagged l own.table barring) due
 
 -- a body is refused by its first fault
-abbrev pub body_due : Limits → Log → Batch → List (List ℕ) → Option IngestFault → Due
-body_due limits l own barring (Some fault) = refused (refusal_of fault)
-body_due limits l own barring None = batch_due limits l own barring
+abbrev pub IsBodyDue : Limits → Log → Batch → List (List ℕ) → Option IngestFault → Due → Type 0
+IsBodyDue limits l own barring (Some fault) due = due ≡ refused (refusal_of fault)
+IsBodyDue limits l own barring None due = IsBatchDue limits l own barring due
 
 -- values that aren't tags are refused first
-abbrev pub values_due : Option ℕ → Due → Due
-values_due (Some at) due = refused (refusals.BadTags at)
-values_due None due = due
+abbrev pub IsValuesDue : Option ℕ → (Due → Type 0) → Due → Type 0
+IsValuesDue (Some at) IsElseDue due = due ≡ refused (refusals.BadTags at)
+IsValuesDue None IsElseDue due = IsElseDue due
 
 -- into a table that stands
-abbrev pub rows_due : Limits → Log → Ingestion → Numbered → Due
-rows_due limits l i found =
-    values_due (bad_tags i.properties)
-    (body_due limits l (own_batch found i) (barring_tags i.properties) (first_fault found.table.schema i.properties.ignore_first limits.batch i.body))
+abbrev pub IsRowsDue : Limits → Log → Ingestion → Numbered → Due → Type 0
+IsRowsDue limits l i found due =
+    IsValuesDue (bad_tags i.properties)
+    (IsBodyDue limits l (own_batch found i) (barring_tags i.properties) (first_fault found.table.schema i.properties.ignore_first limits.batch i.body)) due
 
-abbrev pub ingest_due : Limits → Log → Ingestion → Option Numbered → Due
-ingest_due limits l i None = refused (refusals.Unknown i.table.at)
-ingest_due limits l i (Some found) = rows_due limits l i found
+abbrev pub IsIngestDue : Limits → Log → Ingestion → Option Numbered → Due → Type 0
+IsIngestDue limits l i None due = due ≡ refused (refusals.Unknown i.table.at)
+IsIngestDue limits l i (Some found) due = IsRowsDue limits l i found due
 
 -- ---- `.create materialized-view`: its body
 
@@ -294,14 +325,65 @@ abbrev pub IsViewDue : Limits → Log → NewView → Option Numbered → Due �
 IsViewDue limits l view None due = due ≡ refused (refusals.Unknown view.table.at)
 IsViewDue limits l view (Some table) due = (verdict : Verdict Planned) × IsBoundTo l view verdict × IsBoundDue limits l view table verdict due
 
+-- ---- `.alter table policy update`
+
+-- good entries that close no cycle are set where one more commit is allowed
+pub record SetsPolicy (limits : Limits) (l : Log) (table : Numbered) (entries : List Entry) (due : Due) : Type 0 where
+  pub no_cycle : IsOnCycle (with_policy table.number entries (policies l)) table.number → ⊥
+  pub due_so : due ≡ counted limits l (commits.SetPolicy table.number entries)
+
+-- or by them a batch of the table would come back to it; the table is told by its name
+pub record ClosesCycle (l : Log) (table : Numbered) (entries : List Entry) (due : Due) : Type 0 where
+  pub cycle : IsOnCycle (with_policy table.number entries (policies l)) table.number
+  pub is : due ≡ refused (refusals.Cycle table.table.name)
+
+abbrev pub IsEntriesDue : Limits → Log → Numbered → List Entry → Due → Type 0
+IsEntriesDue limits l table entries due = SetsPolicy limits l table entries due ⊎ ClosesCycle l table entries due
+
+-- over the names of the log, which are those of each history with the log, the text gives good entries
+pub record GivesEntries (limits : Limits) (l : Log) (table : Numbered) (policy : List ℕ) (due : Due) : Type 0 where
+  pub history : History
+  pub logged : log history ≡ l
+  pub entries : List Entry
+  pub gives : IsPolicyOf (known_in history) l table.table.schema limits.policies policy entries
+  pub due_so : IsEntriesDue limits l table entries due
+
+-- the text has more entries than are allowed, or a bad one
+abbrev pub RefusesPolicy : (List ℕ → Option Known) → Log → List Field → ℕ → List ℕ → Refusal → Type 0
+RefusesPolicy known l target limit policy (refusals.Full most) = fault_of limit policy ≡ Some (json.Full most)
+RefusesPolicy known l target limit policy (refusals.BadPolicy entry why) = IsBadPolicy known l target limit policy entry why
+RefusesPolicy known l target limit policy _ = ⊥
+
+pub record GivesNone (limits : Limits) (l : Log) (table : Numbered) (policy : List ℕ) (due : Due) : Type 0 where
+  pub history : History
+  pub logged : log history ≡ l
+  pub refusal : Refusal
+  pub refuses : RefusesPolicy (known_in history) l table.table.schema limits.policies policy refusal
+  pub is : due ≡ refused refusal
+
+abbrev pub IsTextDue : Limits → Log → Numbered → List ℕ → Due → Type 0
+IsTextDue limits l table policy due = GivesEntries limits l table policy due ⊎ GivesNone limits l table policy due
+
+-- a policy for the table of the name
+abbrev pub IsPolicyDue : Limits → Log → Identifier → List ℕ → Option Numbered → Due → Type 0
+IsPolicyDue limits l target policy None due = due ≡ refused (refusals.Unknown target.at)
+IsPolicyDue limits l target policy (Some table) due = IsTextDue limits l table policy due
+
+-- the refusal of a fault, which may be want of memory
+abbrev pub policy_refusal : EntriesFault → Refusal
+policy_refusal (unread.Full limit) = refusals.Full limit
+policy_refusal (unread.Bad entry why) = refusals.BadPolicy entry why
+policy_refusal unread.Memory = refusals.Memory
+
 -- ---- all
 
 -- what a change of a good text is due; a table has one column or more
 abbrev pub IsDueByLog : Limits → Log → Change → Due → Type 0
 IsDueByLog limits l (CreateTable name columns) due = (0 < length columns) × (due ≡ table_due limits l name (schema_of columns))
 IsDueByLog limits l (AlterMerge name columns) due = due ≡ widening_due limits l name columns (table_numbered name.text (tables l))
-IsDueByLog limits l (Ingest ingestion) due = due ≡ ingest_due limits l ingestion (table_numbered ingestion.table.text (tables l))
+IsDueByLog limits l (Ingest ingestion) due = IsIngestDue limits l ingestion (table_numbered ingestion.table.text (tables l)) due
 IsDueByLog limits l (CreateView view) due = IsViewDue limits l view (table_numbered view.table.text (tables l)) due
+IsDueByLog limits l (SetPolicy target policy) due = IsPolicyDue limits l target policy (table_numbered target.text (tables l)) due
 
 abbrev pub IsDueByText : Limits → Log → Change → Option Refusal → Due → Type 0
 IsDueByText limits l change (Some r) due = due ≡ refused r

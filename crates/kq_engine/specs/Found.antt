@@ -1,18 +1,22 @@
 -- What is found of a command on a history, what of it stays due, and where memory may be wanting.
-use Rattle.std.specs.Prelude.{◌≡◌, ◌≢◌, ◌⊎◌, ◌<◌, ◌+◌, ℕ, ℤ, Bool, true, false, nat_eq, List, [], ◌++◌, length, take, Option, Some, None, Result, Ok, Err}
+use Rattle.std.specs.Prelude.{◌≡◌, ◌≢◌, ◌⊎◌, ◌<◌, ◌+◌, ◌&&◌, ◌||◌, not, ℕ, ℤ, Bool, true, false, nat_eq, nat_lt, List, [], ◌∷◌, ◌++◌, length, take, Option, Some, None, Result, Ok, Err}
 use Rattle.std.specs.List.{slice_get}
 use Rattle.kq_model.specs.declared.batch.Batch.{Batch}
 use Rattle.kq_model.specs.declared.event.Commit.{Commit}
 use Rattle.kq_model.specs.declared.limits.Limits.{Limits}
+use Rattle.kq_model.specs.declared.policy.Due.{Due as Entering}
 use Rattle.kq_model.specs.declared.table.Table.{Table}
 use Rattle.kq_model.specs.History.{History, Log, cursor, log, mark, tables, table_named, Numbered, table_numbered}
+use Rattle.kq_model.specs.Policies.{dues}
 use Rattle.kq_model.specs.Tagged.{least_tagged}
+use Rattle.kq_cascade.specs.declared.running.CascadeFault.{CascadeFault}
+use Rattle.kq_cascade.specs.declared.running.CascadeFault.TheVariants as cascades
 use Rattle.kq_catalog.specs.Intents.{Begins as IsBegun, commit_of}
 use Rattle.kq_command.specs.declared.columns.Column.{Column}
 use Rattle.kq_command.specs.declared.columns.Identifier.{Identifier}
 use Rattle.kq_command.specs.Widening.{new_columns}
 use Rattle.kq_command.specs.declared.command.Change.{Change as Changing}
-use Rattle.kq_command.specs.declared.command.Change.TheVariants.{CreateTable, AlterMerge, Ingest, CreateView}
+use Rattle.kq_command.specs.declared.command.Change.TheVariants.{CreateTable, AlterMerge, Ingest, CreateView, SetPolicy}
 use Rattle.kq_command.specs.declared.command.Command.{Command}
 use Rattle.kq_command.specs.declared.command.Command.TheVariants.{Query, Show, Change, Merge, Unbuilt, Fold}
 use Rattle.kq_command.specs.declared.ingestion.Ingestion.{Ingestion}
@@ -30,9 +34,10 @@ use Rattle.kq_engine.specs.declared.work.Prepared.{Prepared}
 use Rattle.kq_engine.specs.declared.work.Ready.{Ready}
 use Rattle.kq_engine.specs.declared.work.Ready.TheVariants as readies
 use Rattle.kq_engine.specs.declared.work.Work.{Work}
-use Rattle.kq_engine.specs.Due.{Due, Says, Commits, IsChangeDue, batch_due, counted, refused, reply_to, rows_due, text_refusal, unless_tagged}
+use Rattle.kq_engine.specs.Due.{Due, Says, Commits, IsBatchDue, IsChangeDue, IsRowsDue, counted, refused, reply_to, text_refusal, unless_tagged}
 use Rattle.kq_engine.specs.Fits.{IsDue, Makes}
 use Rattle.kq_engine.specs.Folds.{AnswersFold, IsFoldingFor, IsFoldingOf, view_number}
+use Rattle.kq_show.specs.JournalRows.{name_of}
 use Rattle.kq_engine.specs.Merges.{AnswersMerge, IsMergingFor, IsMergingOf, IsSettled}
 
 -- ---- what was found
@@ -58,37 +63,68 @@ abbrev pub is_widened_at : Option Table → ℕ → Bool
 is_widened_at None cursor = false
 is_widened_at (Some t) cursor = nat_eq t.widened cursor
 
--- whether the table for which rows were read was not widened since
+-- whether one of the entries runs for batches of the table
+abbrev pub is_source : ℕ → List Entering → Bool
+is_source table [] = false
+is_source table (d ∷ ds) = nat_eq d.source table || is_source table ds
+
+-- whether no entry in force runs for batches of the table: nothing comes of them
+abbrev pub is_alone : Log → ℕ → Bool
+is_alone l table = not (is_source table (dues l))
+
+-- whether the rows come alone, then as now, into a table that was not widened since
+abbrev pub stands_alone : Log → Barring → Bool
+stands_alone l b = b.alone && is_alone l b.table && is_widened_at (slice_get (tables l) b.table) b.widened
+
+-- whether what was found for rows is what would be found now: no commit was made since, or they come alone
 abbrev pub is_as_read : Log → Option Barring → Bool
 is_as_read l None = true
-is_as_read l (Some barring) = is_widened_at (slice_get (tables l) barring.table) barring.widened
-
--- rows were read for this table as it stands
-abbrev pub IsReadFor : Numbered → Option Barring → Type 0
-IsReadFor found None = ⊥
-IsReadFor found (Some barring) = (barring.table ≡ found.number) × (barring.widened ≡ found.table.widened)
+is_as_read l (Some barring) = nat_eq (length l) barring.at || stands_alone l barring
 
 -- what an offer comes to: it is skipped where one of its tags stands, and else its commit is counted
 abbrev pub offer_due : Limits → Log → Offer → Due
 offer_due limits l offer = unless_tagged (barred_at l offer.unless) (counted limits l (commit_of offer.intent))
 
--- a commit that was found for a batch of rows that were read for a table: whatever the log, the batch is due what the offer comes to
-abbrev pub IsOfferOf : Limits → Numbered → Batch → List (List ℕ) → Found → Type 0
-IsOfferOf limits table own barring (founds.Says reply) = Unit {0}
-IsOfferOf limits table own barring (founds.Merges merging) = ⊥
-IsOfferOf limits table own barring (founds.Folds folding) = ⊥
-IsOfferOf limits table own barring (founds.Commits offer) = IsReadFor table offer.unless × ((l : Log) → batch_due limits l own barring ≡ offer_due limits l offer)
+-- an offer that was found after a log for rows that were read for a table as it stands: there it comes to its commit, and after each log after which the rows come alone it is so due
+pub record IsKept (limits : Limits) (l : Log) (table : Numbered) (IsDueAfter : Log → Due → Type 0) (offer : Offer) : Type 0 where
+  pub barring : Barring
+  pub barred : offer.unless ≡ Some barring
+  pub number : barring.table ≡ table.number
+  pub widened : barring.widened ≡ table.table.widened
+  pub at : barring.at ≡ length l
+  pub here : offer_due limits l offer ≡ Commits (commit_of offer.intent)
+  pub alone : (later : Log) → stands_alone later barring ≡ true → IsDueAfter later (offer_due limits later offer)
 
--- a commit that was found for an ingestion into a table: whatever the log, the ingestion is due what the offer comes to
-abbrev pub OffersRows : Limits → Ingestion → Numbered → Found → Type 0
-OffersRows limits i table (founds.Says reply) = Unit {0}
-OffersRows limits i table (founds.Merges merging) = ⊥
-OffersRows limits i table (founds.Folds folding) = ⊥
-OffersRows limits i table (founds.Commits offer) = IsReadFor table offer.unless × ((l : Log) → rows_due limits l i table ≡ offer_due limits l offer)
+-- a commit that was found for a batch of rows that were read for a table
+abbrev pub IsOfferOf : Limits → Log → Numbered → Batch → List (List ℕ) → Found → Type 0
+IsOfferOf limits l table own barring (founds.Says reply) = Unit {0}
+IsOfferOf limits l table own barring (founds.Merges merging) = ⊥
+IsOfferOf limits l table own barring (founds.Folds folding) = ⊥
+IsOfferOf limits l table own barring (founds.Commits offer) = IsKept limits l table (λ (later : Log) (due : Due). IsBatchDue limits later own barring due) offer
+
+-- a commit that was found for an ingestion into a table
+abbrev pub OffersRows : Limits → Log → Ingestion → Numbered → Found → Type 0
+OffersRows limits l i table (founds.Says reply) = Unit {0}
+OffersRows limits l i table (founds.Merges merging) = ⊥
+OffersRows limits l i table (founds.Folds folding) = ⊥
+OffersRows limits l i table (founds.Commits offer) = IsKept limits l table (λ (later : Log) (due : Due). IsRowsDue limits later i table due) offer
 
 -- the same for a table that stands under its name
 abbrev pub OffersInto : Limits → Log → Ingestion → Found → Type 0
-OffersInto limits l i found = (table : Numbered) → table_numbered i.table.text (tables l) ≡ Some table → OffersRows limits i table found
+OffersInto limits l i found = (table : Numbered) → table_numbered i.table.text (tables l) ≡ Some table → OffersRows limits l i table found
+
+-- this commit is offered, barred so, where one more is allowed
+abbrev pub OffersCommit : Limits → Log → Commit → Option Barring → Found → Type 0
+OffersCommit limits l c unless (founds.Says reply) = ⊥
+OffersCommit limits l c unless (founds.Merges merging) = ⊥
+OffersCommit limits l c unless (founds.Folds folding) = ⊥
+OffersCommit limits l c unless (founds.Commits offer) = (commit_of offer.intent ≡ c) × (offer.unless ≡ unless) × (nat_lt (length l) limits.commits ≡ true)
+
+-- the refusal of a cascade's fault, which may be want of memory
+abbrev pub refusal_by_cascade : Log → CascadeFault → Refusal
+refusal_by_cascade l (cascades.PolicyFailed target cause) = refusals.PolicyFailed (name_of l target) cause
+refusal_by_cascade l (cascades.Full limit) = refusals.Full limit
+refusal_by_cascade l cascades.Memory = refusals.Memory
 
 -- a commit that was found is offered with the part with which its view begins
 abbrev pub OffersView : Found → Type 0
@@ -102,6 +138,7 @@ OffersChange limits l (CreateTable name columns) found = Unit {0}
 OffersChange limits l (AlterMerge name columns) found = Unit {0}
 OffersChange limits l (Ingest ingestion) found = OffersInto limits l ingestion found
 OffersChange limits l (CreateView view) found = OffersView found
+OffersChange limits l (SetPolicy target policy) found = Unit {0}
 
 -- whether a command is prepared outside the lock, on a snapshot: what only asks is, what reads rows, and what copies records
 abbrev pub is_prepared_outside : Command → Bool
@@ -112,6 +149,7 @@ is_prepared_outside (Change (AlterMerge name columns)) = false
 is_prepared_outside (Change (Ingest ingestion)) = true
 is_prepared_outside (Merge table) = true
 is_prepared_outside (Change (CreateView view)) = false
+is_prepared_outside (Change (SetPolicy target policy)) = false
 is_prepared_outside (Fold view) = true
 is_prepared_outside Unbuilt = true
 
@@ -127,7 +165,7 @@ IsDueTo limits l (Merge table) due = ⊥
 IsDueTo limits l (Fold view) due = ⊥
 IsDueTo limits l Unbuilt due = ⊥
 
--- the commit is due, with the part of a view that it makes; and after more commits, if the command is prepared outside the lock and its rows are as they would be read, it is due what the offer comes to
+-- the commit is due, with the part of a view that it makes; and after more commits, if the command is prepared outside the lock and what was found is as it would be found, it is due what the offer comes to
 pub record IsOffered (limits : Limits) (l : Log) (command : Command) (offer : Offer) : Type 0 where
   pub due : IsCommitDue limits l command (commit_of offer.intent)
   pub begins : IsBegun offer.intent
@@ -171,6 +209,7 @@ TakesToRead (CreateTable name columns) = 256 < length columns
 TakesToRead (AlterMerge name columns) = 256 < length columns
 TakesToRead (Ingest ingestion) = ⊥
 TakesToRead (CreateView view) = ⊥
+TakesToRead (SetPolicy target policy) = ⊥
 
 -- the text alone is refused so, or memory was wanting to look at it
 abbrev pub RefusesText : Command → Refusal → Type 0
@@ -219,6 +258,7 @@ Gains columns (Some found) = new_columns found.table.schema columns ≢ []
 abbrev pub TakesToShow : History → Showing → Type 0
 TakesToShow h (shows.View view) = Stands (view_number h view)
 TakesToShow h (shows.Extents table) = Stands (table_numbered table.text (tables (log h)))
+TakesToShow h shows.Failures = Unit {0}
 TakesToShow h shows.Journal = Unit {0}
 
 -- a view is folded that isn't up to the cursor
@@ -226,7 +266,7 @@ abbrev pub LagsBehind : History → Option ℕ → Type 0
 LagsBehind h None = ⊥
 LagsBehind h (Some number) = mark h number ≢ cursor h
 
--- finding what the command is due on this history takes memory: to bind a query or a view's body does; to make or widen a table does, and not to keep one
+-- finding what the command is due on this history takes memory: to bind a query, a view's body or a policy's queries does; to make or widen a table does, and not to keep one
 abbrev pub TakesToFind : History → Command → Type 0
 TakesToFind h (Query query) = Unit {0}
 TakesToFind h (Show show) = TakesToShow h show
@@ -235,6 +275,7 @@ TakesToFind h (Change (AlterMerge name columns)) = Gains columns (table_numbered
 TakesToFind h (Change (Ingest ingestion)) = Stands (table_numbered ingestion.table.text (tables (log h)))
 TakesToFind h (Merge table) = Stands (table_numbered table.text (tables (log h)))
 TakesToFind h (Change (CreateView view)) = Stands (table_numbered view.table.text (tables (log h)))
+TakesToFind h (Change (SetPolicy target policy)) = Stands (table_numbered target.text (tables (log h)))
 TakesToFind h (Fold view) = LagsBehind h (view_number h view)
 TakesToFind h Unbuilt = ⊥
 
@@ -247,6 +288,7 @@ TakesMemory h (Change (AlterMerge name columns)) = TakesToRead (AlterMerge name 
 TakesMemory h (Change (Ingest ingestion)) = TakesToFind h (Change (Ingest ingestion))
 TakesMemory h (Merge table) = TakesToFind h (Merge table)
 TakesMemory h (Change (CreateView view)) = TakesToRead (CreateView view)
+TakesMemory h (Change (SetPolicy target policy)) = TakesToRead (SetPolicy target policy)
 TakesMemory h (Fold view) = TakesToFind h (Fold view)
 TakesMemory h Unbuilt = ⊥
 

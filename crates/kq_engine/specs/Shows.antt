@@ -4,13 +4,14 @@ use Rattle.kq_model.specs.declared.answer.Answer.{Answer}
 use Rattle.kq_model.specs.History.{History, Numbered, log, tables, table_numbered}
 use Rattle.kq_command.specs.declared.columns.Identifier.{Identifier}
 use Rattle.kq_command.specs.declared.command.Show.{Show}
-use Rattle.kq_command.specs.declared.command.Show.TheVariants.{View, Extents, Journal}
+use Rattle.kq_command.specs.declared.command.Show.TheVariants.{View, Failures, Extents, Journal}
 use Rattle.kq_reply.specs.declared.refusal.Refusal.TheVariants as refusals
 use Rattle.kq_reply.specs.declared.reply.Reply.{Reply}
 use Rattle.kq_reply.specs.declared.reply.Reply.TheVariants as replies
 use Rattle.kq_show.specs.ExtentRows.{extent_columns, extent_rows}
 use Rattle.kq_engine.specs.Folds.{view_number}
 use Rattle.kq_show.specs.ViewRows.{view_columns, view_rows}
+use Rattle.kq_show.specs.FailureRows.{failure_columns, failure_rows}
 use Rattle.kq_show.specs.JournalRows.{journal_columns, journal_rows}
 use Rattle.kq_query.specs.Printed.{PrintsAnswer}
 use Rattle.kq_value.specs.declared.schema.Field.{Field}
@@ -36,5 +37,6 @@ ShowsExtents h table (Some found) reply = PrintsAnswer (IsShown extent_columns (
 -- a show reads the history alone
 abbrev pub AnswersShow : History → Show → Reply → Type 0
 AnswersShow h (View view) reply = ShowsView h view (view_number h view) reply
+AnswersShow h Failures reply = PrintsAnswer (IsShown failure_columns (failure_rows h)) reply
 AnswersShow h (Extents table) reply = ShowsExtents h table (table_numbered table.text (tables (log h))) reply
 AnswersShow h Journal reply = PrintsAnswer (IsShown journal_columns (journal_rows h)) reply

@@ -7,10 +7,13 @@
 
 mod changes;
 mod folds;
+mod ingestions;
 mod merges;
 mod new_views;
+mod offers;
 mod on_catalog;
 mod on_snapshot;
+mod policies;
 mod query;
 mod run;
 mod shared;

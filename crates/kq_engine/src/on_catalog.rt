@@ -14,7 +14,8 @@ ghost use Rattle.kq_model.specs.Lawful.{own_rows as own_rows_of};
 ghost use Rattle.kq_reply.specs.declared.refusal.Refusal.TheVariants as refusals;
 ghost use Rattle.kq_reply.specs.declared.reply.Reply.TheVariants as replies;
 
-use crate::changes::{has_room, is_as_read};
+use crate::changes::has_room;
+use crate::offers::is_as_read;
 use crate::on_snapshot::find;
 use crate::tags::barring_cursor;
 use crate::work::{Folding, Found, Offer, Outcome, Prepared, Ready, Work};
@@ -25,7 +26,8 @@ use kq_value::Memory;
 use std::alloc::AllocError;
 
 /// Makes at most one event. A commit that was found on a snapshot is put in unless a tag has come to bar it, or no more
-/// commits are allowed; its rows are read again only where the table was widened since. A merge that was found is put in unless
+/// commits are allowed. It is decided anew where others were made since, unless its rows come alone, then as now, into a table that
+/// was not widened since. A merge that was found is put in unless
 /// its extents were merged since: then they are picked again. A fold that was found is put in unless the view is materialized as far:
 /// then its cursor is told. What the snapshot told nothing of is decided on the catalogue as it
 /// stands. A refusal makes no event, and its place is the catalogue's. Want of memory is told of a commit, a merge or a fold that was found,
@@ -203,9 +205,10 @@ fn reply_for(intent: &Intent, cursor: u64) -> Reply
     ensures { result ≡ reply_to (commit_of intent.now) cursor }
 {
     match intent {
-        Intent::CreateTable { .. } | Intent::CreateView { .. } | Intent::AlterMerge { .. } => {
-            Reply::Done { cursor }
-        }
+        Intent::CreateTable { .. }
+        | Intent::SetPolicy { .. }
+        | Intent::CreateView { .. }
+        | Intent::AlterMerge { .. } => Reply::Done { cursor },
         Intent::Ingest { parts, failures: _ } => Reply::Ingested {
             cursor,
             rows: own_rows(parts.as_slice()),

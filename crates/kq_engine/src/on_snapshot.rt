@@ -87,6 +87,7 @@ fn check_change(change: &Change) -> Result<(), Refusal>
         }
         Change::Ingest(ingestion) => ingestion.properties.repeated,
         Change::CreateView(view) => return check_view(view),
+        Change::SetPolicy { .. } => return Ok(()),
     };
     match repeated {
         Some(at) => Err(Refusal::Mistyped { at: at as u64 }),
@@ -114,7 +115,10 @@ fn is_prepared_outside(command: &Command) -> bool
     !matches!(
         command,
         Command::Change(
-            Change::CreateTable { .. } | Change::AlterMerge { .. } | Change::CreateView(_)
+            Change::CreateTable { .. }
+                | Change::AlterMerge { .. }
+                | Change::CreateView(_)
+                | Change::SetPolicy { .. }
         )
     )
 }

@@ -9,7 +9,7 @@ ghost use Rattle.kq_engine.specs.Shows.{AnswersShow};
 use kq_catalog::Snapshot;
 use kq_command::{Identifier, Show};
 use kq_reply::{Refusal, Reply, render};
-use kq_show::{extents_of, journal_of, view_of};
+use kq_show::{extents_of, failures_of, journal_of, view_of};
 use kq_value::Memory;
 
 /// What is shown, from the snapshot alone.
@@ -20,6 +20,7 @@ pub(crate) fn show(snapshot: &Snapshot, show: &Show) -> Result<Reply, Refusal>
 {
     match show {
         Show::View(view) => show_view(snapshot, view),
+        Show::Failures => Ok(show_failures(snapshot)?),
         Show::Extents(table) => show_extents(snapshot, table),
         Show::Journal => Ok(show_journal(snapshot)?),
     }
@@ -50,6 +51,15 @@ fn show_extents(snapshot: &Snapshot, table: &Identifier) -> Result<Reply, Refusa
         });
     };
     let answer = extents_of(snapshot, number)?;
+    Ok(Reply::Rows {
+        text: render(snapshot.allocator(), &answer)?,
+    })
+}
+
+fn show_failures(snapshot: &Snapshot) -> Result<Reply, Memory>
+    ensures { IfOk result (AnswersShow snapshot.now.history told.Failures) }
+{
+    let answer = failures_of(snapshot)?;
     Ok(Reply::Rows {
         text: render(snapshot.allocator(), &answer)?,
     })

@@ -1,26 +1,33 @@
 -- What holds of each lawful history: its numbers are small, and no table that isn't there has records.
-use Rattle.std.proofs.Common.{◌≡◌, ◌<◌, ◌≤◌, refl, subst, Option, None, Some, ◌+◌, ◌*◌, ℕ, Bool, true, false, cond, List, [], ◌∷◌, ◌++◌, length, take, filter, nat_lt, ap, sym, ◌∙◌, length-append, append_assoc, append-nil, arith}
+use Rattle.std.proofs.Common.{◌≡◌, ◌<◌, ◌≤◌, refl, subst, Option, None, Some, ◌+◌, ◌*◌, ℕ, Bool, true, false, cond, List, [], ◌∷◌, ◌++◌, All, length, take, filter, nat_lt, ap, sym, ◌∙◌, length-append, append_assoc, append-nil, arith}
+use Rattle.std.specs.List.{sum_by}
 use Rattle.std.proofs.lemmas.Bool.{ltb-true, ltb-false, ne_eqb}
 use Rattle.std.proofs.lemmas.List.{length_push}
 use Rattle.std.proofs.lemmas.Option.{slice_get_within}
 use Rattle.kq_value.specs.declared.record.Record.{Record}
 use Rattle.kq_value.specs.declared.schema.Field.{Field}
-use Rattle.kq_rows.specs.Numbered.{numbered}
 use Rattle.kq_model.specs.declared.batch.Batch.{Batch}
+use Rattle.kq_model.specs.declared.batch.Failure.{Failure}
 use Rattle.kq_model.specs.declared.limits.Limits.{Limits}
 use Rattle.kq_model.specs.declared.table.Table.{Table}
 use Rattle.kq_model.specs.declared.event.Commit.{Commit}
-use Rattle.kq_model.specs.declared.event.Commit.TheVariants.{CreateTable, CreateView, AlterMerge, Ingest}
+use Rattle.kq_model.specs.declared.event.Commit.TheVariants.{CreateTable, SetPolicy, CreateView, AlterMerge, Ingest}
 use Rattle.kq_model.specs.declared.event.Event.{Event}
 use Rattle.kq_model.specs.declared.event.Operation.{Operation}
 use Rattle.kq_model.specs.declared.event.Operation.TheVariants as operation
+use Rattle.kq_model.specs.Beside.{DueGives}
 use Rattle.kq_model.specs.History.{History, Log, log, cursor, tables, table_named, widened_table, commits_of, views, views_by, view_count, is_view}
-use Rattle.kq_model.specs.Lawful.{IsMerge, Lawful, LawfulOperation, LawfulCommit, AreLawful, AreLawfulAfter, bar_to_name, bar_to_table, bar_to_view, bar_to_columns, bar_to_batch, own_rows}
+use Rattle.kq_model.specs.Lawful.{IsMerge, Lawful, LawfulOperation, LawfulCommit, AreLawful, AreLawfulAfter, bar_to_name, bar_to_table, bar_to_view, bar_to_columns, bar_to_batch, own_rows, IsIngestion}
 use Rattle.kq_model.specs.Lawful.Bar.{TooWide, TooMany, TooLong, NoCommits}
-use Rattle.kq_model.specs.Records.{records_given, given, given_by, items, items_by, item_of, items_after, extents, is_small_item, made_by, made_of, made_in, merged, ExtentItem}
+use Rattle.kq_model.specs.Policies.{rules}
+use Rattle.kq_model.specs.Records.{records_given, given, items, items_after, extents, is_small_item, made_by, made_of, made_in, merged, ExtentItem}
 use Rattle.kq_model.proofs.Changed.{length-changed}
+use Rattle.kq_model.proofs.Counted.{IsDerived-few}
+use Rattle.kq_model.proofs.Given.{IsBefore, IsShort, IsDerived-led, few_given_by, few_rows_in, given_by-past, items_by-past}
 use Rattle.kq_model.proofs.Histories.{log-push, tables-push, views-push}
-use Rattle.kq_model.proofs.Records.{records-push, extents-push, made_in-push, given_by-one}
+use Rattle.kq_model.proofs.Passed.{IsDerived-short, IsDerived-stands}
+use Rattle.kq_model.proofs.Policies.{length-policies}
+use Rattle.kq_model.proofs.Records.{records-push, extents-push, made_in-push}
 
 -- what no bar means
 two_tests : {X : Type 0} (s t : Bool) (x y : X) → cond s (Some x) (cond t None (Some y)) ≡ None → (s ≡ false) × (t ≡ true)
@@ -73,6 +80,7 @@ free_view limits l name e = free_name limits l limits.views (view_count l) (tabl
 room_left : (limits : Limits) (l : Log) (c : Commit) → LawfulCommit limits l c → length l < limits.commits
 room_left limits l (CreateTable name schema) lawful = (free_table limits l name schema lawful.2).commits
 room_left limits l (CreateView view) lawful = (free_view limits l view.name lawful.within).commits
+room_left limits l (SetPolicy table entries) lawful = lawful.room
 room_left limits l (AlterMerge table columns) lawful = (free_columns limits l (length lawful.table.schema) (length columns) lawful.within).1
 room_left limits l (Ingest batches failures) lawful = (free_batch limits l (own_rows batches) lawful.1).1
 
@@ -82,6 +90,7 @@ more_tables limits l (CreateTable name schema) lawful before =
     let longer = ap length (tables-push l (CreateTable name schema)) ∙ length_push (tables l) _ in
     omega (arith, free, longer)
 more_tables limits l (CreateView view) lawful before = let same = ap length (tables-push l (CreateView view)) in omega (arith, before, same)
+more_tables limits l (SetPolicy table entries) lawful before = let same = ap length (tables-push l (SetPolicy table entries)) in omega (arith, before, same)
 more_tables limits l (AlterMerge table columns) lawful before =
     let same = ap length (tables-push l (AlterMerge table columns)) ∙ length-changed (widened_table (length l + 1) columns) table (tables l) in
     omega (arith, before, same)
@@ -96,6 +105,7 @@ more_views limits l (CreateView view) lawful before =
     let free = (free_view limits l view.name lawful.within).room in
     let more = views_made l (CreateView view) in
     omega (arith, free, more)
+more_views limits l (SetPolicy table entries) lawful before = let more = views_made l (SetPolicy table entries) in omega (arith, before, more)
 more_views limits l (AlterMerge table columns) lawful before = let more = views_made l (AlterMerge table columns) in omega (arith, before, more)
 more_views limits l (Ingest batches failures) lawful before = let more = views_made l (Ingest batches failures) in omega (arith, before, more)
 
@@ -103,48 +113,71 @@ more_views limits l (Ingest batches failures) lawful before = let more = views_m
 pub no_fewer : (l : Log) (c : Commit) → length (tables l) ≤ length (tables (l ++ c ∷ []))
 no_fewer l (CreateTable name schema) = let longer = ap length (tables-push l (CreateTable name schema)) ∙ length_push (tables l) _ in omega (arith, longer)
 no_fewer l (CreateView view) = let same = ap length (tables-push l (CreateView view)) in omega (arith, same)
+no_fewer l (SetPolicy table entries) = let same = ap length (tables-push l (SetPolicy table entries)) in omega (arith, same)
 no_fewer l (AlterMerge table columns) =
     let same = ap length (tables-push l (AlterMerge table columns)) ∙ length-changed (widened_table (length l + 1) columns) table (tables l) in
     omega (arith, same)
 no_fewer l (Ingest batches failures) = let same = ap length (tables-push l (Ingest batches failures)) in omega (arith, same)
 
-own_few : (limits : Limits) (l : Log) (batches : List Batch) (failures : _) → (lawful : LawfulCommit limits l (Ingest batches failures)) → length (lawful.0.own).rows ≤ 1048576
-own_few limits l batches failures lawful =
+-- an ingestion's own batch isn't long, so no batch of it is
+own_short : (limits : Limits) (l : Log) (batches : List Batch) (failures : List Failure) → (lawful : LawfulCommit limits l (Ingest batches failures)) → IsShort (lawful.0.own)
+own_short limits l batches failures lawful =
+    let own = lawful.0.own in
     let free = (free_batch limits l (own_rows batches) lawful.1).0 in
-    let rows : own_rows batches ≡ length (lawful.0.own).rows = ap own_rows lawful.0.derived.alone in
+    let led = IsDerived-led limits.cascade (rules l) (DueGives l) own batches failures lawful.0.derived in
+    let rows : own_rows batches ≡ length own.rows = ap own_rows led.is in
     omega (arith, free, rows, limits.small_batch)
 
-few_given : (limits : Limits) (l : Log) (t n : ℕ) (c : Commit) → LawfulCommit limits l c → length (given t n c) ≤ 1048576
+all_short : (limits : Limits) (l : Log) (batches : List Batch) (failures : List Failure) → LawfulCommit limits l (Ingest batches failures) → All IsShort batches
+all_short limits l batches failures lawful = IsDerived-short limits.cascade (rules l) (DueGives l) lawful.0.own batches failures (own_short limits l batches failures lawful) lawful.0.derived
+
+few_batches : (limits : Limits) (l : Log) (batches : List Batch) (failures : List Failure) → LawfulCommit limits l (Ingest batches failures) → length batches ≤ 1025
+few_batches limits l batches failures lawful =
+    let few = IsDerived-few limits.cascade (rules l) (DueGives l) lawful.0.own batches failures lawful.0.derived in
+    omega (arith, few, limits.short_cascade)
+
+-- nor are all of them together
+pub few_rows : (limits : Limits) (l : Log) (batches : List Batch) (failures : List Failure) → LawfulCommit limits l (Ingest batches failures) → sum_by (λ (b : Batch). length b.rows) batches ≤ 1074790400
+few_rows limits l batches failures lawful = omega (arith, few_rows_in batches (all_short limits l batches failures lawful), few_batches limits l batches failures lawful)
+
+-- and all go into tables
+pub all_stand : (limits : Limits) (l : Log) (batches : List Batch) (failures : List Failure) → IsIngestion limits l batches failures → All (IsBefore (length (tables l))) batches
+all_stand limits l batches failures ingestion =
+    let own = ingestion.own in
+    let count = length-policies l in
+    let within : own.table < length (tables l) = slice_get_within (tables l) own.table ingestion.table ingestion.stands in
+    subst (λ (n : ℕ). All (IsBefore n) batches) count
+    (IsDerived-stands limits.cascade (rules l) (DueGives l) own batches failures (omega (arith, within, count)) ingestion.derived)
+
+few_given : (limits : Limits) (l : Log) (t n : ℕ) (c : Commit) → LawfulCommit limits l c → length (given t n c) ≤ 1074790400
 few_given limits l t n (CreateTable name schema) lawful = omega arith
 few_given limits l t n (CreateView view) lawful = omega arith
+few_given limits l t n (SetPolicy table entries) lawful = omega arith
 few_given limits l t n (AlterMerge table columns) lawful = omega arith
 few_given limits l t n (Ingest batches failures) lawful =
-    let same = ap (λ (bs : List Batch). length (given_by t n 0 bs)) lawful.0.derived.alone in
-    omega (arith, same, own_few limits l batches failures lawful, given_by-one t n lawful.0.own)
+    omega (arith, few_given_by t n 0 batches (all_short limits l batches failures lawful), few_batches limits l batches failures lawful)
 
-pub one_made : (limits : Limits) (l : Log) (c : Commit) → LawfulCommit limits l c → made_by c ≤ 1
-one_made limits l (CreateTable name schema) lawful = omega arith
-one_made limits l (CreateView view) lawful = omega arith
-one_made limits l (AlterMerge table columns) lawful = omega arith
-one_made limits l (Ingest batches failures) lawful = let one = ap length lawful.0.derived.alone in omega (arith, one)
+-- a batch for each query, and the own one
+pub few_made_by : (limits : Limits) (l : Log) (c : Commit) → LawfulCommit limits l c → made_by c ≤ 1025
+few_made_by limits l (CreateTable name schema) lawful = omega arith
+few_made_by limits l (CreateView view) lawful = omega arith
+few_made_by limits l (SetPolicy table entries) lawful = omega arith
+few_made_by limits l (AlterMerge table columns) lawful = omega arith
+few_made_by limits l (Ingest batches failures) lawful = few_batches limits l batches failures lawful
 
 given_past : (limits : Limits) (l : Log) (t n : ℕ) (c : Commit) → LawfulCommit limits l c → length (tables l) ≤ t → given t n c ≡ []
 given_past limits l t n (CreateTable name schema) lawful past = refl
 given_past limits l t n (CreateView view) lawful past = refl
+given_past limits l t n (SetPolicy table entries) lawful past = refl
 given_past limits l t n (AlterMerge table columns) lawful past = refl
-given_past limits l t n (Ingest batches failures) lawful past =
-    let own = lawful.0.own in
-    let within = slice_get_within (tables l) own.table lawful.0.table lawful.0.stands in
-    ap (given_by t n 0) lawful.0.derived.alone ∙ ap (λ (b : Bool). cond b (numbered n 0 own.rows ++ []) []) (ne_eqb own.table t (λ same. absurd (omega (arith, within, past, same))))
+given_past limits l t n (Ingest batches failures) lawful past = given_by-past (length (tables l)) t n 0 batches (all_stand limits l batches failures lawful.0) past
 
 items_past : (limits : Limits) (l : Log) (t n id : ℕ) (c : Commit) → LawfulCommit limits l c → length (tables l) ≤ t → items t n id c ≡ []
 items_past limits l t n id (CreateTable name schema) lawful past = refl
 items_past limits l t n id (CreateView view) lawful past = refl
+items_past limits l t n id (SetPolicy table entries) lawful past = refl
 items_past limits l t n id (AlterMerge table columns) lawful past = refl
-items_past limits l t n id (Ingest batches failures) lawful past =
-    let own = lawful.0.own in
-    let within = slice_get_within (tables l) own.table lawful.0.table lawful.0.stands in
-    ap (items_by t n 0 id) lawful.0.derived.alone ∙ ap (λ (b : Bool). cond b (item_of id n 0 own ∷ []) []) (ne_eqb own.table t (λ same. absurd (omega (arith, within, past, same))))
+items_past limits l t n id (Ingest batches failures) lawful past = items_by-past (length (tables l)) t n 0 id batches (all_stand limits l batches failures lawful.0) past
 
 -- what each lawful event keeps holds of each lawful history
 pub AreLawful-induct : (limits : Limits) (P : History → Type 0) → P [] → ((h : History) (e : Event) → P h → Lawful limits h e → P (h ++ e ∷ [])) → (h : History) → AreLawful limits h → P h
@@ -158,7 +191,7 @@ pub record IsBounded (limits : Limits) (l : Log) : Type 0 where
   pub few_tables : length (tables l) ≤ limits.tables
   pub few_views : view_count l ≤ limits.views
   pub few_commits : length l ≤ limits.commits
-  pub few_records : (t : ℕ) → length (records_given l t) ≤ length l * 1048576
+  pub few_records : (t : ℕ) → length (records_given l t) ≤ length l * 1074790400
   pub no_records : (t : ℕ) → length (tables l) ≤ t → records_given l t ≡ []
 
 bounded_none : (limits : Limits) → IsBounded limits []
@@ -191,17 +224,19 @@ event_more limits h e before lawful = subst (IsBounded limits) (sym (log-push h 
 pub IsBounded-lawful : (limits : Limits) (h : History) → AreLawful limits h → IsBounded limits (log h)
 IsBounded-lawful limits h all = AreLawful-induct limits (λ (g : History). IsBounded limits (log g)) (bounded_none limits) (event_more limits) h all
 
--- what an event makes
-pub few_made : (limits : Limits) (h : History) → AreLawful limits h → made_in h ≤ length h
-few_made limits h all = AreLawful-induct limits (λ (g : History). made_in g ≤ length g) (omega arith) one_more h all
+-- an event makes one extent at most, and a commit one more for each query
+pub few_made : (limits : Limits) (h : History) → AreLawful limits h → made_in h ≤ length h + cursor h * 1024
+few_made limits h all = AreLawful-induct limits (λ (g : History). made_in g ≤ length g + cursor g * 1024) (omega arith) one_more h all
   where
-    by_operation : (g : History) (o : Operation) → LawfulOperation limits g o → made_of o ≤ 1
-    by_operation g (operation.Commit c) lawful = one_made limits (log g) c lawful
+    by_operation : (g : History) (o : Operation) → LawfulOperation limits g o → made_of o ≤ 1 + length (commits_of o) * 1024
+    by_operation g (operation.Commit c) lawful = let few = few_made_by limits (log g) c lawful in omega (arith, few)
     by_operation g (operation.Fold view to) lawful = omega arith
     by_operation g (operation.Merge table old new) lawful = omega arith
 
-    one_more : (g : History) (e : Event) → made_in g ≤ length g → Lawful limits g e → made_in (g ++ e ∷ []) ≤ length (g ++ e ∷ [])
-    one_more g e before lawful = omega (arith, before, made_in-push g e, by_operation g e.operation lawful.operation, length_push g e)
+    one_more : (g : History) (e : Event) → made_in g ≤ length g + cursor g * 1024 → Lawful limits g e → made_in (g ++ e ∷ []) ≤ length (g ++ e ∷ []) + cursor (g ++ e ∷ []) * 1024
+    one_more g e before lawful =
+        let commits = ap length (log-push g e) ∙ length-append (log g) (commits_of e.operation) in
+        omega (arith, before, commits, made_in-push g e, by_operation g e.operation lawful.operation, length_push g e)
 
 -- a table that isn't there has no extents
 pub no_items : (limits : Limits) (h : History) → AreLawful limits h → (t : ℕ) → length (tables (log h)) ≤ t → extents h t ≡ []

@@ -1,53 +1,69 @@
 -- The edits of a lawful commit fit the tables.
-use Rattle.std.proofs.Common.{◌≡◌, ◌+◌, ℕ, List, [], ◌∷◌, ◌++◌, All, map, Some, sym, ◌∙◌, subst, arith}
+use Rattle.std.proofs.Common.{◌≡◌, ◌<◌, ◌+◌, ℕ, List, [], ◌∷◌, ◌++◌, All, length, get_or, Option, Some, option_map, unwrap_or, ap, sym, subst, arith}
 use Rattle.std.specs.List.{slice_get}
-use Rattle.std.proofs.lemmas.List.Elements.{All-head, All-tail, All-nil, All-push}
+use Rattle.std.proofs.lemmas.List.Elements.{All-head, All-tail}
 use Rattle.std.proofs.lemmas.Option.{slice_get_within}
-use Rattle.kq_value.specs.declared.record.Record.{Record}
+use Rattle.kq_value.specs.declared.schema.Field.{Field}
 use Rattle.kq_value.specs.Typed.{HasTypes}
-use Rattle.kq_rows.specs.Numbered.{numbered}
 use Rattle.kq_model.specs.declared.batch.Batch.{Batch}
 use Rattle.kq_model.specs.declared.batch.Failure.{Failure}
 use Rattle.kq_model.specs.declared.limits.Limits.{Limits}
 use Rattle.kq_model.specs.declared.table.Table.{Table}
 use Rattle.kq_model.specs.declared.event.Commit.{Commit}
-use Rattle.kq_model.specs.declared.event.Commit.TheVariants.{CreateTable, CreateView, AlterMerge, Ingest}
+use Rattle.kq_model.specs.declared.event.Commit.TheVariants.{CreateTable, SetPolicy, CreateView, AlterMerge, Ingest}
 use Rattle.kq_model.specs.Edits.{FitAll, new_extents, edits_of}
-use Rattle.kq_model.specs.History.{Log, tables}
-use Rattle.kq_model.specs.Lawful.{LawfulCommit, IsIngestion}
-use Rattle.kq_model.specs.Records.{rows_to}
-use Rattle.kq_model.proofs.Bounded.{free_table}
+use Rattle.kq_model.specs.Beside.{DueGives}
+use Rattle.kq_model.specs.History.{History, Log, log, tables}
+use Rattle.kq_model.specs.Lawful.{AreLawful, LawfulCommit, IsIngestion}
+use Rattle.kq_model.specs.Policies.{rules}
+use Rattle.kq_model.specs.Records.{rows_to, schema_of}
+use Rattle.kq_model.specs.Typed.{IsTyped}
+use Rattle.kq_model.proofs.Bounded.{all_stand, free_table}
+use Rattle.kq_model.proofs.Entered.{AreBound, AreBound-lawful, AreTyped-bound}
+use Rattle.kq_model.proofs.Passed.{IsDerived-typed}
 use Rattle.kq_model.proofs.Records.{numbered-rows}
 
 -- the batch goes into a table, and its rows have the table's types
-pub record IsTyped (ts : List Table) (b : Batch) : Type 0 where
-  pub table : Table
-  pub stands : slice_get ts b.table ≡ Some table
-  pub typed : All (HasTypes table.schema) b.rows
+pub record IsFit (ts : List Table) (b : Batch) : Type 0 where
+  pub stands : b.table < length ts
+  pub typed : (t : Table) → slice_get ts b.table ≡ Some t → All (HasTypes t.schema) b.rows
 
-own_typed : (l : Log) (batches : List Batch) (failures : List Failure) → IsIngestion l batches failures → All (IsTyped (tables l)) batches
-own_typed l batches failures ingestion =
-    subst (All (IsTyped (tables l))) (sym ingestion.derived.alone)
-    (All-push (IsTyped (tables l)) [] ingestion.own (All-nil (IsTyped (tables l))) (record { table = ingestion.table; stands = ingestion.stands; typed = ingestion.typed }))
+schema_at : (l : Log) (n : ℕ) (t : Table) → slice_get (tables l) n ≡ Some t → schema_of l n ≡ t.schema
+schema_at l n t at = ap (λ (o : Option Table). unwrap_or (option_map (λ (x : Table). x.schema) o) []) at
 
-some_same : {X : Type 0} {x z : X} → Some x ≡ Some z → x ≡ z
-some_same h = cc
+-- so do all that come of an ingestion's own
+all_fit : (limits : Limits) (l : Log) (batches : List Batch) (failures : List Failure) → AreBound l → IsIngestion limits l batches failures → All (IsFit (tables l)) batches
+all_fit limits l batches failures bound ingestion = λ k d within.
+    let b = get_or batches k d in
+    record {
+      stands = all_stand limits l batches failures ingestion k d within;
+      typed = λ t at. subst (λ (fs : List Field). All (HasTypes fs) b.rows) (schema_at l b.table t at) (typed k d within);
+    }
+  where
+    own : Batch
+    own = ingestion.own
 
-one_fits : (ts : List Table) (b : Batch) (cursor first : ℕ) → IsTyped ts b → (t : Table) → slice_get ts b.table ≡ Some t → All (HasTypes t.schema) (map (λ (r : Record). r.row) (numbered cursor first b.rows))
-one_fits ts b cursor first is t at =
-    subst (All (HasTypes t.schema)) (sym (numbered-rows cursor first b.rows))
-    (subst (λ (x : Table). All (HasTypes x.schema) b.rows) (some_same (sym is.stands ∙ at)) is.typed)
+    own_typed : IsTyped (schema_of l) own
+    own_typed = subst (λ (fs : List Field). All (HasTypes fs) own.rows) (sym (schema_at l own.table ingestion.table ingestion.stands)) ingestion.typed
 
-extents_fit : (ts : List Table) (cursor id : ℕ) (before bs : List Batch) → All (IsTyped ts) bs → FitAll ts (new_extents cursor id before bs)
-extents_fit ts cursor id before [] typed = tt
-extents_fit ts cursor id before (b ∷ bs) typed =
-    let is = All-head (IsTyped ts) b bs typed in
-    ((slice_get_within ts b.table is.table is.stands, one_fits ts b cursor (rows_to b.table before) is), extents_fit ts cursor (id + 1) (before ++ b ∷ []) bs (All-tail (IsTyped ts) b bs typed))
+    typed : All (IsTyped (schema_of l)) batches
+    typed = IsDerived-typed limits.cascade (rules l) (DueGives l) (AreTyped-bound l bound) own batches failures own_typed ingestion.derived
 
-pub FitAll-lawful : (limits : Limits) (l : Log) (cursor id : ℕ) (c : Commit) → LawfulCommit limits l c → FitAll (tables l) (edits_of cursor id c)
-FitAll-lawful limits l cursor id (CreateTable name schema) lawful =
+extents_fit : (ts : List Table) (cursor id : ℕ) (before bs : List Batch) → All (IsFit ts) bs → FitAll ts (new_extents cursor id before bs)
+extents_fit ts cursor id before [] all = tt
+extents_fit ts cursor id before (b ∷ bs) all =
+    let is = All-head (IsFit ts) b bs all in
+    let rows = numbered-rows cursor (rows_to b.table before) b.rows in
+    ((is.stands, λ t at. subst (All (HasTypes t.schema)) (sym rows) (is.typed t at)), extents_fit ts cursor (id + 1) (before ++ b ∷ []) bs (All-tail (IsFit ts) b bs all))
+
+edits_fit : (limits : Limits) (l : Log) (cursor id : ℕ) (c : Commit) → AreBound l → LawfulCommit limits l c → FitAll (tables l) (edits_of cursor id c)
+edits_fit limits l cursor id (CreateTable name schema) bound lawful =
     let free = free_table limits l name schema lawful.2 in
     ((free.name, omega (arith, free.room, limits.few_tables)), tt)
-FitAll-lawful limits l cursor id (CreateView view) lawful = tt
-FitAll-lawful limits l cursor id (AlterMerge table columns) lawful = (slice_get_within (tables l) table lawful.table lawful.stands, tt)
-FitAll-lawful limits l cursor id (Ingest batches failures) lawful = extents_fit (tables l) cursor id [] batches (own_typed l batches failures lawful.0)
+edits_fit limits l cursor id (SetPolicy table entries) bound lawful = tt
+edits_fit limits l cursor id (CreateView view) bound lawful = tt
+edits_fit limits l cursor id (AlterMerge table columns) bound lawful = (slice_get_within (tables l) table lawful.table lawful.stands, tt)
+edits_fit limits l cursor id (Ingest batches failures) bound lawful = extents_fit (tables l) cursor id [] batches (all_fit limits l batches failures bound lawful.0)
+
+pub FitAll-lawful : (limits : Limits) (h : History) (cursor id : ℕ) (c : Commit) → AreLawful limits h → LawfulCommit limits (log h) c → FitAll (tables (log h)) (edits_of cursor id c)
+FitAll-lawful limits h cursor id c all lawful = edits_fit limits (log h) cursor id c (AreBound-lawful limits h all) lawful

@@ -9,7 +9,7 @@ use Rattle.kq_value.specs.declared.value.Value.{Value}
 use Rattle.kq_widened.specs.Widened.{widened_record, widened_records}
 use Rattle.kq_widened.proofs.Widened.{widened-twice}
 use Rattle.kq_model.specs.declared.event.Commit.{Commit}
-use Rattle.kq_model.specs.declared.event.Commit.TheVariants.{CreateTable, CreateView, AlterMerge, Ingest}
+use Rattle.kq_model.specs.declared.event.Commit.TheVariants.{CreateTable, SetPolicy, CreateView, AlterMerge, Ingest}
 use Rattle.kq_model.specs.declared.table.Table.{Table}
 use Rattle.kq_model.specs.Changed.{changed}
 use Rattle.kq_model.specs.History.{History, Log, log, tables, tables_with, widened_table}
@@ -45,6 +45,7 @@ one_wider at columns (suc n) (suc t) (y ∷ ts) = one_wider at columns n t ts
 one_commit : (at : ℕ) (c : Commit) (ts : List Table) (t : ℕ) → Extends (schema_at ts t) (schema_at (tables_with at c ts) t)
 one_commit at (CreateTable name schema) ts t = one_more ts (record { name = name; schema = schema; made = at; widened = at }) t
 one_commit at (CreateView view) ts t = same (schema_at ts t)
+one_commit at (SetPolicy table entries) ts t = same (schema_at ts t)
 one_commit at (AlterMerge table columns) ts t = one_wider at columns table t ts
 one_commit at (Ingest batches failures) ts t = same (schema_at ts t)
 

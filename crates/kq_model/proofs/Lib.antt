@@ -1,11 +1,20 @@
 pub mod Bounded
 pub mod Changed
+pub mod Counted
+pub mod Entered
+pub mod Examples
 pub mod Extents
 pub mod Fitting
+pub mod Given
 pub mod Growing
 pub mod Histories
+pub mod Lasting
+pub mod Leading
 pub mod Merging
+pub mod Passed
 pub mod Places
+pub mod Policies
+pub mod Reading
 pub mod Records
 pub mod Repeats
 pub mod States
@@ -13,3 +22,4 @@ pub mod Tables
 pub mod Tagged
 pub mod Unique
 pub mod Views
+pub mod Wider

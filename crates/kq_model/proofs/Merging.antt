@@ -8,7 +8,7 @@ use Rattle.std.proofs.lemmas.List.Elements.{filter-append}
 use Rattle.kq_model.specs.declared.batch.Batch.{Batch}
 use Rattle.kq_model.specs.declared.limits.Limits.{Limits}
 use Rattle.kq_model.specs.declared.event.Commit.{Commit}
-use Rattle.kq_model.specs.declared.event.Commit.TheVariants.{CreateTable, CreateView, AlterMerge, Ingest}
+use Rattle.kq_model.specs.declared.event.Commit.TheVariants.{CreateTable, SetPolicy, CreateView, AlterMerge, Ingest}
 use Rattle.kq_model.specs.declared.event.Event.{Event}
 use Rattle.kq_model.specs.declared.event.Operation.{Operation}
 use Rattle.kq_model.specs.declared.event.Operation.TheVariants as operation
@@ -76,6 +76,7 @@ items-rise t cursor ordinal id (b ∷ bs) = by_test (nat_eq b.table t) (λ o. it
 commit-rises : (t cursor id : ℕ) (c : Commit) → Rises id (id + made_by c) (items t cursor id c)
 commit-rises t cursor id (CreateTable name schema) = omega arith
 commit-rises t cursor id (CreateView view) = omega arith
+commit-rises t cursor id (SetPolicy table entries) = omega arith
 commit-rises t cursor id (AlterMerge table columns) = omega arith
 commit-rises t cursor id (Ingest batches failures) = items-rise t cursor 0 id batches
 

@@ -1,5 +1,5 @@
 -- The records of a log with one more commit, and the extents of a history with one more event.
-use Rattle.std.proofs.Common.{◌≡◌, ◌≤◌, ℕ, ◌+◌, Bool, true, false, cond, List, [], ◌∷◌, ◌++◌, length, map, nat_eq, refl, ap, sym, ◌∙◌, subst, append_assoc, append-nil, length-append, arith, add-zero, zero-add}
+use Rattle.std.proofs.Common.{◌≡◌, ℕ, ◌+◌, cond, List, [], ◌∷◌, ◌++◌, length, map, nat_eq, refl, ap, sym, ◌∙◌, subst, append_assoc, append-nil, length-append, arith, add-zero, zero-add}
 use Rattle.kq_value.specs.declared.record.Record.{Record}
 use Rattle.kq_value.specs.declared.value.Value.{Value}
 use Rattle.kq_rows.specs.Numbered.{numbered}
@@ -7,7 +7,7 @@ use Rattle.kq_model.specs.declared.batch.Batch.{Batch}
 use Rattle.kq_model.specs.declared.event.Commit.{Commit}
 use Rattle.kq_model.specs.declared.event.Event.{Event}
 use Rattle.kq_model.specs.History.{History, Log, log, cursor, commits_of}
-use Rattle.kq_model.specs.Records.{given_by, given, rows_to, records_from, records_given, ExtentItem, items_after, made_of, made_in, extents_from, extents}
+use Rattle.kq_model.specs.Records.{given, rows_to, records_from, records_given, ExtentItem, items_after, made_of, made_in, extents_from, extents}
 
 records_from-push : (t n : ℕ) (l : Log) (c : Commit) → records_from t n (l ++ c ∷ []) ≡ records_from t n l ++ given t (n + length l + 1) c
 records_from-push t n [] c = rw add-zero (append-nil (given t (n + 1) c))
@@ -44,17 +44,9 @@ pub rows_to-push : (t : ℕ) (bs : List Batch) (b : Batch) → rows_to t (bs ++ 
 rows_to-push t [] b = omega arith
 rows_to-push t (x ∷ bs) b = let more = rows_to-push t bs b in omega (arith, more)
 
-length-numbered : (cursor ordinal : ℕ) (rows : _) → length (numbered cursor ordinal rows) ≡ length rows
+pub length-numbered : (cursor ordinal : ℕ) (rows : _) → length (numbered cursor ordinal rows) ≡ length rows
 length-numbered cursor ordinal [] = refl
 length-numbered cursor ordinal (r ∷ rows) = let more = length-numbered cursor (ordinal + 1) rows in omega (arith, more)
-
--- a batch alone gives no table more than its rows
-pub given_by-one : (t cursor : ℕ) (b : Batch) → length (given_by t cursor 0 (b ∷ [])) ≤ length b.rows
-given_by-one t cursor b = by_test (nat_eq b.table t)
-  where
-    by_test : (is : Bool) → length (cond is (numbered cursor 0 b.rows ++ []) []) ≤ length b.rows
-    by_test true = let n = length-numbered cursor 0 b.rows in omega (arith, n, length-append (numbered cursor 0 b.rows) [])
-    by_test false = omega arith
 
 pub numbered-rows : (cursor ordinal : ℕ) (rows : List (List Value)) → map (λ (r : Record). r.row) (numbered cursor ordinal rows) ≡ rows
 numbered-rows cursor ordinal [] = refl

@@ -12,7 +12,7 @@ use Rattle.kq_model.specs.declared.batch.Batch.{Batch}
 use Rattle.kq_model.specs.declared.limits.Limits.{Limits}
 use Rattle.kq_model.specs.declared.table.Table.{Table}
 use Rattle.kq_model.specs.declared.event.Commit.{Commit}
-use Rattle.kq_model.specs.declared.event.Commit.TheVariants.{CreateTable, CreateView, AlterMerge, Ingest}
+use Rattle.kq_model.specs.declared.event.Commit.TheVariants.{CreateTable, SetPolicy, CreateView, AlterMerge, Ingest}
 use Rattle.kq_model.specs.declared.event.Event.{Event}
 use Rattle.kq_model.specs.declared.event.Operation.{Operation}
 use Rattle.kq_model.specs.declared.event.Operation.TheVariants as operation
@@ -176,6 +176,12 @@ commit_more limits h (CreateTable name schema) lawful =
 commit_more limits h (CreateView view) lawful =
     let l = log h in
     let c = CreateView view in
+    ap (λ (ts : List Table). states_by 0 ts (records_given (l ++ c ∷ [])) (λ m. extents h m ++ [])) (tables-push l c)
+    ∙ states_same 0 (tables l) (records_given (l ++ c ∷ [])) (records_given l) (λ m. extents h m ++ []) (extents h)
+    (λ m some. records-push l m c ∙ append-nil (records_given l m)) (λ m some. append-nil (extents h m))
+commit_more limits h (SetPolicy table entries) lawful =
+    let l = log h in
+    let c = SetPolicy table entries in
     ap (λ (ts : List Table). states_by 0 ts (records_given (l ++ c ∷ [])) (λ m. extents h m ++ [])) (tables-push l c)
     ∙ states_same 0 (tables l) (records_given (l ++ c ∷ [])) (records_given l) (λ m. extents h m ++ []) (extents h)
     (λ m some. records-push l m c ∙ append-nil (records_given l m)) (λ m some. append-nil (extents h m))

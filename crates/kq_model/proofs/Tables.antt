@@ -9,7 +9,7 @@ use Rattle.std.proofs.lemmas.Option.{get_or_from_slice_get, slice_get_within}
 use Rattle.kq_value.specs.declared.schema.Field.{Field}
 use Rattle.kq_model.specs.declared.table.Table.{Table}
 use Rattle.kq_model.specs.declared.event.Commit.{Commit}
-use Rattle.kq_model.specs.declared.event.Commit.TheVariants.{CreateTable, CreateView, AlterMerge, Ingest}
+use Rattle.kq_model.specs.declared.event.Commit.TheVariants.{CreateTable, SetPolicy, CreateView, AlterMerge, Ingest}
 use Rattle.kq_model.specs.Changed.{changed}
 use Rattle.kq_model.specs.History.{Log, tables, tables_from, tables_with, widened_table, Numbered, numbered_from, table_numbered, table_named}
 use native.Mathlib.Numerals.{unary_clauses}
@@ -133,6 +133,7 @@ one_commit n (CreateTable given schema) name ts found e = record {
   grown = record { named = refl; same = inl refl };
 }
 one_commit n (CreateView view) name ts found e = record { table = found.table; finds = e; grown = record { named = refl; same = inl refl } }
+one_commit n (SetPolicy table entries) name ts found e = record { table = found.table; finds = e; grown = record { named = refl; same = inl refl } }
 one_commit n (AlterMerge table columns) name ts found e =
     let f = grown_widened 0 n table columns name ts found e in
     record { table = f.table; finds = f.finds; grown = f.grown }
@@ -167,6 +168,7 @@ up_to_more : (n : ℕ) (c : Commit) (ts : List Table) → All (IsUpTo n) ts → 
 up_to_more n (CreateTable name schema) ts all =
     All-push (IsUpTo (n + 1)) ts (record { name = name; schema = schema; made = n + 1; widened = n + 1 }) (All-weaker (IsUpTo n) (IsUpTo (n + 1)) (λ t le. omega (arith, le)) ts all) (omega arith)
 up_to_more n (CreateView view) ts all = All-weaker (IsUpTo n) (IsUpTo (n + 1)) (λ t le. omega (arith, le)) ts all
+up_to_more n (SetPolicy table entries) ts all = All-weaker (IsUpTo n) (IsUpTo (n + 1)) (λ t le. omega (arith, le)) ts all
 up_to_more n (AlterMerge table columns) ts all =
     All-changed (IsUpTo (n + 1)) (widened_table (n + 1) columns) table ts (λ t le. omega arith) (All-weaker (IsUpTo n) (IsUpTo (n + 1)) (λ t le. omega (arith, le)) ts all)
 up_to_more n (Ingest batches failures) ts all = All-weaker (IsUpTo n) (IsUpTo (n + 1)) (λ t le. omega (arith, le)) ts all

@@ -9,7 +9,7 @@ use Rattle.kq_value.specs.declared.value.Value.{Value}
 use Rattle.kq_rows.specs.Numbered.{numbered}
 use Rattle.kq_model.specs.declared.batch.Batch.{Batch}
 use Rattle.kq_model.specs.declared.event.Commit.{Commit}
-use Rattle.kq_model.specs.declared.event.Commit.TheVariants.{CreateTable, CreateView, AlterMerge, Ingest}
+use Rattle.kq_model.specs.declared.event.Commit.TheVariants.{CreateTable, SetPolicy, CreateView, AlterMerge, Ingest}
 use Rattle.kq_model.specs.History.{Log}
 use Rattle.kq_model.specs.Records.{given, given_by, ids_of, records, records_from, records_given, schema_of}
 use Rattle.kq_widened.specs.Widened.{widened_records}
@@ -56,6 +56,7 @@ given_by-climbs t c o (b ∷ bs) = by_test (nat_eq b.table t) (given_by-climbs t
 given-climbs : (t c : ℕ) (commit : Commit) → Climbs c 0 (c + 1) 0 (given t c commit)
 given-climbs t c (CreateTable name schema) = inl (omega arith)
 given-climbs t c (CreateView view) = inl (omega arith)
+given-climbs t c (SetPolicy table entries) = inl (omega arith)
 given-climbs t c (AlterMerge table columns) = inl (omega arith)
 given-climbs t c (Ingest batches failures) = given_by-climbs t c 0 batches
 

@@ -17,7 +17,7 @@ use Rattle.kq_value.specs.Typed.{missing_of}
 use Rattle.kq_widened.specs.Widened.{widened, widened_record, widened_records}
 use Rattle.kq_model.specs.declared.batch.Batch.{Batch}
 use Rattle.kq_model.specs.declared.event.Commit.{Commit}
-use Rattle.kq_model.specs.declared.event.Commit.TheVariants.{CreateTable, CreateView, AlterMerge, Ingest}
+use Rattle.kq_model.specs.declared.event.Commit.TheVariants.{CreateTable, SetPolicy, CreateView, AlterMerge, Ingest}
 use Rattle.kq_model.specs.declared.event.Event.{Event}
 use Rattle.kq_model.specs.declared.event.Operation.{Operation}
 use Rattle.kq_model.specs.declared.event.Operation.TheVariants as operation
@@ -144,6 +144,7 @@ each_view limits P keeps gives h all = (AreLawful-induct limits Both start one_m
     by_operation : (g : History) (e : Event) (o : Operation) → e.operation ≡ o → AreLawful limits g → Lawful limits g e → Each g → Each (g ++ e ∷ [])
     by_operation g e (operation.Commit (CreateTable name schema)) is lawful one each n v at = same_views g e n v lawful one each (no_view g e (CreateTable name schema) is refl) at
     by_operation g e (operation.Commit (CreateView view)) is lawful one each n v at = new_view g e (CreateView view) (record { view = view; made = cursor g + 1 }) n v lawful one each is refl at
+    by_operation g e (operation.Commit (SetPolicy table entries)) is lawful one each n v at = same_views g e n v lawful one each (no_view g e (SetPolicy table entries) is refl) at
     by_operation g e (operation.Commit (AlterMerge table columns)) is lawful one each n v at = same_views g e n v lawful one each (no_view g e (AlterMerge table columns) is refl) at
     by_operation g e (operation.Commit (Ingest batches failures)) is lawful one each n v at = same_views g e n v lawful one each (no_view g e (Ingest batches failures) is refl) at
     by_operation g e (operation.Fold view to) is lawful one each n v at = same_views g e n v lawful one each (unchanged g e (operation.Fold view to) is refl) at
@@ -201,6 +202,7 @@ marked limits h lawful = each_view limits IsMarked keeps gives h lawful
         by_base : (v.view.base ≡ 0) ⊎ (v.view.base ≡ cursor g + 1) → mark (g ++ e ∷ []) (view_count (log g)) ≡ v.view.base → cursor (g ++ e ∷ []) ≡ cursor g + 1 → mark (g ++ e ∷ []) (view_count (log g)) ≤ cursor (g ++ e ∷ [])
         by_base (inl none) at longer = omega (arith, none, at, longer)
         by_base (inr now) at longer = omega (arith, now, at, longer)
+    gives g e (SetPolicy table entries) v all one is new = absurd (cc)
     gives g e (AlterMerge table columns) v all one is new = absurd (cc)
     gives g e (Ingest batches failures) v all one is new = absurd (cc)
 
@@ -252,6 +254,7 @@ over limits h lawful = each_view limits (λ (g : History) (n : ℕ) (v : Viewed)
         let same : view ≡ v.view = cc in
         subst (λ (l : Log). IsOver l v.view) (sym (log-commit g e (CreateView view) is))
         (IsOver-later (log g) (CreateView view ∷ []) v.view (IsOver-new limits (log g) v.view (subst (IsNewView limits (log g)) same lawful)))
+    gives g e (SetPolicy table entries) v all one is new = absurd (cc)
     gives g e (AlterMerge table columns) v all one is new = absurd (cc)
     gives g e (Ingest batches failures) v all one is new = absurd (cc)
 
@@ -300,6 +303,7 @@ given_by_past above to t at ordinal (b ∷ bs) later = by_test (nat_eq b.table t
 given_past : (above to t at : ℕ) (c : Commit) → to < at → filter (is_between above to) (given t at c) ≡ []
 given_past above to t at (CreateTable name schema) later = refl
 given_past above to t at (CreateView view) later = refl
+given_past above to t at (SetPolicy table entries) later = refl
 given_past above to t at (AlterMerge table columns) later = refl
 given_past above to t at (Ingest batches failures) later = given_by_past above to t at 0 batches later
 

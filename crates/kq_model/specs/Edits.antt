@@ -7,7 +7,7 @@ use Rattle.kq_value.specs.Typed.{HasTypes}
 use Rattle.kq_rows.specs.Numbered.{numbered}
 use Rattle.kq_model.specs.declared.batch.Batch.{Batch}
 use Rattle.kq_model.specs.declared.event.Commit.{Commit}
-use Rattle.kq_model.specs.declared.event.Commit.TheVariants.{CreateTable, CreateView, AlterMerge, Ingest}
+use Rattle.kq_model.specs.declared.event.Commit.TheVariants.{CreateTable, SetPolicy, CreateView, AlterMerge, Ingest}
 use Rattle.kq_model.specs.declared.table.Table.{Table}
 pub use Rattle.kq_model.specs.Changed.{changed}
 use Rattle.kq_model.specs.History.{table_named, widened_table}
@@ -55,6 +55,7 @@ new_extents cursor id before (b ∷ bs) = NewExtent b.table id (numbered cursor 
 abbrev pub edits_of : ℕ → ℕ → Commit → List Edit
 edits_of cursor id (CreateTable name schema) = NewTable (record { name = name; schema = schema; made = cursor; widened = cursor }) ∷ []
 edits_of cursor id (CreateView view) = []
+edits_of cursor id (SetPolicy table entries) = []
 edits_of cursor id (AlterMerge table columns) = NewColumns table cursor columns ∷ []
 edits_of cursor id (Ingest batches failures) = new_extents cursor id [] batches
 

@@ -7,7 +7,7 @@ use Rattle.kq_value.specs.declared.schema.Field.{Field}
 use Rattle.kq_model.specs.declared.table.Table.{Table}
 use Rattle.kq_model.specs.declared.event.By.{By}
 use Rattle.kq_model.specs.declared.event.Commit.{Commit}
-use Rattle.kq_model.specs.declared.event.Commit.TheVariants.{CreateTable, CreateView, AlterMerge, Ingest}
+use Rattle.kq_model.specs.declared.event.Commit.TheVariants.{CreateTable, SetPolicy, CreateView, AlterMerge, Ingest}
 use Rattle.kq_model.specs.declared.event.Operation.{Operation}
 use Rattle.kq_model.specs.declared.event.Operation.TheVariants as operation
 use Rattle.kq_model.specs.declared.event.Event.{Event}
@@ -43,6 +43,7 @@ widened_table at columns t = record t { schema = t.schema ++ columns; widened = 
 abbrev pub tables_with : ℕ → Commit → List Table → List Table
 tables_with at (CreateTable name schema) tables = tables ++ record { name = name; schema = schema; made = at; widened = at } ∷ []
 tables_with at (CreateView view) tables = tables
+tables_with at (SetPolicy table entries) tables = tables
 tables_with at (AlterMerge table columns) tables = changed (widened_table at columns) table tables
 tables_with at (Ingest batches failures) tables = tables
 
@@ -99,6 +100,7 @@ pub record Viewed : Type 0 where
 abbrev pub views_by : ℕ → Commit → List Viewed
 views_by at (CreateTable name schema) = []
 views_by at (CreateView view) = record { view = view; made = at } ∷ []
+views_by at (SetPolicy table entries) = []
 views_by at (AlterMerge table columns) = []
 views_by at (Ingest batches failures) = []
 

@@ -1,7 +1,10 @@
 -- What may stand in a journal.
-use Rattle.std.specs.Prelude.{◌≡◌, ◌⊎◌, ◌<◌, ◌≤◌, ◌+◌, ℕ, Bool, false, take, List, [], ◌∷◌, ◌++◌, length, Option, Some, None, All, if◌then◌else◌, nat_lt}
+use Rattle.std.specs.Prelude.{◌≡◌, ◌⊎◌, ◌<◌, ◌≤◌, ◌+◌, ℕ, Bool, false, take, List, [], ◌∷◌, ◌++◌, length, Option, Some, None, option_map, All, if◌then◌else◌, nat_lt}
 use Rattle.std.specs.List.{slice_get}
 use Rattle.kq_grouping.specs.Bodies.{IsBody}
+use Rattle.kq_plan.specs.declared.names.NameKind.TheVariants as name
+use Rattle.kq_plan.specs.Fits.{Fits}
+use Rattle.kq_plan.specs.Names.{Known}
 use Rattle.kq_plan.specs.Plans.{planned_of}
 use Rattle.kq_value.specs.declared.schema.Field.{Field}
 use Rattle.kq_value.specs.Typed.{HasTypes}
@@ -10,14 +13,19 @@ use Rattle.kq_model.specs.declared.table.Table.{Table}
 use Rattle.kq_model.specs.declared.event.Commit.{Commit}
 use Rattle.kq_model.specs.declared.batch.Batch.{Batch}
 use Rattle.kq_model.specs.declared.batch.Failure.{Failure}
-use Rattle.kq_model.specs.declared.event.Commit.TheVariants.{CreateTable, CreateView, AlterMerge, Ingest}
+use Rattle.kq_model.specs.declared.event.Commit.TheVariants.{CreateTable, SetPolicy, CreateView, AlterMerge, Ingest}
 use Rattle.kq_model.specs.declared.event.Operation.{Operation}
 use Rattle.kq_model.specs.declared.event.Operation.TheVariants as operation
 use Rattle.kq_model.specs.declared.event.Event.{Event}
 use Rattle.kq_model.specs.declared.view.View.{View}
-use Rattle.kq_model.specs.Derived.{IsDerived}
-use Rattle.kq_model.specs.History.{History, Log, log, cursor, tables, table_named, view_count, is_view, mark}
+use Rattle.kq_model.specs.declared.policy.Entry.{Entry}
+use Rattle.kq_model.specs.Beside.{DueGives}
+use Rattle.kq_model.specs.Cycles.{IsOnCycle}
+use Rattle.kq_model.specs.Derived.{IsDerived, Made}
+use Rattle.kq_model.specs.History.{History, Log, log, cursor, tables, table_named, Numbered, table_numbered, view_count, is_view, mark}
 use Rattle.kq_model.specs.Names.{is_among, repeat_of, names_of}
+use Rattle.kq_model.specs.Policies.{policies, rules, with_policy}
+use Rattle.kq_model.specs.PolicyBodies.{IsPolicyBody}
 use Rattle.kq_model.specs.Records.{picked, item_ids, made_in}
 
 -- why a table of this name and these columns, a view of this name, or a batch of so many rows, can't be made
@@ -68,13 +76,40 @@ pub record IsNewView (limits : Limits) (l : Log) (v : View) : Type 0 where
   pub base : (v.base ≡ 0) ⊎ (v.base ≡ length l + 1)
   pub within : bar_to_view limits l v.name ≡ None
 
--- an ingestion's own batch goes into a table and has rows of its types, and these are the batch's whole cascade
-pub record IsIngestion (l : Log) (batches : List Batch) (failures : List Failure) : Type 0 where
+-- ---- policies
+
+abbrev pub known_table : Numbered → Known
+known_table found = (name.Table, found.table.schema)
+
+-- the names of the tables, with their columns
+abbrev pub tables_known : Log → List ℕ → Option Known
+tables_known l said = option_map known_table (table_numbered said (tables l))
+
+-- an entry whose source is a table, and whose plan is bound over the tables that it names: it reads its source, names no view, asks for no moment, and gives the columns of the target
+pub record IsEntry (l : Log) (target : List Field) (e : Entry) : Type 0 where
+  pub source : Table
+  pub stands : slice_get (tables l) e.source ≡ Some source
+  pub body : IsPolicyBody source.name (planned_of e.plan)
+  pub fits : Fits (tables_known l) (planned_of e.plan) target
+
+-- entries for a table that stands, by which no batch of it comes back to it, within the limits; those that aren't enabled count too
+pub record IsNewPolicy (limits : Limits) (l : Log) (number : ℕ) (entries : List Entry) : Type 0 where
+  pub table : Table
+  pub stands : slice_get (tables l) number ≡ Some table
+  pub few : length entries ≤ limits.policies
+  pub each : All (IsEntry l table.schema) entries
+  pub no_cycle : IsOnCycle (with_policy number entries (policies l)) number → ⊥
+  pub room : length l < limits.commits
+
+-- ---- ingestions
+
+-- an ingestion's own batch goes into a table and has rows of its types, and these are the batch's whole cascade by the policies in force
+pub record IsIngestion (limits : Limits) (l : Log) (batches : List Batch) (failures : List Failure) : Type 0 where
   pub own : Batch
   pub table : Table
   pub stands : slice_get (tables l) own.table ≡ Some table
   pub typed : All (HasTypes table.schema) own.rows
-  pub derived : IsDerived l own batches failures
+  pub derived : IsDerived limits.cascade (rules l) (DueGives l) own (Made batches failures)
 
 -- the number of rows of an ingestion's own batch
 abbrev pub own_rows : List Batch → ℕ
@@ -83,9 +118,10 @@ own_rows (own ∷ bs) = length own.rows
 
 abbrev pub LawfulCommit : Limits → Log → Commit → Type 0
 LawfulCommit limits l (CreateTable name schema) = (0 < length schema) × (repeat_of (names_of schema) ≡ None) × (bar_to_table limits l name schema ≡ None)
+LawfulCommit limits l (SetPolicy table entries) = IsNewPolicy limits l table entries
 LawfulCommit limits l (CreateView view) = IsNewView limits l view
 LawfulCommit limits l (AlterMerge table columns) = IsWidening limits l table columns
-LawfulCommit limits l (Ingest batches failures) = IsIngestion l batches failures × (bar_to_batch limits l (own_rows batches) ≡ None)
+LawfulCommit limits l (Ingest batches failures) = IsIngestion limits l batches failures × (bar_to_batch limits l (own_rows batches) ≡ None)
 
 -- a merge's old extents are the first of those that are picked, two or more, and its new id is the next
 pub record IsMerge (h : History) (t : ℕ) (old : List ℕ) (new : ℕ) : Type 0 where

@@ -9,7 +9,7 @@ use Rattle.kq_value.specs.declared.record.Record.{Record}
 use Rattle.kq_rows.specs.Numbered.{numbered}
 use Rattle.kq_model.specs.declared.batch.Batch.{Batch}
 use Rattle.kq_model.specs.declared.event.Commit.{Commit}
-use Rattle.kq_model.specs.declared.event.Commit.TheVariants.{CreateTable, CreateView, AlterMerge, Ingest}
+use Rattle.kq_model.specs.declared.event.Commit.TheVariants.{CreateTable, SetPolicy, CreateView, AlterMerge, Ingest}
 use Rattle.kq_model.specs.declared.event.Operation.{Operation}
 use Rattle.kq_model.specs.declared.event.Operation.TheVariants as operation
 use Rattle.kq_model.specs.declared.table.Table.{Table}
@@ -32,6 +32,7 @@ rows_to t (b ∷ bs) = (if nat_eq b.table t then length b.rows else 0) + rows_to
 abbrev pub given : ℕ → ℕ → Commit → List Record
 given t cursor (CreateTable name schema) = []
 given t cursor (CreateView view) = []
+given t cursor (SetPolicy table entries) = []
 given t cursor (AlterMerge table columns) = []
 given t cursor (Ingest batches failures) = given_by t cursor 0 batches
 
@@ -84,6 +85,7 @@ items_by t cursor ordinal id (b ∷ bs) =
 abbrev pub items : ℕ → ℕ → ℕ → Commit → List ExtentItem
 items t cursor id (CreateTable name schema) = []
 items t cursor id (CreateView view) = []
+items t cursor id (SetPolicy table entries) = []
 items t cursor id (AlterMerge table columns) = []
 items t cursor id (Ingest batches failures) = items_by t cursor 0 id batches
 
@@ -112,6 +114,7 @@ merged old new is = filter (λ i. not (has_id_of old i)) is ++ united new (filte
 abbrev pub made_by : Commit → ℕ
 made_by (CreateTable name schema) = 0
 made_by (CreateView view) = 0
+made_by (SetPolicy table entries) = 0
 made_by (AlterMerge table columns) = 0
 made_by (Ingest batches failures) = length batches
 

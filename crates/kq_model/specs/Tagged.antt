@@ -3,7 +3,7 @@ use Rattle.std.specs.Prelude.{ℕ, ◌+◌, Bool, false, ◌&&◌, List, [], ◌
 use Rattle.std.specs.List.{list_any}
 use Rattle.kq_model.specs.declared.batch.Batch.{Batch}
 use Rattle.kq_model.specs.declared.event.Commit.{Commit}
-use Rattle.kq_model.specs.declared.event.Commit.TheVariants.{CreateTable, CreateView, AlterMerge, Ingest}
+use Rattle.kq_model.specs.declared.event.Commit.TheVariants.{CreateTable, SetPolicy, CreateView, AlterMerge, Ingest}
 use Rattle.kq_model.specs.History.{Log}
 use Rattle.kq_model.specs.Names.{is_among}
 
@@ -15,6 +15,7 @@ gives_tag t tag b = nat_eq b.table t && is_among tag b.tags
 abbrev pub is_tagged_by : ℕ → List ℕ → Commit → Bool
 is_tagged_by t tag (CreateTable name schema) = false
 is_tagged_by t tag (CreateView view) = false
+is_tagged_by t tag (SetPolicy table entries) = false
 is_tagged_by t tag (AlterMerge table columns) = false
 is_tagged_by t tag (Ingest batches failures) = list_any (gives_tag t tag) batches
 

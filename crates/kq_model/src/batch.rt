@@ -87,6 +87,13 @@ pub struct Failure {
     pub cause: Cause,
 }
 
+/// A failure with the cursor of the commit that noted it.
+#[derive(Clone, Copy, Debug)]
+pub struct Noted {
+    pub cursor: u64,
+    pub failure: Failure,
+}
+
 /// The failures of one commit, in order. Contracts see their list.
 #[derive(Debug, Drop)]
 pub struct Failures {

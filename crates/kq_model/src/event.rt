@@ -3,6 +3,7 @@ ghost use Rattle.std.specs.Prelude.{◌≡◌};
 
 use crate::batch::{Batches, Failures};
 use crate::ids::Ids;
+use crate::policy::Entries;
 use crate::view::SharedView;
 use kq_value::{Schema, Text};
 
@@ -29,6 +30,11 @@ pub enum Commit {
     CreateTable {
         name: Text,
         schema: Schema,
+    },
+    /// The update policy of a table, which goes by its number, in place of the one before.
+    SetPolicy {
+        table: u32,
+        entries: Entries,
     },
     CreateView(SharedView),
     /// Further columns behind those of a table, which goes by its number.

@@ -8,14 +8,16 @@ mod cause;
 mod event;
 mod ids;
 mod limits;
+mod policy;
 mod table;
 mod view;
 
 pub use answer::Answer;
-pub use batch::{Batch, Batches, Failure, Failures};
+pub use batch::{Batch, Batches, Failure, Failures, Noted};
 pub use cause::{Cause, Why};
 pub use event::{By, Commit, Event, Operation};
 pub use ids::Ids;
 pub use limits::Limits;
+pub use policy::{Due, Entries, Entry};
 pub use table::Table;
 pub use view::{SharedView, View};

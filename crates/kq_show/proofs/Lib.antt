@@ -1,4 +1,5 @@
 pub mod Bounds
 pub mod ExtentLemmas
+pub mod FailureLemmas
 pub mod JournalLemmas
 pub mod Walks

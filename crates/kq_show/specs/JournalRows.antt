@@ -6,7 +6,7 @@ use Rattle.kq_value.specs.declared.ty.Ty.TheVariants as ty
 use Rattle.kq_value.specs.declared.value.Value.{Value}
 use Rattle.kq_value.specs.declared.value.Value.TheVariants.{Text}
 use Rattle.kq_model.specs.declared.table.Table.{Table}
-use Rattle.kq_model.specs.declared.event.Commit.TheVariants.{CreateTable, CreateView, AlterMerge, Ingest}
+use Rattle.kq_model.specs.declared.event.Commit.TheVariants.{CreateTable, SetPolicy, CreateView, AlterMerge, Ingest}
 use Rattle.kq_model.specs.declared.event.Operation.{Operation}
 use Rattle.kq_model.specs.declared.event.Operation.TheVariants as operation
 use Rattle.kq_model.specs.declared.event.Event.{Event}
@@ -20,6 +20,7 @@ journal_columns =
 
 abbrev pub kind_of : Operation → List ℕ
 kind_of (operation.Commit (CreateTable name schema)) = codes "CreateTable"
+kind_of (operation.Commit (SetPolicy table entries)) = codes "SetPolicy"
 kind_of (operation.Commit (CreateView view)) = codes "CreateView"
 kind_of (operation.Commit (AlterMerge table columns)) = codes "AlterMerge"
 kind_of (operation.Commit (Ingest batches failures)) = codes "Ingest"
@@ -34,9 +35,10 @@ name_of l number = unwrap_or (option_map (λ (t : Table). t.name) (slice_get (ta
 abbrev pub view_name_of : Log → ℕ → List ℕ
 view_name_of l number = unwrap_or (option_map (λ (v : Viewed). v.view.name) (slice_get (views l) number)) []
 
--- the table that an event makes or widens, that its own batch is for, or whose extents it merges, or the view that it makes or folds, where all these commits were made
+-- the table that an event makes or widens, whose policy it sets, that its own batch is for, or whose extents it merges, or the view that it makes or folds, where all these commits were made
 abbrev pub entity_of : Log → Operation → List ℕ
 entity_of l (operation.Commit (CreateTable name schema)) = name
+entity_of l (operation.Commit (SetPolicy table entries)) = name_of l table
 entity_of l (operation.Commit (CreateView view)) = view.name
 entity_of l (operation.Commit (AlterMerge table columns)) = name_of l table
 entity_of l (operation.Commit (Ingest [] failures)) = []

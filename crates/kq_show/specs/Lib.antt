@@ -1,4 +1,5 @@
 pub mod Cells
 pub mod ExtentRows
+pub mod FailureRows
 pub mod JournalRows
 pub mod ViewRows

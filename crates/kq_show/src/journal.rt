@@ -131,6 +131,7 @@ fn kind(operation: &Operation) -> &'static str
 {
     match operation {
         Operation::Commit(Commit::CreateTable { .. }) => "CreateTable",
+        Operation::Commit(Commit::SetPolicy { .. }) => "SetPolicy",
         Operation::Commit(Commit::CreateView(_)) => "CreateView",
         Operation::Commit(Commit::AlterMerge { .. }) => "AlterMerge",
         Operation::Commit(Commit::Ingest { .. }) => "Ingest",
@@ -144,6 +145,7 @@ fn entity(snapshot: &Snapshot, operation: &Operation) -> Result<Text, Memory>
 {
     match operation {
         Operation::Commit(Commit::CreateTable { name, .. }) => name.clone_in(),
+        Operation::Commit(Commit::SetPolicy { table, .. }) => table_name(snapshot, *table),
         Operation::Commit(Commit::CreateView(view)) => view.get().name.clone_in(),
         Operation::Commit(Commit::AlterMerge { table, .. }) => table_name(snapshot, *table),
         Operation::Commit(Commit::Ingest { batches, .. }) => match batches.as_slice().first() {

@@ -64,6 +64,15 @@ fn put_view(page: &mut Page<'_>, view: &NewView) {
     put_query(page, &view.body.tree);
 }
 
+/// The table, and the policy in brackets, so that blanks at its ends show.
+fn put_policy(page: &mut Page<'_>, target: &Identifier, policy: &str) {
+    page.put("policy ");
+    put_identifier(page, target);
+    page.put(" <");
+    page.put(policy);
+    page.put(">");
+}
+
 /// A table to be made as `NAME@PLACE` and then each column as ` NAME@PLACE:TYPE`, TYPE by its place in the order of types.
 pub fn put_command(page: &mut Page<'_>, command: &Command) {
     match command {
@@ -76,6 +85,7 @@ pub fn put_command(page: &mut Page<'_>, command: &Command) {
             page.put("shown ");
             put_identifier(page, view);
         }
+        Command::Show(Show::Failures) => page.put("failures"),
         Command::Show(Show::Extents(table)) => {
             page.put("extents ");
             put_identifier(page, table);
@@ -83,6 +93,11 @@ pub fn put_command(page: &mut Page<'_>, command: &Command) {
         Command::Show(Show::Journal) => page.put("journal"),
         Command::Change(Change::Ingest(ingestion)) => put_ingestion(page, ingestion),
         Command::Change(Change::CreateView(view)) => put_view(page, view),
+        Command::Change(Change::SetPolicy { target, policy }) => put_policy(
+            page,
+            target,
+            policy.as_str(),
+        ),
         Command::Change(Change::CreateTable { name, columns }) => {
             put_identifier(page, name);
             put_columns(page, columns.as_slice());
@@ -120,6 +135,9 @@ fn texts_read_as_their_commands(rt: HostRuntime) -> Result<(), Fail> {
 .ingest inline into table E with (ignoreFirstRecord=false, ignoreFirstRecord=true) <| => E@26 twice@59 < 
 .alter-merge table E (k:long) => wider E@19 k@22:0
 .alter-merge table ['my table'] (['by']:date, s:string) => wider my table@19 by@33:4 s@46:2
+.alter table E policy update '[]' => policy E@13 <[]>
+.alter table ['my table'] policy update @'it''s' => policy my table@13 <it's>
+.show ingestion failures => failures
 .show table ['my table'] extents => extents my table@12
 .show journal => journal
 #merge E => merge E@7
@@ -175,10 +193,48 @@ fn commands_go_over_lines(rt: HostRuntime) -> Result<(), Fail> {
 }
 
 #[test]
+fn a_policy_is_what_its_string_says(rt: HostRuntime) -> Result<(), Fail> {
+    let rows = r#".alter table E policy update '' => policy E@13 <>
+.alter table E policy update "[{\"Source\":\"A\",\"Query\":\"A | where s == 'x'\"}]" => policy E@13 <[{"Source":"A","Query":"A | where s == 'x'"}]>
+.alter table E policy update '[{"Query":"A | where s == \'\u0078\\\'"}]' => policy E@13 <[{"Query":"A | where s == 'x\'"}]>
+.alter table E policy update @"[{""Query"":""A\n""}]" => policy E@13 <[{"Query":"A\n"}]>
+.alter table E policy update @'[{"Query":"A | where s == ''x''"}]' => policy E@13 <[{"Query":"A | where s == 'x'"}]>
+.alter table E policy update ```[{"Query":"A | where s == 'x\'"}]``` => policy E@13 <[{"Query":"A | where s == 'x\'"}]>
+.alter table E policy update ' no JSON ' => policy E@13 < no JSON >
+.alter table table policy update '{}' => policy table@13 <{}>
+.alter table ["policy"] policy update 'é' => policy policy@13 <é>
+"#;
+    Ok(assert_rows(&rt, rt.alloc(), Reader::Command, rows)?)
+}
+
+#[test]
+fn a_policy_goes_over_lines(rt: HostRuntime) -> Result<(), Fail> {
+    for (text, want) in [
+        (
+            ".alter table E policy update ```\n[{\n  \"Source\": \"A\"\n}]\n```",
+            "policy E@13 <\n[{\n  \"Source\": \"A\"\n}]\n>",
+        ),
+        (
+            ".alter table E policy update '[\\t]\\n'",
+            "policy E@13 <[\t]\n>",
+        ),
+        (
+            ".alter // its\ntable\n[ 'my table' ] // policy\npolicy\tupdate\r\n@'[\n]' // all",
+            "policy my table@20 <[\n]>",
+        ),
+        (
+            "\n.show // all\n ingestion\n\tfailures// so far",
+            "failures",
+        ),
+    ] {
+        assert_reads(&rt, rt.alloc(), Reader::Command, text, want)?;
+    }
+    Ok(())
+}
+
+#[test]
 fn other_forms_are_not_built_yet(rt: HostRuntime) -> Result<(), Fail> {
     let rows = "\
-.alter table E policy update '[]'
-.show ingestion failures
 #export X
 #export X over E { E }
 ";

@@ -326,3 +326,32 @@ fn a_fold_that_a_later_one_overtook_tells_the_cursor_of_that(rt: HostRuntime) ->
     assert!(rt; holds);
     Ok(())
 }
+
+// The policy of B looks into D.
+const POLICY: &str =
+    r#".alter table B policy update '[{"Source":"A","Query":"A | join kind=leftouter (D) on v | project v, n"}]'"#;
+
+#[test]
+fn a_lookup_sees_what_came_since_its_ingestion_began(rt: HostRuntime) -> Result<(), Fail> {
+    let rows = [
+        (0, ".create table A (v:long)"),
+        (0, ""),
+        (1, ".create table D (v:long, n:string)"),
+        (1, ""),
+        (2, ".create table B (v:long, n:string)"),
+        (2, ""),
+        (3, POLICY),
+        (3, ""),
+        (4, ".ingest inline into table A <|\n1"),
+        (5, ".ingest inline into table D <|\n1,one"),
+        (5, ""),
+        (4, ""),
+        (6, "B"),
+        (6, ""),
+    ];
+    let steps = steps(rt.alloc(), &rows)?;
+    let trace = run_steps(rt.alloc(), Limits::full(), steps)?;
+    assert!(rt; place_of(&trace, 4) == Some(5) && place_of(&trace, 5) == Some(6));
+    assert!(rt; printed(&trace, 6) == Some((6, "rows 1\nv:long\tn:string\n1\tone\n".as_bytes())));
+    Ok(())
+}

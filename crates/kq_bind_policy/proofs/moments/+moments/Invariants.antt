@@ -1,5 +1,5 @@
 use Rattle.std.proofs.Common.{◌≡◌, drop, map}
-use Rattle.kq_bind_policy.specs.Moments.{some_asks}
+use Rattle.kq_model.specs.Moments.{some_asks}
 use Rattle.kq_bind_policy.proofs.moments.+moments.Given as goal
 use Rattle.kq_expr.specs.Terms.{term_of, terms_of}
 

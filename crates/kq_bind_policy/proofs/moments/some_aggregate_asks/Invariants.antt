@@ -1,6 +1,6 @@
 use Rattle.std.proofs.Common.{◌≡◌, drop, map}
 use Rattle.std.specs.List.{list_any}
-use Rattle.kq_bind_policy.specs.Moments.{aggregate_asks}
+use Rattle.kq_model.specs.Moments.{aggregate_asks}
 use Rattle.kq_bind_policy.proofs.moments.some_aggregate_asks.Given as goal
 use Rattle.kq_plan.specs.Plans.{aggregating_of}
 

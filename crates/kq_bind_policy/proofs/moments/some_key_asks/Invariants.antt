@@ -1,6 +1,6 @@
 use Rattle.std.proofs.Common.{◌≡◌, drop, map}
 use Rattle.std.specs.List.{list_any}
-use Rattle.kq_bind_policy.specs.Moments.{key_asks}
+use Rattle.kq_model.specs.Moments.{key_asks}
 use Rattle.kq_bind_policy.proofs.moments.some_key_asks.Given as goal
 use Rattle.kq_plan.specs.Plans.{sorting_of}
 

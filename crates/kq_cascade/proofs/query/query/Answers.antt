@@ -1,5 +1,5 @@
 use Rattle.std.proofs.Common.{subst, ◌<◌, length, arith}
-use Rattle.kq_cascade.specs.Derived.{gave_too_many}
+use Rattle.kq_model.specs.Derived.{gave_too_many}
 use Rattle.kq_cascade.specs.Queried.{Answers}
 use Rattle.kq_cascade.proofs.Querying.{Queried-err}
 use Rattle.kq_cascade.proofs.query.query.Goals as goal

@@ -1,5 +1,5 @@
 use Rattle.std.proofs.Common.{◌≡◌, List, Option, length}
-use Rattle.kq_cascade.specs.declared.entry.Due.{Due}
+use Rattle.kq_model.specs.declared.policy.Due.{Due}
 use Rattle.kq_cascade.specs.declared.stack.Frame.{Frame}
 use Rattle.kq_cascade.specs.Steps.{IsLaid, Settles, state_of}
 use Rattle.kq_cascade.proofs.progress.Progress.next.Given as goal

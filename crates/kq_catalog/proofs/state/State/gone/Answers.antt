@@ -1,5 +1,4 @@
-use Rattle.std.proofs.Common.{◌≡◌, ℕ, List, ◌∷◌, drop, false, length, slice_index_or, ap, sym, ◌∙◌, arith}
-use Rattle.kq_catalog.specs.Merges.{comes_first}
+use Rattle.std.proofs.Common.{◌≡◌, ℕ, List, ◌∷◌, drop, slice_index_or, ap, sym, ◌∙◌}
 use Rattle.kq_catalog.proofs.Merged.{first_id, gone_now, table_stands}
 use Rattle.kq_catalog.proofs.state.State.gone.Goals as goal
 

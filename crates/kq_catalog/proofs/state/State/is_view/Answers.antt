@@ -1,6 +1,5 @@
-use Rattle.std.proofs.Common.{◌≡◌, ◌∙◌, List, ℕ, ap, subst}
+use Rattle.std.proofs.Common.{◌≡◌, ◌∙◌, ap, subst}
 use Rattle.std.specs.Option.{is_some}
-use Rattle.kq_names.specs.Places.{place_of}
 use Rattle.kq_model.specs.History.{log, names_of_views, views}
 use Rattle.kq_model.specs.Names.{is_among}
 use Rattle.kq_catalog.specs.Seen.{CatalogView, Sound, hist}

@@ -1,4 +1,4 @@
-use Rattle.std.proofs.Common.{◌≡◌, ◌+◌, Option, None, length, ◌++◌, ◌∷◌, [], refl, ap, sym, ◌∙◌, subst, arith}
+use Rattle.std.proofs.Common.{◌≡◌, ◌+◌, ℕ, Option, None, length, ◌++◌, ◌∷◌, [], refl, ap, sym, ◌∙◌, subst, arith}
 use Rattle.std.specs.Option.{IfSome}
 use Rattle.kq_names.specs.Places.{place_of}
 use Rattle.kq_model.specs.declared.event.Commit.{Commit}
@@ -7,16 +7,18 @@ use Rattle.kq_model.specs.declared.event.Operation.TheVariants as operation
 use Rattle.kq_model.specs.Edits.{FitAll, edits_of}
 use Rattle.kq_model.specs.History.{log, cursor as cursor_of}
 use Rattle.kq_model.specs.Lawful.{LawfulCommit}
+use Rattle.kq_model.specs.Policies.{noted_by, policies_with}
 use Rattle.kq_model.specs.Records.{made_in}
-use Rattle.kq_model.proofs.Bounded.{one_made}
+use Rattle.kq_model.proofs.Bounded.{few_made_by}
 use Rattle.kq_model.specs.Tagged.{is_tagged_by}
 use Rattle.kq_tagged.specs.Index.{Adds}
 use Rattle.kq_catalog.specs.Edits.{IsPlan, edits_by}
 use Rattle.kq_catalog.specs.Held.{tables_in}
 use Rattle.kq_catalog.specs.Intents.{commit_of, event_by, view_by}
+use Rattle.kq_catalog.specs.Policies.{SetsStanding}
 use Rattle.kq_catalog.specs.Seen.{CatalogView, Sound, hist}
 use Rattle.kq_catalog.specs.Views.{HeldView, names_held, with_new}
-use Rattle.kq_catalog.proofs.Standing.{bounded, made_few, changes_fit, Holds-push}
+use Rattle.kq_catalog.proofs.Standing.{bounded, changes_fit, count_policies, made_few, sets_standing, Holds-push}
 use Rattle.kq_catalog.proofs.Viewing.{count_views, new_name}
 use Rattle.kq_catalog.proofs.state.State.with_event.Goals as goal
 
@@ -28,9 +30,22 @@ with_all-requires c =
     let plan : IsPlan (cursor_of (hist v) + 1) (1 + made_in (hist v)) c.args.intent c.in_ok-commit.field-0 = c.in_ok-commit.ensures in
     subst (λ (w : CatalogView). FitAll (tables_in w.held) (edits_by cs)) (sym c.self.view_is) (changes_fit v (cursor_of (hist v) + 1) (1 + made_in (hist v)) (commit_of c.args.intent) cs sound c.requires.lawful plan.edits)
 
+pub with_commit-requires-clause-stands : goal.with_commit-requires-clause-stands
+with_commit-requires-clause-stands c =
+    let v : CatalogView = record { limits = c.self.inside.limits; history = c.self.inside.journal; held = c.self.inside.tables; policies = c.self.inside.policies; views = c.self.inside.views; failures = c.self.inside.failures } in
+    let lawful : LawfulCommit v.limits (log (hist v)) (commit_of c.args.intent) = subst (λ (w : CatalogView). LawfulCommit w.limits (log (hist w)) (commit_of c.args.intent)) (sym c.self.view_is) c.requires.lawful in
+    let plan : IsPlan (cursor_of (hist c.args.self.now) + 1) (1 + made_in (hist c.args.self.now)) c.args.intent c.in_ok-commit.field-0 = c.in_ok-commit.ensures in
+    subst (SetsStanding (length v.policies)) (sym plan.is) (sets_standing v (commit_of c.args.intent) c.self.invariant.sound lawful)
+
+pub with_commit-requires-clause-few : goal.with_commit-requires-clause-few
+with_commit-requires-clause-few c =
+    let v : CatalogView = record { limits = c.self.inside.limits; history = c.self.inside.journal; held = c.self.inside.tables; policies = c.self.inside.policies; views = c.self.inside.views; failures = c.self.inside.failures } in
+    let b = bounded v c.self.invariant.sound in
+    omega (arith, count_policies v c.self.invariant.sound, b.few_tables, v.limits.few_tables)
+
 pub with_new-requires-clause-new : goal.with_new-requires-clause-new
 with_new-requires-clause-new c =
-    let v : CatalogView = record { limits = c.self.inside.limits; history = c.self.inside.journal; held = c.self.inside.tables; views = c.self.inside.views } in
+    let v : CatalogView = record { limits = c.self.inside.limits; history = c.self.inside.journal; held = c.self.inside.tables; policies = c.self.inside.policies; views = c.self.inside.views; failures = c.self.inside.failures } in
     let lawful : LawfulCommit v.limits (log (hist v)) (commit_of c.args.intent) = subst (λ (w : CatalogView). LawfulCommit w.limits (log (hist w)) (commit_of c.args.intent)) (sym c.self.view_is) c.requires.lawful in
     let plan : IsPlan (cursor_of (hist c.args.self.now) + 1) (1 + made_in (hist c.args.self.now)) c.args.intent c.in_ok-commit.field-0 = c.in_ok-commit.ensures in
     subst (λ (o : Option HeldView). IfSome o (λ (x : HeldView). place_of x.view.name (names_held v.views) ≡ None)) (sym plan.view)
@@ -38,35 +53,41 @@ with_new-requires-clause-new c =
 
 pub with_new-requires-clause-few : goal.with_new-requires-clause-few
 with_new-requires-clause-few c =
-    let v : CatalogView = record { limits = c.self.inside.limits; history = c.self.inside.journal; held = c.self.inside.tables; views = c.self.inside.views } in
+    let v : CatalogView = record { limits = c.self.inside.limits; history = c.self.inside.journal; held = c.self.inside.tables; policies = c.self.inside.policies; views = c.self.inside.views; failures = c.self.inside.failures } in
     let b = bounded v c.self.invariant.sound in
     omega (arith, count_views (hist v) v.views c.self.invariant.sound.views, b.few_views, v.limits.few_views)
 
 pub overflow_add-self-inside : goal.overflow_add-self-inside
 overflow_add-self-inside c =
-    let v : CatalogView = record { limits = c.self.inside.limits; history = c.self.inside.journal; held = c.self.inside.tables; views = c.self.inside.views } in
+    let v : CatalogView = record { limits = c.self.inside.limits; history = c.self.inside.journal; held = c.self.inside.tables; policies = c.self.inside.policies; views = c.self.inside.views; failures = c.self.inside.failures } in
+    let b = bounded v c.self.invariant.sound in
+    omega (arith, c.self.invariant.count, b.few_commits, c.self.inside.limits.few_commits)
+
+pub overflow_add-self-inside-2 : goal.overflow_add-self-inside-2
+overflow_add-self-inside-2 c =
+    let v : CatalogView = record { limits = c.self.inside.limits; history = c.self.inside.journal; held = c.self.inside.tables; policies = c.self.inside.policies; views = c.self.inside.views; failures = c.self.inside.failures } in
     let b = bounded v c.self.invariant.sound in
     omega (arith, c.self.invariant.count, b.few_commits, c.self.inside.limits.few_commits)
 
 pub overflow_add-result : goal.overflow_add-result
 overflow_add-result c =
-    let v : CatalogView = record { limits = c.self.inside.limits; history = c.self.inside.journal; held = c.self.inside.tables; views = c.self.inside.views } in
+    let v : CatalogView = record { limits = c.self.inside.limits; history = c.self.inside.journal; held = c.self.inside.tables; policies = c.self.inside.policies; views = c.self.inside.views; failures = c.self.inside.failures } in
     let b = bounded v c.self.invariant.sound in
     omega (arith, c.self.invariant.count, b.few_commits, c.self.inside.limits.few_commits)
 
 pub overflow_add-result-2 : goal.overflow_add-result-2
 overflow_add-result-2 c =
     let now = c.args.self.now in
-    let v : CatalogView = record { limits = c.self.inside.limits; history = c.self.inside.journal; held = c.self.inside.tables; views = c.self.inside.views } in
+    let v : CatalogView = record { limits = c.self.inside.limits; history = c.self.inside.journal; held = c.self.inside.tables; policies = c.self.inside.policies; views = c.self.inside.views; failures = c.self.inside.failures } in
     let few = made_few v c.self.invariant.sound in
     let plan : IsPlan (cursor_of (hist now) + 1) (1 + made_in (hist now)) c.args.intent c.in_ok-commit.field-0 = c.in_ok-commit.ensures in
     let place = ap (λ (w : CatalogView). length (hist w)) c.self.view_is in
-    omega (arith, c.self.invariant.made_count, few, place, c.place-place.ensures.place, c.place-place.ensures.small, plan.made, one_made now.limits (log (hist now)) (commit_of c.args.intent) c.requires.lawful)
+    omega (arith, c.self.invariant.made_count, few, place, c.place-place.ensures.place, c.place-place.ensures.small, plan.made, few_made_by now.limits (log (hist now)) (commit_of c.args.intent) c.requires.lawful)
 
 pub invariant_of-result : goal.invariant_of-result
 invariant_of-result c =
     let now = c.args.self.now in
-    let v : CatalogView = record { limits = c.self.inside.limits; history = c.self.inside.journal; held = c.self.inside.tables; views = c.self.inside.views } in
+    let v : CatalogView = record { limits = c.self.inside.limits; history = c.self.inside.journal; held = c.self.inside.tables; policies = c.self.inside.policies; views = c.self.inside.views; failures = c.self.inside.failures } in
     let commit = commit_of c.args.intent in
     let made = c.in_ok-commit.field-0 in
     let cs = made.changes.items in
@@ -83,5 +104,8 @@ invariant_of-result c =
     subst (λ (k : Commit). Adds index (λ t tag. is_tagged_by t tag k) (c.self.inside.cursor + 1) tags) plan.is c.in_ok-tags.ensures in
     let views : c.in_ok-views.views ≡ with_new v.views (view_by (cursor_of (hist v) + 1) c.args.intent) =
     c.in_ok-views.ensures ∙ ap (with_new v.views) plan.view ∙ ap (λ (w : CatalogView). with_new v.views (view_by (cursor_of (hist w) + 1) c.args.intent)) (sym c.self.view_is) in
-    rw (journal, c.in_ok-tables.ensures, views)
+    let policies : c.in_ok-policies.policies ≡ policies_with commit v.policies = c.in_ok-policies.ensures ∙ ap (λ (k : Commit). policies_with k v.policies) plan.is in
+    let failures : c.in_ok-failures.failures ≡ v.failures ++ noted_by (cursor_of (hist v) + 1) commit =
+    c.in_ok-failures.ensures ∙ ap (λ (k : Commit). v.failures ++ noted_by (c.self.inside.cursor + 1) k) plan.is ∙ ap (λ (n : ℕ). v.failures ++ noted_by (n + 1) commit) c.self.invariant.count in
+    rw (journal, c.in_ok-tables.ensures, policies, views, failures)
     (Holds-push v c.self.inside.cursor c.self.inside.made made.made (event_by c.args.by c.args.intent) c.args.intent cs index tags c.self.invariant lawful c.requires.begins refl edits plan.made adds)

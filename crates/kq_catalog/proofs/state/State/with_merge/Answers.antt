@@ -1,4 +1,4 @@
-use Rattle.std.proofs.Common.{◌≡◌, ◌<◌, ◌≤◌, ◌+◌, ◌++◌, ◌∷◌, ℕ, List, [], length, ap, sym, ◌∙◌, subst, arith}
+use Rattle.std.proofs.Common.{◌≡◌, ◌+◌, ◌++◌, ◌∷◌, ℕ, [], length, ap, sym, ◌∙◌, subst, arith}
 use Rattle.std.specs.Arc.{arc_value}
 use Rattle.kq_model.specs.declared.event.Event.{Event}
 use Rattle.kq_model.specs.declared.event.Operation.TheVariants as operation
@@ -6,23 +6,22 @@ use Rattle.kq_model.specs.Edits.{changed}
 use Rattle.kq_model.specs.Records.{made_in, small_items}
 use Rattle.kq_extent.specs.Seen.{ExtentView}
 use Rattle.kq_catalog.specs.Edits.{with_merged}
-use Rattle.kq_catalog.specs.Held.{HeldTable}
 use Rattle.kq_catalog.specs.Merges.{IsInFront, WasPicked, merge_event}
-use Rattle.kq_catalog.specs.Seen.{CatalogView, Sound, hist}
+use Rattle.kq_catalog.specs.Seen.{CatalogView, hist}
 use Rattle.kq_catalog.proofs.Merged.{Holds-merge, merged_now, table_stands}
 use Rattle.kq_catalog.proofs.Standing.{count_held, made_few}
 use Rattle.kq_catalog.proofs.state.State.with_merge.Goals as goal
 
 pub overflow_add-new : goal.overflow_add-new
 overflow_add-new c =
-    let v : CatalogView = record { limits = c.self.inside.limits; history = c.self.inside.journal; held = c.self.inside.tables; views = c.self.inside.views } in
+    let v : CatalogView = record { limits = c.self.inside.limits; history = c.self.inside.journal; held = c.self.inside.tables; policies = c.self.inside.policies; views = c.self.inside.views; failures = c.self.inside.failures } in
     let few = made_few v c.self.invariant.sound in
     let place = ap (λ (w : CatalogView). length (hist w)) c.self.view_is in
     omega (arith, c.self.invariant.made_count, few, place, c.place-place.ensures.place, c.place-place.ensures.small)
 
 pub with_merged-requires-clause-stands : goal.with_merged-requires-clause-stands
 with_merged-requires-clause-stands c =
-    let v : CatalogView = record { limits = c.self.inside.limits; history = c.self.inside.journal; held = c.self.inside.tables; views = c.self.inside.views } in
+    let v : CatalogView = record { limits = c.self.inside.limits; history = c.self.inside.journal; held = c.self.inside.tables; policies = c.self.inside.policies; views = c.self.inside.views; failures = c.self.inside.failures } in
     let m = c.args.merging in
     let picked : WasPicked (hist v) m = subst (λ (w : CatalogView). WasPicked (hist w) m) (sym c.self.view_is) c.requires.picked in
     let stands = table_stands v m c.self.invariant.sound picked in
@@ -30,7 +29,7 @@ with_merged-requires-clause-stands c =
 
 pub with_merged-requires-clause-some : goal.with_merged-requires-clause-some
 with_merged-requires-clause-some c = λ h at.
-    let v : CatalogView = record { limits = c.self.inside.limits; history = c.self.inside.journal; held = c.self.inside.tables; views = c.self.inside.views } in
+    let v : CatalogView = record { limits = c.self.inside.limits; history = c.self.inside.journal; held = c.self.inside.tables; policies = c.self.inside.policies; views = c.self.inside.views; failures = c.self.inside.failures } in
     let m = c.args.merging in
     let picked : WasPicked (hist v) m = subst (λ (w : CatalogView). WasPicked (hist w) m) (sym c.self.view_is) c.requires.picked in
     let front : IsInFront (small_items (hist v) m.table) m.old = subst (λ (w : CatalogView). IsInFront (small_items (hist w) m.table) m.old) (sym c.self.view_is) c.requires.front in
@@ -40,7 +39,7 @@ with_merged-requires-clause-some c = λ h at.
 pub invariant_of-result-2 : goal.invariant_of-result-2
 invariant_of-result-2 c =
     let now = c.args.self.now in
-    let v : CatalogView = record { limits = c.self.inside.limits; history = c.self.inside.journal; held = c.self.inside.tables; views = c.self.inside.views } in
+    let v : CatalogView = record { limits = c.self.inside.limits; history = c.self.inside.journal; held = c.self.inside.tables; policies = c.self.inside.policies; views = c.self.inside.views; failures = c.self.inside.failures } in
     let m = c.args.merging in
     let picked : WasPicked (hist v) m = subst (λ (w : CatalogView). WasPicked (hist w) m) (sym c.self.view_is) c.requires.picked in
     let front : IsInFront (small_items (hist v) m.table) m.old = subst (λ (w : CatalogView). IsInFront (small_items (hist w) m.table) m.old) (sym c.self.view_is) c.requires.front in
@@ -53,7 +52,7 @@ invariant_of-result-2 c =
     let tables : c.tables.inside.held ≡ changed (with_merged (length m.old) (e (1 + made_in (hist v)))) m.table v.held =
     c.tables.view_is ∙ c.in_ok-tables.ensures ∙ ap (λ (n : ℕ). changed (with_merged n (arc_value c.in_ok-extent.extent)) m.table v.held) c.len.ensures
     ∙ ap (λ (x : ExtentView). changed (with_merged (length m.old) x) m.table v.held) extent in
-    rw (journal, tables, c.in_ok-share.ensures, c.in_ok-share-2.ensures) (Holds-merge v c.self.inside.cursor c.self.inside.made c.args.by m c.self.inside.tags c.self.invariant picked front)
+    rw (journal, tables, c.in_ok-share.ensures, c.in_ok-share-2.ensures, c.in_ok-share-3.ensures, c.in_ok-share-4.ensures) (Holds-merge v c.self.inside.cursor c.self.inside.made c.args.by m c.self.inside.tags c.self.invariant picked front)
 
 pub returns-clause-history : goal.returns-clause-history
 returns-clause-history c =

@@ -1,4 +1,4 @@
-use Rattle.std.proofs.Common.{◌≡◌, ◌∙◌, slice_set, slice_get, Some, refl, ap, sym, subst, List}
+use Rattle.std.proofs.Common.{◌≡◌, ◌∙◌, slice_set, slice_get, refl, ap, sym, List}
 use Rattle.std.specs.Arc.{arc_value}
 use Rattle.kq_model.specs.Edits.{changed}
 use Rattle.kq_catalog.specs.Edits.{with_merged}

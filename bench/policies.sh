@@ -1,0 +1,55 @@
+#!/usr/bin/env bash
+# Puts batches of 1000 rows into a table: without a policy, through one of a filter and a projection, and through one that joins each batch with a table of
+# 1000 rows. Tells the time a batch, beside that without a policy, and that of the last ten batches beside the first ten behind the tenth. The program has to
+# be built (.ci/run does it).
+set -eu
+top=$(cd "$(dirname "$0")/.." && pwd)
+python3 - "$top/crates/kq_console/out/kq_console" "${1:-1000}" <<'PY'
+import statistics, subprocess, sys, time
+
+program, batches = sys.argv[1], int(sys.argv[2])
+rows = 1000
+policies = {
+    "no policy": None,
+    "filter and projection": "E | where v % 2 == 0 | project k, w = v + 1",
+    "lookup join": "E | join kind=leftouter (D) on k | project k, w",
+}
+
+
+def measured(query):
+    child = subprocess.Popen([program], stdin=subprocess.PIPE, stdout=subprocess.PIPE)
+
+    def ask(text):
+        begin = time.perf_counter()
+        child.stdin.write((text + "\n\nprint end = 424242\n\n").encode())
+        child.stdin.flush()
+        for said in child.stdout:
+            if b"424242\n" in said:
+                return time.perf_counter() - begin
+        sys.exit("the program ended")
+
+    ask(".create table E (k:long, v:long)")
+    ask(".create table D (k:long, w:long)")
+    ask(".create table T (k:long, w:long)")
+    ask(".ingest inline into table D <|\n" + "".join(f"{k},{k * 3}\n" for k in range(rows)))
+    if query:
+        ask(f""".alter table T policy update '[{{"Source":"E","Query":"{query}","IsTransactional":true}}]'""")
+    texts = [
+        ".ingest inline into table E <|\n" + "".join(f"{i},{i * 7919 + at}\n" for i in range(rows))
+        for at in range(batches)
+    ]
+    took = [ask(text) for text in texts]
+    child.stdin.close()
+    child.wait()
+    return took
+
+
+print(f"{'policy':>22} {'ms a batch':>11} {'of none':>8} {'last of first':>14}")
+none = None
+for name, query in policies.items():
+    took = measured(query)
+    middle = statistics.median(took)
+    none = none or middle
+    growth = statistics.median(took[-50:]) / statistics.median(took[10:60])
+    print(f"{name:>22} {middle * 1000:>11.3f} {middle / none:>8.2f} {growth:>14.2f}")
+PY

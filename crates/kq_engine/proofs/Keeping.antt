@@ -1,0 +1,155 @@
+-- What comes of a batch by itself, and what is kept of an offer.
+use Rattle.std.proofs.Common.{◌≡◌, ◌⊎◌, ◌&&◌, ◌||◌, not, ℕ, Bool, true, false, cond, List, [], ◌∷◌, length, nat_eq, Option, Some, None, Result, Ok, Err, IfOk, inl, inr, refl, ap, sym, ◌∙◌, subst}
+use Rattle.std.specs.List.{filter, slice_get}
+use Rattle.std.proofs.lemmas.Bool.{and_parts}
+use Rattle.kq_cascade.specs.declared.running.CascadeFault.{CascadeFault}
+use Rattle.kq_cascade.specs.declared.running.CascadeFault.TheVariants as cascades
+use Rattle.kq_cascade.specs.declared.running.Derived.{Derived}
+use Rattle.kq_cascade.specs.Makes.{Makes, RefusesBy, among}
+use Rattle.kq_cascade.proofs.Listing.{left-enabled}
+use Rattle.kq_catalog.specs.Intents.{commit_of}
+use Rattle.kq_model.specs.declared.batch.Batch.{Batch}
+use Rattle.kq_model.specs.declared.event.Commit.{Commit}
+use Rattle.kq_model.specs.declared.event.Commit.TheVariants as commits
+use Rattle.kq_model.specs.declared.limits.Limits.{Limits}
+use Rattle.kq_model.specs.declared.policy.Due.{Due as Entering}
+use Rattle.kq_model.specs.Beside.{DueGives}
+use Rattle.kq_model.specs.Derived.{Cascade, Comes, Failed, Follows, Made, Queries, TooMany, after, ended, first, goes_on, no_more, too_many}
+use Rattle.kq_model.specs.Force.{Rules, in_force}
+use Rattle.kq_model.specs.History.{Log, Numbered, tables}
+use Rattle.kq_model.specs.Policies.{dues, policies, rules}
+use Rattle.kq_model.specs.Tagged.{least_tagged}
+use Rattle.kq_model.proofs.Wider.{Comes-wider}
+use Rattle.kq_reply.specs.declared.refusal.Refusal.{Refusal}
+use Rattle.kq_reply.specs.declared.refusal.Refusal.TheVariants as refusals
+use Rattle.kq_engine.specs.declared.work.Barring.{Barring}
+use Rattle.kq_engine.specs.declared.work.Found.{Found}
+use Rattle.kq_engine.specs.declared.work.Found.TheVariants as founds
+use Rattle.kq_engine.specs.declared.work.Offer.{Offer}
+use Rattle.kq_engine.specs.Due.{Due, Commits, IsBatchDue, IsCascadeDue, IsTaggedDue, counted, refused, unless_tagged}
+use Rattle.kq_engine.specs.Found.{Finds, IsKept, IsOfferOf, OffersCommit, barred_at, is_alone, is_source, is_widened_at, refusal_by_cascade, stands_alone}
+
+-- ---- batches that come alone
+
+none_left : (table : ℕ) (ds : List Entering) → is_source table ds ≡ false → filter (λ (d : Entering). nat_eq d.source table) ds ≡ []
+none_left table [] e = refl
+none_left table (d ∷ ds) e = by_test (nat_eq d.source table) (none_left table ds) e
+  where
+    by_test : (b : Bool) → (is_source table ds ≡ false → filter (λ (d : Entering). nat_eq d.source table) ds ≡ []) → (b || is_source table ds) ≡ false
+        → cond b (d ∷ filter (λ (d : Entering). nat_eq d.source table) ds) (filter (λ (d : Entering). nat_eq d.source table) ds) ≡ []
+    by_test true rest e = cc
+    by_test false rest e = rest e
+
+not_so : (b : Bool) → not b ≡ true → b ≡ false
+not_so true e = cc
+not_so false e = refl
+
+none_in_force : (l : Log) (table : ℕ) → is_alone l table ≡ true → in_force (policies l) table ≡ []
+none_in_force l table alone = left-enabled (policies l) table ∙ none_left table (dues l) (not_so (is_source table (dues l)) alone)
+
+nothing_follows : (limit : ℕ) (r : Rules) (q : Queries) (b : Batch) (ds : List Entering) (n : ℕ) (o : Cascade) (m : ℕ) → ds ≡ [] → Follows limit r q b ds n o m → o ≡ Made [] []
+nothing_follows limit r q b _ n _ _ none no_more = refl
+nothing_follows limit r q b _ n _ _ none (too_many full) = cc
+nothing_follows limit r q b _ n o m none (ended room leaves end) = cc
+nothing_follows limit r q b _ n _ k none (goes_on room leaves open_ follows) = cc
+
+abbrev IsAlone : Batch → Cascade → Type 0
+IsAlone b (Made batches failures) = (batches ≡ b ∷ []) × (failures ≡ [])
+IsAlone b (Failed target cause) = ⊥
+IsAlone b TooMany = ⊥
+
+comes_alone : (limit : ℕ) (r : Rules) (q : Queries) (b : Batch) (n : ℕ) (o : Cascade) (m : ℕ) → in_force r.policies b.table ≡ [] → Comes limit r q b n o m → IsAlone b o
+comes_alone limit r q b n _ m none (first {o = o} follows) =
+    subst (λ (x : Cascade). IsAlone b (after (b ∷ []) [] x)) (sym (nothing_follows limit r q b (in_force r.policies b.table) n o m none follows)) (refl, refl)
+
+-- a batch for which no entry runs is due by itself, or skipped
+alone_due : (limits : Limits) (l : Log) (own : Batch) (c : Commit) (o : Option ℕ) → is_alone l own.table ≡ true → c ≡ commits.Ingest (own ∷ []) [] → IsTaggedDue limits l own o (unless_tagged o (counted limits l c))
+alone_due limits l own c (Some cursor) alone is = refl
+alone_due limits l own c None alone is = record {
+  cascade = Made (own ∷ []) [];
+  derived = record {
+    queries = 0;
+    comes = first (subst (λ (ds : List Entering). Follows limits.cascade (rules l) (DueGives l) own ds 0 (Made [] []) 0) (sym (none_in_force l own.table alone)) no_more);
+  };
+  due_so = ap (counted limits l) is;
+}
+
+-- ---- what a cascade answers
+
+-- what it made is due
+pub made_due : (limits : Limits) (l : Log) (own : Batch) (d : Derived) (due : Due) → Makes limits.cascade (rules l) (DueGives l) own d → due ≡ counted limits l (commits.Ingest d.batches.items d.failures) → IsCascadeDue limits l own due
+made_due limits l own d due makes is = record {
+  cascade = Made d.batches.items d.failures;
+  derived = record {
+    queries = length d.asked.items;
+    comes = Comes-wider limits.cascade (rules l) (among d.asked.items (DueGives l)) (DueGives l) (λ e rows given both. both.1) own 0 (Made d.batches.items d.failures) (length d.asked.items) makes.comes;
+  };
+  due_so = is;
+}
+
+-- so is its fault, or memory was wanting
+pub fault_due : (limits : Limits) (l : Log) (own : Batch) (fault : CascadeFault) → RefusesBy limits.cascade (rules l) (DueGives l) own fault
+    → (refusal_by_cascade l fault ≡ refusals.Memory) ⊎ IsCascadeDue limits l own (refused (refusal_by_cascade l fault))
+fault_due limits l own (cascades.PolicyFailed target cause) by = inr (record { cascade = Failed target cause; derived = by; due_so = refl })
+fault_due limits l own (cascades.Full limit) by = inr (record { cascade = TooMany; derived = by.1; due_so = ap (λ (n : ℕ). refused (refusals.Full n)) by.0 })
+fault_due limits l own cascades.Memory by = inl refl
+
+-- what is found in one way is found in each that follows from it
+pub Finds-weaker : (P Q : Due → Type 0) (result : Result Found Refusal) → ((due : Due) → P due → Q due) → Finds P result → Finds Q result
+Finds-weaker P Q (Ok (founds.Says reply)) so finds = so _ finds
+Finds-weaker P Q (Ok (founds.Commits offer)) so finds = so _ finds
+Finds-weaker P Q (Ok (founds.Merges merging)) so finds = absurd finds
+Finds-weaker P Q (Ok (founds.Folds folding)) so finds = absurd finds
+Finds-weaker P Q (Err r) so (inl memory) = inl memory
+Finds-weaker P Q (Err r) so (inr due) = inr (so _ due)
+
+-- no tag bars the batch
+pub untagged_due : (limits : Limits) (l : Log) (own : Batch) (barring : List (List ℕ)) (due : Due) → least_tagged l own.table barring ≡ None → IsCascadeDue limits l own due → IsBatchDue limits l own barring due
+untagged_due limits l own barring due none is = subst (λ (o : Option ℕ). IsTaggedDue limits l own o due) (sym none) is
+
+-- ---- what is kept
+
+record StandsAlone (l : Log) (b : Barring) : Type 0 where
+  then_so : b.alone ≡ true
+  now_so : is_alone l b.table ≡ true
+  unwidened : is_widened_at (slice_get (tables l) b.table) b.widened ≡ true
+
+stands_so : (l : Log) (b : Barring) → stands_alone l b ≡ true → StandsAlone l b
+stands_so l b e =
+    let both = and_parts (b.alone && is_alone l b.table) (is_widened_at (slice_get (tables l) b.table) b.widened) e in
+    let others = and_parts b.alone (is_alone l b.table) both.0 in
+    record { then_so = others.0; now_so = others.1; unwidened = both.1 }
+
+pub stands_unwidened : (l : Log) (b : Barring) → stands_alone l b ≡ true → is_widened_at (slice_get (tables l) b.table) b.widened ≡ true
+stands_unwidened l b e = (stands_so l b e).unwidened
+
+-- the offer of all that comes of a batch, found where no tag bars it
+offer-kept : (limits : Limits) (l : Log) (table : Numbered) (own : Batch) (b : Barring) (d : Derived) (offer : Offer) → own.table ≡ b.table → b.table ≡ table.number → b.widened ≡ table.table.widened → b.at ≡ length l → b.alone ≡ is_alone l b.table
+    → least_tagged l b.table b.tags ≡ None → Makes limits.cascade (rules l) (DueGives l) own d → OffersCommit limits l (commits.Ingest d.batches.items d.failures) (Some b) (founds.Commits offer)
+    → IsKept limits l table (λ (later : Log) (due : Due). IsBatchDue limits later own b.tags due) offer
+offer-kept limits l table own b d offer into number widened at alone_then none makes offered = record {
+  barring = b;
+  barred = offered.1;
+  number = number;
+  widened = widened;
+  at = at;
+  here = let c = commit_of offer.intent in
+      ap (λ (u : Option Barring). unless_tagged (barred_at l u) (counted limits l c)) offered.1 ∙ ap (λ (o : Option ℕ). unless_tagged o (counted limits l c)) none
+      ∙ ap (λ (room : Bool). cond room (Commits c) (refused (refusals.Full limits.commits))) offered.2;
+  alone = λ later stands.
+      let so = stands_so later b stands in
+      let then_none : in_force (policies l) own.table ≡ [] = none_in_force l own.table (ap (is_alone l) into ∙ sym alone_then ∙ so.then_so) in
+      let by_itself = comes_alone limits.cascade (rules l) (among d.asked.items (DueGives l)) own 0 (Made d.batches.items d.failures) (length d.asked.items) then_none makes.comes in
+      let is : commit_of offer.intent ≡ commits.Ingest (own ∷ []) [] = offered.0 ∙ ap (λ (bs : List Batch). commits.Ingest bs d.failures) by_itself.0 ∙ ap (commits.Ingest (own ∷ [])) by_itself.1 in
+      let due = alone_due limits later own (commit_of offer.intent) (least_tagged later own.table b.tags) (ap (is_alone later) into ∙ so.now_so) is in
+      subst (λ (u : Option Barring). IsBatchDue limits later own b.tags (unless_tagged (barred_at later u) (counted limits later (commit_of offer.intent)))) (sym offered.1)
+      (subst (λ (t : ℕ). IsBatchDue limits later own b.tags (unless_tagged (least_tagged later t b.tags) (counted limits later (commit_of offer.intent)))) into due);
+}
+
+pub Offers-kept : (limits : Limits) (l : Log) (table : Numbered) (own : Batch) (b : Barring) (d : Derived) (result : Result Found Refusal) → own.table ≡ b.table → b.table ≡ table.number → b.widened ≡ table.table.widened → b.at ≡ length l → b.alone ≡ is_alone l b.table
+    → least_tagged l b.table b.tags ≡ None → Makes limits.cascade (rules l) (DueGives l) own d → IfOk result (OffersCommit limits l (commits.Ingest d.batches.items d.failures) (Some b)) → IfOk result (IsOfferOf limits l table own b.tags)
+Offers-kept limits l table own b d (Ok (founds.Says reply)) into number widened at alone_then none makes offered = tt
+Offers-kept limits l table own b d (Ok (founds.Commits offer)) into number widened at alone_then none makes offered = offer-kept limits l table own b d offer into number widened at alone_then none makes offered
+Offers-kept limits l table own b d (Ok (founds.Merges merging)) into number widened at alone_then none makes offered = absurd offered
+Offers-kept limits l table own b d (Ok (founds.Folds folding)) into number widened at alone_then none makes offered = absurd offered
+Offers-kept limits l table own b d (Err r) into number widened at alone_then none makes offered = offered

@@ -1,0 +1,53 @@
+// What of an offer stays due.
+ghost use Rattle.std.specs.Prelude.{◌≡◌};
+ghost use Rattle.kq_engine.specs.Found.{is_alone as is_alone_by, is_as_read as is_as_read_by, is_source as is_source_by, is_widened_at, stands_alone as stands_alone_by};
+ghost use Rattle.kq_model.specs.History.{log, tables};
+ghost use Rattle.std.specs.List.{slice_get};
+
+use crate::work::Barring;
+use kq_catalog::Snapshot;
+use kq_model::Due;
+
+/// Whether what was found for rows is what would be found now.
+pub(crate) fn is_as_read(snapshot: &Snapshot, unless: &Option<Barring>) -> bool
+    ensures { result ≡ is_as_read_by (log snapshot.now.history) unless.now }
+{
+    match unless {
+        Some(barring) => snapshot.cursor() == barring.at || stands_alone(snapshot, barring),
+        None => true,
+    }
+}
+
+// The rows come alone, then as now, into a table that was not widened since.
+fn stands_alone(snapshot: &Snapshot, barring: &Barring) -> bool
+    ensures { result ≡ stands_alone_by (log snapshot.now.history) barring.now }
+{
+    barring.alone && is_alone(snapshot, barring.table) && is_unwidened(snapshot, barring)
+}
+
+fn is_unwidened(snapshot: &Snapshot, barring: &Barring) -> bool
+    ensures { result ≡ is_widened_at (slice_get (tables (log snapshot.now.history)) barring.now.table) barring.now.widened }
+{
+    match snapshot.table_at(barring.table) {
+        Some(table) => table.widened == barring.widened,
+        None => false,
+    }
+}
+
+/// Whether no entry in force runs for batches of the table.
+pub(crate) fn is_alone(snapshot: &Snapshot, table: u32) -> bool
+    ensures { result ≡ is_alone_by (log snapshot.now.history) table }
+{
+    !is_source(snapshot.dues(), table)
+}
+
+fn is_source(dues: &[Due], table: u32) -> bool
+    ensures { result ≡ is_source_by table dues.now }
+{
+    for due in dues {
+        if due.source == table {
+            return true;
+        }
+    }
+    false
+}

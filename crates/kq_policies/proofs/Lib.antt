@@ -1,0 +1,4 @@
+pub mod Cutting
+pub mod Reading
+pub mod Entries
+pub mod Records

@@ -1,0 +1,3 @@
+pub mod Over
+pub mod Reading
+pub mod World

@@ -1,0 +1,142 @@
+// The rows of a batch, beside the records of the tables.
+ghost use Rattle.std.specs.Prelude.{◌≡◌, All, IfOk, Some, length, slice_get, take};
+ghost use Rattle.kq_computed.specs.Computed.{Is};
+ghost use Rattle.kq_model.specs.Beside.{cut_to};
+ghost use Rattle.kq_model.specs.History.{log, tables};
+ghost use Rattle.kq_model.specs.Records.{rows_in, schema_of};
+ghost use Rattle.kq_value.specs.Same.{Same};
+ghost use Rattle.kq_value.specs.Typed.{HasTypes};
+ghost use Rattle.kq_policies.specs.Over.{GivesBeside};
+ghost use Rattle.kq_policies.specs.Reading.{IsFirstOf};
+
+use crate::cut::cut;
+use kq_catalog::Snapshot;
+use kq_computed::EvalFault;
+use kq_lent::Held;
+use kq_model::Table;
+use kq_pipe::Leaves;
+use kq_plan::{LeafKind, Plan};
+use kq_rows::Rows;
+use kq_value::{Field, Memory, Text};
+use std::alloc::Global;
+use std::marker::Model;
+
+/// The tables of a snapshot as a plan reads them over the rows of a batch of one of them, its source.
+#[derive(Drop)]
+pub(crate) struct Beside<'a> {
+    snapshot: &'a Snapshot,
+    source: u32,
+    rows: &'a Rows,
+    plan: &'a Plan,
+}
+
+impl<'a> Model for Beside<'a> {
+    ghost use Rattle.std.specs.Prelude.{All};
+    ghost use Rattle.std.specs.Coded.{codes};
+    ghost use Rattle.kq_value.specs.contracts.value.Value as cell;
+    ghost use Rattle.kq_expr.specs.contracts.expr.Expr as expr;
+    ghost use Rattle.kq_model.specs.History.{log};
+    ghost use Rattle.kq_model.specs.Records.{schema_of};
+    ghost use Rattle.kq_value.specs.Typed.{HasTypes};
+    ghost use Rattle.kq_policies.specs.World.{BesideView};
+
+    ghost Value = { BesideView };
+
+    ghost coded = { Prim.hlevel (codes, cell.the_row.coded, expr.the_row.coded) };
+
+    ghost view = { λ b. record { history = b.snapshot.now.history; source = b.source; rows = b.rows.now; plan = b.plan.now } };
+
+    ghost invariant = { λ b. All (HasTypes (schema_of (log b.snapshot.now.history) b.source)) b.rows.now };
+}
+
+impl<'a> Beside<'a> {
+    pub fn new(snapshot: &'a Snapshot, source: u32, rows: &'a Rows, plan: &'a Plan) -> Beside<'a>
+        requires { All (HasTypes (schema_of (log snapshot.now.history) source)) rows.now }
+        ensures { result ≡ record { history = snapshot.now.history; source = source; rows = rows.now; plan = plan.now } }
+    {
+        Beside {
+            snapshot,
+            source,
+            rows,
+            plan,
+        }
+    }
+}
+
+impl Leaves for Beside<'_> {
+    ghost use Rattle.kq_model.specs.Beside.{beside};
+    ghost use Rattle.kq_model.specs.History.{log};
+    ghost use Rattle.kq_plan.specs.Plans.{planned_of};
+    ghost use Rattle.kq_policies.specs.Reading.{known_as_read};
+
+    ghost known = { λ b. known_as_read (log b.history) (planned_of b.plan) };
+
+    ghost may_give = { λ b. beside (log b.history) b.source b.rows };
+
+    fn rows(
+        &self,
+        alloc: Global,
+        kind: LeafKind,
+        name: &Text,
+        columns: &[Field],
+    ) -> Result<Held, EvalFault> {
+        match kind {
+            LeafKind::Table => Ok(table_beside(
+                alloc,
+                self.snapshot,
+                self.source,
+                self.rows,
+                name,
+                columns,
+            )?),
+            LeafKind::View | LeafKind::Part => unreachable!(),
+        }
+    }
+}
+
+// The rows of a table under its first columns: those of the batch where it is the source, and else those of its records.
+fn table_beside(
+    alloc: Global,
+    snapshot: &Snapshot,
+    source: u32,
+    batch: &Rows,
+    name: &Text,
+    columns: &[Field],
+) -> Result<Held, Memory>
+    requires typed { All (HasTypes (schema_of (log snapshot.now.history) source)) batch.now }
+    requires first { IsFirstOf (log snapshot.now.history) name.now columns.now }
+    ensures { IfOk result (λ rows. GivesBeside (log snapshot.now.history) source batch.now name.now columns.now (Is rows)) }
+{
+    match snapshot.table(name) {
+        Some((number, table)) => {
+            if number == source {
+                Ok(Held::own(cut(alloc, batch, columns.len())?))
+            } else {
+                records_cut(alloc, snapshot, number, table, columns)
+            }
+        }
+        None => unreachable!(),
+    }
+}
+
+// The rows of a table's records: lent where they are read under all its columns, and else copied as far as they are.
+fn records_cut(
+    alloc: Global,
+    snapshot: &Snapshot,
+    number: u32,
+    table: &Table,
+    columns: &[Field],
+) -> Result<Held, Memory>
+    requires stands { slice_get (tables (log snapshot.now.history)) number ≡ Some table.now }
+    requires first { columns.now ≡ take (length columns.now) table.now.schema }
+    ensures same { IfOk result (λ rows. Same rows (cut_to columns.now (rows_in snapshot.now.history number))) }
+    ensures typed { IfOk result (λ rows. All (HasTypes columns.now) rows) }
+{
+    let extents = snapshot.extents(number);
+    if columns.len() == table.schema.len() {
+        Ok(Held::lent(extents.share()?, table.schema.clone_in()?))
+    } else {
+        let all = extents.all_rows(alloc, table.schema.as_slice())?;
+        Ok(Held::own(cut(alloc, &all, columns.len())?))
+    }
+}

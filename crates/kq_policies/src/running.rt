@@ -1,0 +1,68 @@
+// The query of an entry over the rows of a batch.
+ghost use Rattle.std.specs.Prelude.{◌≡◌, All, IfOk, Some, slice_get};
+ghost use Rattle.kq_cascade.specs.Queried.{Answers};
+ghost use Rattle.kq_catalog.specs.Seen.{Sound};
+ghost use Rattle.kq_model.specs.Beside.{DueGives, EntryGives, Tells};
+ghost use Rattle.kq_model.specs.Force.{IsStanding, policy_at};
+ghost use Rattle.kq_model.specs.History.{log};
+ghost use Rattle.kq_model.specs.Policies.{policies};
+ghost use Rattle.kq_model.specs.Records.{schema_of};
+ghost use Rattle.kq_model.specs.Typed.{IsLead};
+ghost use Rattle.kq_value.specs.Typed.{HasTypes};
+ghost use Rattle.kq_policies.specs.World.{IsNoCell};
+
+use crate::beside::Beside;
+use kq_cascade::QueryFault;
+use kq_catalog::Snapshot;
+use kq_model::{Cause, Due, Entry};
+use kq_pipe::{Outcome, run_plan};
+use kq_rows::Rows;
+use std::alloc::Global;
+
+/// What the query of an entry gives over rows of its source, by the entry's place.
+pub(crate) fn run_due(
+    alloc: Global,
+    snapshot: &Snapshot,
+    due: Due,
+    rows: &Rows,
+) -> Result<Rows, QueryFault>
+    requires standing { IsStanding (policies (log snapshot.now.history)) due }
+    requires typed { All (HasTypes (schema_of (log snapshot.now.history) due.source)) rows.now }
+    ensures answer { Answers (DueGives (log snapshot.now.history) due rows.now) result }
+    ensures typed { IfOk result (All (IsLead (schema_of (log snapshot.now.history) due.target))) }
+{
+    // The snapshot is sound.
+    let _cursor = snapshot.cursor();
+    let entry = &snapshot.entries(due.target)[due.place];
+    run_entry(alloc, snapshot, due, entry, rows)
+}
+
+// The same of an entry that is at hand.
+fn run_entry(
+    alloc: Global,
+    snapshot: &Snapshot,
+    due: Due,
+    entry: &Entry,
+    rows: &Rows,
+) -> Result<Rows, QueryFault>
+    requires sound { Sound snapshot.now }
+    requires stands { slice_get (policy_at (policies (log snapshot.now.history)) due.target) due.place ≡ Some entry.now }
+    requires typed { All (HasTypes (schema_of (log snapshot.now.history) entry.now.source)) rows.now }
+    ensures { Answers (EntryGives (log snapshot.now.history) entry.now rows.now) result }
+{
+    let tables = Beside::new(snapshot, entry.source, rows, &entry.plan);
+    let outcome = run_plan(alloc, &entry.plan, &tables, 0)?;
+    told(alloc, outcome)
+}
+
+fn told(alloc: Global, outcome: Outcome) -> Result<Rows, QueryFault>
+    requires { IsNoCell outcome }
+    ensures { Answers (Tells outcome) result }
+{
+    match outcome {
+        Outcome::Table { rows, .. } => Ok(rows.into_rows(alloc)?),
+        Outcome::Cell(_) => unreachable!(),
+        Outcome::Overflow { stage } => Err(QueryFault::Fails(Cause::Overflow { stage })),
+        Outcome::Full { limit } => Err(QueryFault::Fails(Cause::Full { limit })),
+    }
+}
