@@ -1,5 +1,5 @@
 -- What comes of a batch by itself, and what is kept of an offer.
-use Rattle.std.proofs.Common.{◌≡◌, ◌⊎◌, ◌&&◌, ◌||◌, not, ℕ, Bool, true, false, cond, List, [], ◌∷◌, length, nat_eq, Option, Some, None, Result, Ok, Err, IfOk, inl, inr, refl, ap, sym, ◌∙◌, subst}
+use Rattle.std.proofs.Common.{◌≡◌, ◌⊎◌, ◌&&◌, ◌||◌, not, ℕ, Bool, true, false, cond, List, [], ◌∷◌, ◌++◌, length, nat_eq, Option, Some, None, Result, Ok, Err, IfOk, inl, inr, refl, ap, sym, ◌∙◌, subst}
 use Rattle.std.specs.List.{filter, slice_get}
 use Rattle.std.proofs.lemmas.Bool.{and_parts}
 use Rattle.kq_cascade.specs.declared.running.CascadeFault.{CascadeFault}
@@ -14,12 +14,15 @@ use Rattle.kq_model.specs.declared.event.Commit.TheVariants as commits
 use Rattle.kq_model.specs.declared.limits.Limits.{Limits}
 use Rattle.kq_model.specs.declared.policy.Due.{Due as Entering}
 use Rattle.kq_model.specs.Beside.{DueGives}
-use Rattle.kq_model.specs.Derived.{Cascade, Comes, Failed, Follows, Made, Queries, TooMany, after, ended, first, goes_on, no_more, too_many}
+use Rattle.kq_model.specs.declared.batch.Failure.{Failure}
+use Rattle.kq_model.specs.Derived.{Cascade, Comes, Failed, Follows, IsDerived, Made, Queries, TooMany, after, ended, first, goes_on, no_more, too_many}
 use Rattle.kq_model.specs.Force.{Rules, in_force}
-use Rattle.kq_model.specs.History.{Log, Numbered, tables}
+use Rattle.kq_model.specs.History.{Log, Numbered, log, tables}
 use Rattle.kq_model.specs.Policies.{dues, policies, rules}
 use Rattle.kq_model.specs.Tagged.{least_tagged}
 use Rattle.kq_model.proofs.Wider.{Comes-wider}
+use Rattle.kq_policies.specs.Quiet.{is_quiet, looked}
+use Rattle.kq_policies.proofs.Quiet.{derived-still}
 use Rattle.kq_reply.specs.declared.refusal.Refusal.{Refusal}
 use Rattle.kq_reply.specs.declared.refusal.Refusal.TheVariants as refusals
 use Rattle.kq_engine.specs.declared.work.Barring.{Barring}
@@ -27,7 +30,7 @@ use Rattle.kq_engine.specs.declared.work.Found.{Found}
 use Rattle.kq_engine.specs.declared.work.Found.TheVariants as founds
 use Rattle.kq_engine.specs.declared.work.Offer.{Offer}
 use Rattle.kq_engine.specs.Due.{Due, Commits, IsBatchDue, IsCascadeDue, IsTaggedDue, counted, refused, unless_tagged}
-use Rattle.kq_engine.specs.Found.{Finds, IsKept, IsOfferOf, OffersCommit, barred_at, is_alone, is_source, is_widened_at, refusal_by_cascade, stands_alone}
+use Rattle.kq_engine.specs.Found.{Finds, IsKept, IsOfferOf, OffersCommit, barred_at, is_alone, is_source, is_widened_at, offer_due, refusal_by_cascade, stands_alone}
 
 -- ---- batches that come alone
 
@@ -62,16 +65,17 @@ comes_alone : (limit : ℕ) (r : Rules) (q : Queries) (b : Batch) (n : ℕ) (o :
 comes_alone limit r q b n _ m none (first {o = o} follows) =
     subst (λ (x : Cascade). IsAlone b (after (b ∷ []) [] x)) (sym (nothing_follows limit r q b (in_force r.policies b.table) n o m none follows)) (refl, refl)
 
--- a batch for which no entry runs is due by itself, or skipped
-alone_due : (limits : Limits) (l : Log) (own : Batch) (c : Commit) (o : Option ℕ) → is_alone l own.table ≡ true → c ≡ commits.Ingest (own ∷ []) [] → IsTaggedDue limits l own o (unless_tagged o (counted limits l c))
-alone_due limits l own c (Some cursor) alone is = refl
-alone_due limits l own c None alone is = record {
-  cascade = Made (own ∷ []) [];
-  derived = record {
-    queries = 0;
-    comes = first (subst (λ (ds : List Entering). Follows limits.cascade (rules l) (DueGives l) own ds 0 (Made [] []) 0) (sym (none_in_force l own.table alone)) no_more);
-  };
-  due_so = ap (counted limits l) is;
+-- what may come of a batch is due, or it is skipped
+made_or_skipped : (limits : Limits) (l : Log) (own : Batch) (batches : List Batch) (failures : List Failure) (c : Commit) (o : Option ℕ) → IsDerived limits.cascade (rules l) (DueGives l) own (Made batches failures) → c ≡ commits.Ingest batches failures
+    → IsTaggedDue limits l own o (unless_tagged o (counted limits l c))
+made_or_skipped limits l own batches failures c (Some cursor) derived is = refl
+made_or_skipped limits l own batches failures c None derived is = record { cascade = Made batches failures; derived = derived; due_so = ap (counted limits l) is }
+
+-- a batch for which no entry runs comes by itself
+derived_alone : (limits : Limits) (l : Log) (own : Batch) → is_alone l own.table ≡ true → IsDerived limits.cascade (rules l) (DueGives l) own (Made (own ∷ []) [])
+derived_alone limits l own alone = record {
+  queries = 0;
+  comes = first (subst (λ (ds : List Entering). Follows limits.cascade (rules l) (DueGives l) own ds 0 (Made [] []) 0) (sym (none_in_force l own.table alone)) no_more);
 }
 
 -- ---- what a cascade answers
@@ -124,15 +128,14 @@ pub stands_unwidened : (l : Log) (b : Barring) → stands_alone l b ≡ true →
 stands_unwidened l b e = (stands_so l b e).unwidened
 
 -- the offer of all that comes of a batch, found where no tag bars it
-offer-kept : (limits : Limits) (l : Log) (table : Numbered) (own : Batch) (b : Barring) (d : Derived) (offer : Offer) → own.table ≡ b.table → b.table ≡ table.number → b.widened ≡ table.table.widened → b.at ≡ length l → b.alone ≡ is_alone l b.table
+offer-kept : (limits : Limits) (l : Log) (table : Numbered) (own : Batch) (b : Barring) (d : Derived) (offer : Offer) → own.table ≡ b.table → b.table ≡ table.number → b.widened ≡ table.table.widened → b.looked.items ≡ looked l d.asked.items → b.alone ≡ is_alone l b.table
     → least_tagged l b.table b.tags ≡ None → Makes limits.cascade (rules l) (DueGives l) own d → OffersCommit limits l (commits.Ingest d.batches.items d.failures) (Some b) (founds.Commits offer)
     → IsKept limits l table (λ (later : Log) (due : Due). IsBatchDue limits later own b.tags due) offer
-offer-kept limits l table own b d offer into number widened at alone_then none makes offered = record {
+offer-kept limits l table own b d offer into number widened asked alone_then none makes offered = record {
   barring = b;
   barred = offered.1;
   number = number;
   widened = widened;
-  at = at;
   here = let c = commit_of offer.intent in
       ap (λ (u : Option Barring). unless_tagged (barred_at l u) (counted limits l c)) offered.1 ∙ ap (λ (o : Option ℕ). unless_tagged o (counted limits l c)) none
       ∙ ap (λ (room : Bool). cond room (Commits c) (refused (refusals.Full limits.commits))) offered.2;
@@ -141,15 +144,23 @@ offer-kept limits l table own b d offer into number widened at alone_then none m
       let then_none : in_force (policies l) own.table ≡ [] = none_in_force l own.table (ap (is_alone l) into ∙ sym alone_then ∙ so.then_so) in
       let by_itself = comes_alone limits.cascade (rules l) (among d.asked.items (DueGives l)) own 0 (Made d.batches.items d.failures) (length d.asked.items) then_none makes.comes in
       let is : commit_of offer.intent ≡ commits.Ingest (own ∷ []) [] = offered.0 ∙ ap (λ (bs : List Batch). commits.Ingest bs d.failures) by_itself.0 ∙ ap (commits.Ingest (own ∷ [])) by_itself.1 in
-      let due = alone_due limits later own (commit_of offer.intent) (least_tagged later own.table b.tags) (ap (is_alone later) into ∙ so.now_so) is in
-      subst (λ (u : Option Barring). IsBatchDue limits later own b.tags (unless_tagged (barred_at later u) (counted limits later (commit_of offer.intent)))) (sym offered.1)
-      (subst (λ (t : ℕ). IsBatchDue limits later own b.tags (unless_tagged (least_tagged later t b.tags) (counted limits later (commit_of offer.intent)))) into due);
+      barred_so later (made_or_skipped limits later own (own ∷ []) [] (commit_of offer.intent) (least_tagged later own.table b.tags) (derived_alone limits later own (ap (is_alone later) into ∙ so.now_so)) is);
+  quiet = λ since still.
+      let later = l ++ log since in
+      let asked_so : is_quiet (looked l d.asked.items) since ≡ true = ap (λ (ts : List ℕ). is_quiet ts since) (sym asked) ∙ still in
+      let derived = derived-still limits.cascade l since d.asked.items own (Made d.batches.items d.failures) asked_so (record { queries = length d.asked.items; comes = makes.comes }) in
+      barred_so later (made_or_skipped limits later own d.batches.items d.failures (commit_of offer.intent) (least_tagged later own.table b.tags) derived offered.0);
 }
+  where
+    barred_so : (later : Log) → IsTaggedDue limits later own (least_tagged later own.table b.tags) (unless_tagged (least_tagged later own.table b.tags) (counted limits later (commit_of offer.intent))) → IsBatchDue limits later own b.tags (offer_due limits later offer)
+    barred_so later due =
+        subst (λ (u : Option Barring). IsBatchDue limits later own b.tags (unless_tagged (barred_at later u) (counted limits later (commit_of offer.intent)))) (sym offered.1)
+        (subst (λ (t : ℕ). IsBatchDue limits later own b.tags (unless_tagged (least_tagged later t b.tags) (counted limits later (commit_of offer.intent)))) into due)
 
-pub Offers-kept : (limits : Limits) (l : Log) (table : Numbered) (own : Batch) (b : Barring) (d : Derived) (result : Result Found Refusal) → own.table ≡ b.table → b.table ≡ table.number → b.widened ≡ table.table.widened → b.at ≡ length l → b.alone ≡ is_alone l b.table
+pub Offers-kept : (limits : Limits) (l : Log) (table : Numbered) (own : Batch) (b : Barring) (d : Derived) (result : Result Found Refusal) → own.table ≡ b.table → b.table ≡ table.number → b.widened ≡ table.table.widened → b.looked.items ≡ looked l d.asked.items → b.alone ≡ is_alone l b.table
     → least_tagged l b.table b.tags ≡ None → Makes limits.cascade (rules l) (DueGives l) own d → IfOk result (OffersCommit limits l (commits.Ingest d.batches.items d.failures) (Some b)) → IfOk result (IsOfferOf limits l table own b.tags)
-Offers-kept limits l table own b d (Ok (founds.Says reply)) into number widened at alone_then none makes offered = tt
-Offers-kept limits l table own b d (Ok (founds.Commits offer)) into number widened at alone_then none makes offered = offer-kept limits l table own b d offer into number widened at alone_then none makes offered
-Offers-kept limits l table own b d (Ok (founds.Merges merging)) into number widened at alone_then none makes offered = absurd offered
-Offers-kept limits l table own b d (Ok (founds.Folds folding)) into number widened at alone_then none makes offered = absurd offered
-Offers-kept limits l table own b d (Err r) into number widened at alone_then none makes offered = offered
+Offers-kept limits l table own b d (Ok (founds.Says reply)) into number widened asked alone_then none makes offered = tt
+Offers-kept limits l table own b d (Ok (founds.Commits offer)) into number widened asked alone_then none makes offered = offer-kept limits l table own b d offer into number widened asked alone_then none makes offered
+Offers-kept limits l table own b d (Ok (founds.Merges merging)) into number widened asked alone_then none makes offered = absurd offered
+Offers-kept limits l table own b d (Ok (founds.Folds folding)) into number widened asked alone_then none makes offered = absurd offered
+Offers-kept limits l table own b d (Err r) into number widened asked alone_then none makes offered = offered

@@ -20,6 +20,8 @@ use Rattle.kq_reply.specs.declared.refusal.Refusal.{Refusal}
 use Rattle.kq_reply.specs.declared.refusal.Refusal.TheVariants as refusals
 use Rattle.kq_reply.specs.declared.reply.Reply.{Reply}
 use Rattle.kq_reply.specs.declared.reply.Reply.TheVariants as replies
+use Rattle.kq_policies.specs.Quiet.{is_quiet}
+use Rattle.kq_policies.proofs.Quiet.{tables-quiet}
 use Rattle.kq_engine.specs.declared.work.Barring.{Barring}
 use Rattle.kq_engine.specs.declared.work.Found.{Found}
 use Rattle.kq_engine.specs.declared.work.Found.TheVariants as founds
@@ -56,27 +58,24 @@ good_due limits l change due good by = subst (λ o. IsDueByText limits l change 
 abbrev IsDueSo : Limits → Ingestion → Offer → Log → Type 0
 IsDueSo limits i offer l = IsIngestDue limits l i (table_numbered i.table.text (tables l)) (offer_due limits l offer)
 
-none_made : (l more : Log) → length (l ++ more) ≡ length l → l ++ more ≡ l
-none_made l [] e = append-nil l
-none_made l (c ∷ more) e = let both = length-append l (c ∷ more) in absurd (omega (arith, e, both))
+still_or_alone : (limits : Limits) (l : Log) (since : History) (i : Ingestion) (table : Numbered) (offer : Offer) → table_numbered i.table.text (tables l) ≡ Some table
+    → (kept : IsKept limits l table (λ (later : Log) (due : Due). IsRowsDue limits later i table due) offer) → (alone : Bool) → stands_alone (l ++ log since) kept.barring ≡ alone → alone || is_quiet kept.barring.looked since ≡ true → IsDueSo limits i offer (l ++ log since)
+still_or_alone limits l since i table offer named kept true stands still =
+    let later = l ++ log since in
+    let unwidened = stands_unwidened later kept.barring stands in
+    subst (λ (o : Option Numbered). IsIngestDue limits later i o (offer_due limits later offer))
+    (sym (read_still l (log since) i.table.text table kept.barring named kept.number kept.widened unwidened)) (kept.alone later stands)
+still_or_alone limits l since i table offer named kept false stands still =
+    let later = l ++ log since in
+    let same : table_numbered i.table.text (tables later) ≡ Some table = ap (table_numbered i.table.text) (tables-quiet kept.barring.looked l since still) ∙ named in
+    subst (λ (o : Option Numbered). IsIngestDue limits later i o (offer_due limits later offer)) (sym same) (kept.quiet since still)
 
-still_or_alone : (limits : Limits) (l more : Log) (i : Ingestion) (table : Numbered) (offer : Offer) → table_numbered i.table.text (tables l) ≡ Some table → IsRowsDue limits l i table (Commits (commit_of offer.intent))
-    → (kept : IsKept limits l table (λ (later : Log) (due : Due). IsRowsDue limits later i table due) offer) → (same : Bool) → nat_eq (length (l ++ more)) kept.barring.at ≡ same → (same || stands_alone (l ++ more) kept.barring) ≡ true → IsDueSo limits i offer (l ++ more)
-still_or_alone limits l more i table offer named due kept true at still =
-    let e : length (l ++ more) ≡ length l = eqb-true (length (l ++ more)) kept.barring.at at ∙ kept.at in
-    let here : IsIngestDue limits l i (Some table) (offer_due limits l offer) = subst (λ (d : Due). IsRowsDue limits l i table d) (sym kept.here) due in
-    subst (IsDueSo limits i offer) (sym (none_made l more e)) (subst (λ (o : Option Numbered). IsIngestDue limits l i o (offer_due limits l offer)) (sym named) here)
-still_or_alone limits l more i table offer named due kept false at still =
-    let unwidened = stands_unwidened (l ++ more) kept.barring still in
-    subst (λ (o : Option Numbered). IsIngestDue limits (l ++ more) i o (offer_due limits (l ++ more) offer))
-    (sym (read_still l more i.table.text table kept.barring named kept.number kept.widened unwidened)) (kept.alone (l ++ more) still)
-
-rows_later : (limits : Limits) (l more : Log) (i : Ingestion) (offer : Offer) (o : Option Numbered) → table_numbered i.table.text (tables l) ≡ o → IsIngestDue limits l i o (Commits (commit_of offer.intent)) → OffersInto limits l i (founds.Commits offer) → is_as_read (l ++ more) offer.unless ≡ true
-    → IsDueSo limits i offer (l ++ more)
-rows_later limits l more i offer None named due offers still = absurd (no_commit (commit_of offer.intent) (refusals.Unknown i.table.at) due)
-rows_later limits l more i offer (Some table) named due offers still =
+rows_later : (limits : Limits) (l : Log) (since : History) (i : Ingestion) (offer : Offer) (o : Option Numbered) → table_numbered i.table.text (tables l) ≡ o → IsIngestDue limits l i o (Commits (commit_of offer.intent)) → OffersInto limits l i (founds.Commits offer)
+    → is_as_read since (l ++ log since) offer.unless ≡ true → IsDueSo limits i offer (l ++ log since)
+rows_later limits l since i offer None named due offers still = absurd (no_commit (commit_of offer.intent) (refusals.Unknown i.table.at) due)
+rows_later limits l since i offer (Some table) named due offers still =
     let kept = offers table named in
-    still_or_alone limits l more i table offer named due kept (nat_eq (length (l ++ more)) kept.barring.at) refl (ap (is_as_read (l ++ more)) (sym kept.barred) ∙ still)
+    still_or_alone limits l since i table offer named kept (stands_alone (l ++ log since) kept.barring) refl (ap (is_as_read since (l ++ log since)) (sym kept.barred) ∙ still)
 
 commit_good : (limits : Limits) (l : Log) (command : Command) (c : Commit) → IsCommitDue limits l command c → IsGoodText command
 commit_good limits l (Query query) c due = absurd due
@@ -101,7 +100,7 @@ Offered-change limits l (AlterMerge name columns) offer good due offers = record
 Offered-change limits l (Ingest i) offer good due offers = record {
   due = (good_due limits l (Ingest i) (Commits (commit_of offer.intent)) good due, refl);
   begins = Begins-offered offer.intent (ingest-no_view limits l i (table_numbered i.table.text (tables l)) (commit_of offer.intent) due);
-  later = λ outside more still. good_due limits (l ++ more) (Ingest i) (offer_due limits (l ++ more) offer) good (rows_later limits l more i offer (table_numbered i.table.text (tables l)) refl due offers still);
+  later = λ outside since still. good_due limits (l ++ log since) (Ingest i) (offer_due limits (l ++ log since) offer) good (rows_later limits l since i offer (table_numbered i.table.text (tables l)) refl due offers still);
 }
 Offered-change limits l (CreateView view) offer good due offers = record {
   due = (good_due limits l (CreateView view) (Commits (commit_of offer.intent)) good due, refl);
@@ -138,11 +137,12 @@ Found-fold limits h now view (Ok (founds.Folds folding)) finds = finds
 Found-fold limits h now view (Err r) finds = finds
 
 -- what the offer that was found at a place comes to is due
-pub Offered-still : (limits : Limits) (h : History) (place : ℕ) (command : Command) (offer : Offer) → is_prepared_outside command ≡ true → IsOffered limits (log (take place h)) command offer → is_as_read (log h) offer.unless ≡ true
+pub Offered-still : (limits : Limits) (h : History) (place : ℕ) (command : Command) (offer : Offer) → is_prepared_outside command ≡ true → IsOffered limits (log (take place h)) command offer → is_as_read (drop place h) (log h) offer.unless ≡ true
     → IsDueTo limits (log h) command (offer_due limits (log h) offer)
 Offered-still limits h place command offer outside offered still =
-    let whole : log (take place h) ++ log (drop place h) ≡ log h = sym (log-append (take place h) (drop place h)) ∙ ap log (take-append-drop place h) in
-    subst (λ (l : Log). IsDueTo limits l command (offer_due limits l offer)) whole (offered.later outside (log (drop place h)) (subst (λ (l : Log). is_as_read l offer.unless ≡ true) (sym whole) still))
+    let since = drop place h in
+    let whole : log (take place h) ++ log since ≡ log h = sym (log-append (take place h) since) ∙ ap log (take-append-drop place h) in
+    subst (λ (l : Log). IsDueTo limits l command (offer_due limits l offer)) whole (offered.later outside since (subst (λ (l : Log). is_as_read since l offer.unless ≡ true) (sym whole) still))
 
 -- an offer is made of a good text
 pub Offered-good : (limits : Limits) (l : Log) (command : Command) (offer : Offer) → IsOffered limits l command offer → IsGoodText command

@@ -239,15 +239,15 @@ moved_gone false o o' t k e f (inr (q, one)) = cc
 some_given : (t : Told) (made : Option Operation) → t ∷ [] ≡ [] → made ≡ None
 some_given t made e = cc
 
-ready_wants : (limits : Limits) (h later : History) (now : ℤ) (command : Command) (ready : Ready) → IsReady limits h now command ready → TakesToFinish later command ready → MayWantMemory h later command
-ready_wants limits h later now command (readies.Answered reply) is takes = absurd takes
-ready_wants limits h later now command (readies.ToCommit offer) is takes = inl (found_wants h command is.0 (commit_finds limits h command (commit_of offer.intent) is.1.due))
-ready_wants limits h later now command (readies.ToMerge merging) is takes = inl (found_wants h command (merging_outside h command merging is) (merging_finds h command merging is))
-ready_wants limits h later now command (readies.ToFold folding) is takes = inl (found_wants h command (folding_outside h command folding is) (folding_finds h command folding is))
-ready_wants limits h later now command readies.Pending is takes = inr takes
+ready_wants : (limits : Limits) (h : History) (place : ℕ) (later : History) (now : ℤ) (command : Command) (ready : Ready) → IsReady limits h now command ready → TakesToFinish place later command ready → MayWantMemory h later command
+ready_wants limits h place later now command (readies.Answered reply) is takes = absurd takes
+ready_wants limits h place later now command (readies.ToCommit offer) is takes = inl (found_wants h command is.0 (commit_finds limits h command (commit_of offer.intent) is.1.due))
+ready_wants limits h place later now command (readies.ToMerge merging) is takes = inl (found_wants h command (merging_outside h command merging is) (merging_finds h command merging is))
+ready_wants limits h place later now command (readies.ToFold folding) is takes = inl (found_wants h command (folding_outside h command folding is) (folding_finds h command folding is))
+ready_wants limits h place later now command readies.Pending is takes = inr takes
 
 -- open work is finished
-pub finish_open : (limits : Limits) (xs : List Step) (c : By) (old new : CatalogView) (open_ones : List Prepared) (outcomes : List Told) (i : ℕ) (p : Prepared) (outcome : Outcome) → IsAt (opens c) open_ones i → p ≡ slice_index_or open_ones i p → new.limits ≡ old.limits → Advances old.limits old.history new.history p.work p.place outcome → WantsToFinish new.history p.work.command p.ready outcome → IsRun limits xs old open_ones outcomes → IsRun limits (xs ++ Finish c ∷ []) new (remove open_ones i) (outcomes ++ record { by = c; began = p.place; outcome = outcome } ∷ [])
+pub finish_open : (limits : Limits) (xs : List Step) (c : By) (old new : CatalogView) (open_ones : List Prepared) (outcomes : List Told) (i : ℕ) (p : Prepared) (outcome : Outcome) → IsAt (opens c) open_ones i → p ≡ slice_index_or open_ones i p → new.limits ≡ old.limits → Advances old.limits old.history new.history p.work p.place outcome → WantsToFinish p.place new.history p.work.command p.ready outcome → IsRun limits xs old open_ones outcomes → IsRun limits (xs ++ Finish c ∷ []) new (remove open_ones i) (outcomes ++ record { by = c; began = p.place; outcome = outcome } ∷ [])
 finish_open limits xs c old new open_ones outcomes i p outcome is_at value kept step takes run =
     let t : Told = record { by = c; began = p.place; outcome = outcome } in
     let mark : p.work.by ≡ c = same_by-true p.work.by c (ap (opens c) value ∙ is_at.1 p) in

@@ -1,5 +1,5 @@
 -- What is found of a command on a history, what of it stays due, and where memory may be wanting.
-use Rattle.std.specs.Prelude.{◌≡◌, ◌≢◌, ◌⊎◌, ◌<◌, ◌+◌, ◌&&◌, ◌||◌, not, ℕ, ℤ, Bool, true, false, nat_eq, nat_lt, List, [], ◌∷◌, ◌++◌, length, take, Option, Some, None, Result, Ok, Err}
+use Rattle.std.specs.Prelude.{◌≡◌, ◌≢◌, ◌⊎◌, ◌<◌, ◌+◌, ◌&&◌, ◌||◌, not, ℕ, ℤ, Bool, true, false, nat_eq, nat_lt, List, [], ◌∷◌, ◌++◌, length, take, drop, Option, Some, None, Result, Ok, Err}
 use Rattle.std.specs.List.{slice_get}
 use Rattle.kq_model.specs.declared.batch.Batch.{Batch}
 use Rattle.kq_model.specs.declared.event.Commit.{Commit}
@@ -37,6 +37,7 @@ use Rattle.kq_engine.specs.declared.work.Work.{Work}
 use Rattle.kq_engine.specs.Due.{Due, Says, Commits, IsBatchDue, IsChangeDue, IsRowsDue, counted, refused, reply_to, text_refusal, unless_tagged}
 use Rattle.kq_engine.specs.Fits.{IsDue, Makes}
 use Rattle.kq_engine.specs.Folds.{AnswersFold, IsFoldingFor, IsFoldingOf, view_number}
+use Rattle.kq_policies.specs.Quiet.{is_quiet}
 use Rattle.kq_show.specs.JournalRows.{name_of}
 use Rattle.kq_engine.specs.Merges.{AnswersMerge, IsMergingFor, IsMergingOf, IsSettled}
 
@@ -76,24 +77,24 @@ is_alone l table = not (is_source table (dues l))
 abbrev pub stands_alone : Log → Barring → Bool
 stands_alone l b = b.alone && is_alone l b.table && is_widened_at (slice_get (tables l) b.table) b.widened
 
--- whether what was found for rows is what would be found now: no commit was made since, or they come alone
-abbrev pub is_as_read : Log → Option Barring → Bool
-is_as_read l None = true
-is_as_read l (Some barring) = nat_eq (length l) barring.at || stands_alone l barring
+-- whether what was found for rows is what would be found now: they come alone, or no event since disturbs what came of them
+abbrev pub is_as_read : (since : History) → (now : Log) → Option Barring → Bool
+is_as_read since now None = true
+is_as_read since now (Some barring) = stands_alone now barring || is_quiet barring.looked since
 
 -- what an offer comes to: it is skipped where one of its tags stands, and else its commit is counted
 abbrev pub offer_due : Limits → Log → Offer → Due
 offer_due limits l offer = unless_tagged (barred_at l offer.unless) (counted limits l (commit_of offer.intent))
 
--- an offer that was found after a log for rows that were read for a table as it stands: there it comes to its commit, and after each log after which the rows come alone it is so due
+-- an offer that was found after a log for rows that were read for a table as it stands: there it comes to its commit, and it is so due after each log after which the rows come alone, and after further events that disturb nothing
 pub record IsKept (limits : Limits) (l : Log) (table : Numbered) (IsDueAfter : Log → Due → Type 0) (offer : Offer) : Type 0 where
   pub barring : Barring
   pub barred : offer.unless ≡ Some barring
   pub number : barring.table ≡ table.number
   pub widened : barring.widened ≡ table.table.widened
-  pub at : barring.at ≡ length l
   pub here : offer_due limits l offer ≡ Commits (commit_of offer.intent)
   pub alone : (later : Log) → stands_alone later barring ≡ true → IsDueAfter later (offer_due limits later offer)
+  pub quiet : (since : History) → is_quiet barring.looked since ≡ true → IsDueAfter (l ++ log since) (offer_due limits (l ++ log since) offer)
 
 -- a commit that was found for a batch of rows that were read for a table
 abbrev pub IsOfferOf : Limits → Log → Numbered → Batch → List (List ℕ) → Found → Type 0
@@ -165,11 +166,11 @@ IsDueTo limits l (Merge table) due = ⊥
 IsDueTo limits l (Fold view) due = ⊥
 IsDueTo limits l Unbuilt due = ⊥
 
--- the commit is due, with the part of a view that it makes; and after more commits, if the command is prepared outside the lock and what was found is as it would be found, it is due what the offer comes to
+-- the commit is due, with the part of a view that it makes; and after more events, if the command is prepared outside the lock and what was found is as it would be found, it is due what the offer comes to
 pub record IsOffered (limits : Limits) (l : Log) (command : Command) (offer : Offer) : Type 0 where
   pub due : IsCommitDue limits l command (commit_of offer.intent)
   pub begins : IsBegun offer.intent
-  pub later : is_prepared_outside command ≡ true → (more : Log) → is_as_read (l ++ more) offer.unless ≡ true → IsDueTo limits (l ++ more) command (offer_due limits (l ++ more) offer)
+  pub later : is_prepared_outside command ≡ true → (since : History) → is_as_read since (l ++ log since) offer.unless ≡ true → IsDueTo limits (l ++ log since) command (offer_due limits (l ++ log since) offer)
 
 -- what was found is due to the command at a moment; no merge is told before it is made, and no fold but of a view that is up to the cursor
 abbrev pub IsFound : Limits → History → ℤ → Command → Found → Type 0
@@ -297,17 +298,17 @@ pub record TakesToDecide (h : History) (command : Command) : Type 0 where
   pub pending : IsPending command
   pub takes : TakesToFind h command
 
--- finishing on this history takes memory: a commit that no tag bars is put in, or its rows are read again; a merge is put in, or extents are picked again; a fold is put in of a view that isn't materialized as far
-abbrev pub TakesToFinish : History → Command → Ready → Type 0
-TakesToFinish h command (readies.Answered reply) = ⊥
-TakesToFinish h command (readies.ToCommit offer) = is_as_read (log h) offer.unless ≡ true → barred_at (log h) offer.unless ≡ None
-TakesToFinish h command (readies.ToMerge merging) = Unit {0}
-TakesToFinish h command (readies.ToFold folding) = mark h folding.view < folding.to
-TakesToFinish h command readies.Pending = TakesToDecide h command
+-- finishing on this history what was prepared at a place takes memory: a commit that no tag bars is put in, or its rows are read again; a merge is put in, or extents are picked again; a fold is put in of a view that isn't materialized as far
+abbrev pub TakesToFinish : (place : ℕ) → History → Command → Ready → Type 0
+TakesToFinish place h command (readies.Answered reply) = ⊥
+TakesToFinish place h command (readies.ToCommit offer) = is_as_read (drop place h) (log h) offer.unless ≡ true → barred_at (log h) offer.unless ≡ None
+TakesToFinish place h command (readies.ToMerge merging) = Unit {0}
+TakesToFinish place h command (readies.ToFold folding) = mark h folding.view < folding.to
+TakesToFinish place h command readies.Pending = TakesToDecide h command
 
 -- an outcome that tells of want of memory has its place where finishing takes some
-abbrev pub WantsToFinish : History → Command → Ready → Outcome → Type 0
-WantsToFinish h command ready outcome = outcome.reply ≡ replies.Refused refusals.Memory → TakesToFinish (take outcome.place h) command ready
+abbrev pub WantsToFinish : (place : ℕ) → History → Command → Ready → Outcome → Type 0
+WantsToFinish place h command ready outcome = outcome.reply ≡ replies.Refused refusals.Memory → TakesToFinish place (take outcome.place h) command ready
 
 -- preparing the command on the history where it began takes memory, or deciding it on that of its outcome does
 abbrev pub MayWantMemory : (began decided : History) → Command → Type 0

@@ -16,7 +16,7 @@ ghost use Rattle.kq_value.specs.Typed.{HasTypes};
 
 use crate::changes::has_room;
 use crate::offers::is_alone;
-use crate::tags::{Labels, barring_cursor, read_labels};
+use crate::tags::{Labels, least_cursor, read_labels};
 use crate::work::{Barring, Found, Offer};
 use kq_cascade::{BatchRows, CascadeFault, Derived};
 use kq_catalog::{Intent, Part, Snapshot};
@@ -24,7 +24,7 @@ use kq_command::Ingestion;
 use kq_extent::Draft;
 use kq_ingest::{IngestFault, read_rows};
 use kq_model::Table;
-use kq_policies::derive;
+use kq_policies::{derive, looked};
 use kq_reply::{Refusal, Reply};
 use kq_rows::Rows;
 use kq_value::{Memory, Schema, Text};
@@ -88,18 +88,21 @@ fn put_rows(
     ensures offers { IfOk result (IsOfferOf snapshot.now.limits (log snapshot.now.history) (record { number = number; table = table.now }) (record { table = number; rows = rows; tags = labels.tags }) labels.barring) }
 {
     let Labels { tags, barring } = labels;
-    let unless = Some(Barring {
-        table: number,
-        widened: table.widened,
-        tags: barring,
-        at: snapshot.cursor(),
-        alone: is_alone(snapshot, number),
-    });
-    if let Some(cursor) = barring_cursor(snapshot, &unless) {
+    if let Some(cursor) = least_cursor(snapshot, number, barring.as_slice()) {
         return Ok(Found::Says(Reply::Skipped { cursor }));
     }
     match derive(snapshot, number, rows, tags) {
-        Ok(derived) => put_derived(snapshot, derived, unless),
+        Ok(derived) => {
+            let looked = looked(snapshot, derived.asked.as_slice())?;
+            let unless = Some(Barring {
+                table: number,
+                widened: table.widened,
+                tags: barring,
+                looked,
+                alone: is_alone(snapshot, number),
+            });
+            put_derived(snapshot, derived, unless)
+        }
         Err(fault) => Err(refusal_of_cascade(snapshot, fault)?),
     }
 }

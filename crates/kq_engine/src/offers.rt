@@ -1,5 +1,5 @@
 // What of an offer stays due.
-ghost use Rattle.std.specs.Prelude.{◌≡◌};
+ghost use Rattle.std.specs.Prelude.{◌≡◌, ◌≤◌, drop, length};
 ghost use Rattle.kq_engine.specs.Found.{is_alone as is_alone_by, is_as_read as is_as_read_by, is_source as is_source_by, is_widened_at, stands_alone as stands_alone_by};
 ghost use Rattle.kq_model.specs.History.{log, tables};
 ghost use Rattle.std.specs.List.{slice_get};
@@ -7,13 +7,18 @@ ghost use Rattle.std.specs.List.{slice_get};
 use crate::work::Barring;
 use kq_catalog::Snapshot;
 use kq_model::Due;
+use kq_policies::is_quiet_since;
 
-/// Whether what was found for rows is what would be found now.
-pub(crate) fn is_as_read(snapshot: &Snapshot, unless: &Option<Barring>) -> bool
-    ensures { result ≡ is_as_read_by (log snapshot.now.history) unless.now }
+/// Whether what was found for rows at a place is what would be found now.
+pub(crate) fn is_as_read(snapshot: &Snapshot, place: u64, unless: &Option<Barring>) -> bool
+    requires { place ≤ length snapshot.now.history }
+    ensures { result ≡ is_as_read_by (drop place snapshot.now.history) (log snapshot.now.history) unless.now }
 {
     match unless {
-        Some(barring) => snapshot.cursor() == barring.at || stands_alone(snapshot, barring),
+        Some(barring) => {
+            stands_alone(snapshot, barring)
+                || is_quiet_since(snapshot, place, barring.looked.as_slice())
+        }
         None => true,
     }
 }

@@ -26,8 +26,8 @@ use kq_value::Memory;
 use std::alloc::AllocError;
 
 /// Makes at most one event. A commit that was found on a snapshot is put in unless a tag has come to bar it, or no more
-/// commits are allowed. It is decided anew where others were made since, unless its rows come alone, then as now, into a table that
-/// was not widened since. A merge that was found is put in unless
+/// commits are allowed. It is decided anew where a commit since disturbs what came of its rows, unless they come alone, then as now,
+/// into a table that was not widened since. A merge that was found is put in unless
 /// its extents were merged since: then they are picked again. A fold that was found is put in unless the view is materialized as far:
 /// then its cursor is told. What the snapshot told nothing of is decided on the catalogue as it
 /// stands. A refusal makes no event, and its place is the catalogue's. Want of memory is told of a commit, a merge or a fold that was found,
@@ -36,7 +36,7 @@ pub fn finish(catalog: &mut Catalog, prepared: Prepared) -> Result<Outcome, Refu
     requires { IsPrepared catalog.old.limits (take prepared.place (hist catalog.old)) prepared }
     ensures limits { catalog.new.limits ≡ catalog.old.limits }
     ensures step { Advances catalog.old.limits (hist catalog.old) (hist catalog.new) prepared.work prepared.place (outcome_of (hist catalog.new) result) }
-    ensures memory { WantsToFinish (hist catalog.new) prepared.work.command prepared.ready (outcome_of (hist catalog.new) result) }
+    ensures memory { WantsToFinish prepared.place (hist catalog.new) prepared.work.command prepared.ready (outcome_of (hist catalog.new) result) }
 {
     let Prepared { work, place, ready } = prepared;
     conclude(catalog, &work, place, ready)
@@ -53,7 +53,7 @@ pub(crate) fn conclude(
     requires ready { IsReady catalog.old.limits (take place (hist catalog.old)) work.now.now work.now.command ready }
     ensures limits { catalog.new.limits ≡ catalog.old.limits }
     ensures step { Advances catalog.old.limits (hist catalog.old) (hist catalog.new) work.entry.now place (outcome_of (hist catalog.new) result) }
-    ensures memory { WantsToFinish (hist catalog.new) work.entry.now.command ready (outcome_of (hist catalog.new) result) }
+    ensures memory { WantsToFinish place (hist catalog.new) work.entry.now.command ready (outcome_of (hist catalog.new) result) }
 {
     match ready {
         Ready::Answered(reply) => Ok(Outcome {
@@ -62,7 +62,7 @@ pub(crate) fn conclude(
             reply,
         }),
         Ready::ToCommit(offer) => {
-            if is_as_read(catalog.present(), &offer.unless) {
+            if is_as_read(catalog.present(), place, &offer.unless) {
                 commit(catalog, work, offer)
             } else {
                 decide(catalog, work)

@@ -89,7 +89,7 @@ pub(crate) fn barring_cursor(snapshot: &Snapshot, unless: &Option<Barring>) -> O
     }
 }
 
-fn least_cursor(snapshot: &Snapshot, table: u32, tags: &[Text]) -> Option<u64>
+pub(crate) fn least_cursor(snapshot: &Snapshot, table: u32, tags: &[Text]) -> Option<u64>
     ensures { result ≡ least_tagged (log snapshot.now.history) table tags.now }
 {
     let mut least = None;

@@ -27,14 +27,15 @@ pub struct Outcome {
 }
 
 /// A table, which goes by its number, with the cursor of the commit that had last made or widened it when rows were read for
-/// it, and tags of which none may stand on its extents. `at` is the number of commits that there were then, and `alone` says
-/// that no entry of an update policy was in force for the table, so that nothing came of the rows but their own batch.
+/// it, and tags of which none may stand on its extents. `looked` are the tables that the queries of update policies looked into
+/// for what came of the rows, and `alone` says that no entry was in force for the table, so that nothing came of the rows but
+/// their own batch.
 #[derive(Drop)]
 pub struct Barring {
     pub table: u32,
     pub widened: u64,
     pub tags: Tags,
-    pub at: u64,
+    pub looked: Vec<u32>,
     pub alone: bool,
 }
 
@@ -67,8 +68,8 @@ pub(crate) enum Found {
 pub enum Ready {
     /// The reply, which the snapshot tells whole.
     Answered(Reply),
-    /// The commit that is due while no tag bars it and one more is allowed: until another is made, and further on where its rows come alone, then as
-    /// now, into a table that wasn't widened.
+    /// The commit that is due while no tag bars it and one more is allowed: until a commit disturbs what came of its rows, and further on where they come
+    /// alone, then as now, into a table that wasn't widened.
     ToCommit(Offer),
     /// The merge of the extents that were picked, which is due while the first of them is in its table.
     ToMerge(Merging),

@@ -1,3 +1,4 @@
 pub mod Over
+pub mod Quiet
 pub mod Reading
 pub mod World

@@ -24,6 +24,6 @@ returns-in-Ok-clause-offers c =
     let l = log c.args.snapshot.now.history in
     let own : Batch = record { table = c.args.number; rows = c.args.rows; tags = c.args.labels.tags } in
     let table : Numbered = record { number = c.args.number; table = c.args.table.now } in
-    let b : Barring = record { table = c.args.number; widened = c.args.table.now.widened; tags = c.args.labels.barring; at = c.cursor.result; alone = c.is_alone.result } in
+    let b : Barring = record { table = c.args.number; widened = c.args.table.now.widened; tags = c.args.labels.barring; looked = c.in_ok-looked.looked; alone = c.is_alone.result } in
     let none : least_tagged l c.args.number c.args.labels.barring ≡ None = search rules in
-    Offers-kept limits l table own b c.in-Ok.derived c.put_derived.result refl refl refl c.cursor.ensures.cursor c.is_alone.ensures none c.in-Ok.ensures.made c.put_derived.ensures.offers
+    Offers-kept limits l table own b c.in-Ok.derived c.put_derived.result refl refl refl c.in_ok-looked.ensures c.is_alone.ensures none c.in-Ok.ensures.made c.put_derived.ensures.offers

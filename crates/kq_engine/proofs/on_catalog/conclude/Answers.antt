@@ -1,4 +1,4 @@
-use Rattle.std.proofs.Common.{◌≡◌, true, length, take, ap, subst, sym, ◌∙◌}
+use Rattle.std.proofs.Common.{◌≡◌, true, drop, length, take, ap, subst, sym, ◌∙◌}
 use Rattle.kq_model.specs.declared.limits.Limits.{Limits}
 use Rattle.kq_model.specs.History.{History, log}
 use Rattle.kq_catalog.specs.Seen.{CatalogView, hist}
@@ -17,8 +17,8 @@ commit-requires-clause-due c =
     let now = c.args.catalog.now in
     let work = c.args.work.now in
     let ready = subst (IsReady now.limits (take c.args.place (hist now)) work.now work.command) c.in-ToCommit.is c.requires.ready in
-    let still : is_as_read (log (hist now)) c.in-ToCommit.offer.unless ≡ true =
-    ap (λ (v : CatalogView). is_as_read (log (hist v)) c.in-ToCommit.offer.unless) (sym c.present.ensures) ∙ sym c.is_as_read.ensures ∙ c.if-is_as_read.true in
+    let still : is_as_read (drop c.args.place (hist now)) (log (hist now)) c.in-ToCommit.offer.unless ≡ true =
+    ap (λ (v : CatalogView). is_as_read (drop c.args.place (hist v)) (log (hist v)) c.in-ToCommit.offer.unless) (sym c.present.ensures) ∙ sym c.is_as_read.ensures ∙ c.if-is_as_read.true in
     Offered-still now.limits (hist now) c.args.place work.command c.in-ToCommit.offer ready.0 ready.1 still
 
 pub fold-requires : goal.fold-requires
