@@ -59,7 +59,7 @@ abbrev IsDueSo : Limits → Ingestion → Offer → Log → Type 0
 IsDueSo limits i offer l = IsIngestDue limits l i (table_numbered i.table.text (tables l)) (offer_due limits l offer)
 
 still_or_alone : (limits : Limits) (l : Log) (since : History) (i : Ingestion) (table : Numbered) (offer : Offer) → table_numbered i.table.text (tables l) ≡ Some table
-    → (kept : IsKept limits l table (λ (later : Log) (due : Due). IsRowsDue limits later i table due) offer) → (alone : Bool) → stands_alone (l ++ log since) kept.barring ≡ alone → alone || is_quiet kept.barring.looked since ≡ true → IsDueSo limits i offer (l ++ log since)
+    → (kept : IsKept limits l table (λ (later : Log) (due : Due). IsRowsDue limits later i table due) offer) → (alone : Bool) → stands_alone (l ++ log since) kept.barring ≡ alone → alone || is_quiet kept.barring.looked.items since ≡ true → IsDueSo limits i offer (l ++ log since)
 still_or_alone limits l since i table offer named kept true stands still =
     let later = l ++ log since in
     let unwidened = stands_unwidened later kept.barring stands in
@@ -67,7 +67,7 @@ still_or_alone limits l since i table offer named kept true stands still =
     (sym (read_still l (log since) i.table.text table kept.barring named kept.number kept.widened unwidened)) (kept.alone later stands)
 still_or_alone limits l since i table offer named kept false stands still =
     let later = l ++ log since in
-    let same : table_numbered i.table.text (tables later) ≡ Some table = ap (table_numbered i.table.text) (tables-quiet kept.barring.looked l since still) ∙ named in
+    let same : table_numbered i.table.text (tables later) ≡ Some table = ap (table_numbered i.table.text) (tables-quiet kept.barring.looked.items l since still) ∙ named in
     subst (λ (o : Option Numbered). IsIngestDue limits later i o (offer_due limits later offer)) (sym same) (kept.quiet since still)
 
 rows_later : (limits : Limits) (l : Log) (since : History) (i : Ingestion) (offer : Offer) (o : Option Numbered) → table_numbered i.table.text (tables l) ≡ o → IsIngestDue limits l i o (Commits (commit_of offer.intent)) → OffersInto limits l i (founds.Commits offer)

@@ -80,7 +80,7 @@ stands_alone l b = b.alone && is_alone l b.table && is_widened_at (slice_get (ta
 -- whether what was found for rows is what would be found now: they come alone, or no event since disturbs what came of them
 abbrev pub is_as_read : (since : History) → (now : Log) → Option Barring → Bool
 is_as_read since now None = true
-is_as_read since now (Some barring) = stands_alone now barring || is_quiet barring.looked since
+is_as_read since now (Some barring) = stands_alone now barring || is_quiet barring.looked.items since
 
 -- what an offer comes to: it is skipped where one of its tags stands, and else its commit is counted
 abbrev pub offer_due : Limits → Log → Offer → Due
@@ -94,7 +94,7 @@ pub record IsKept (limits : Limits) (l : Log) (table : Numbered) (IsDueAfter : L
   pub widened : barring.widened ≡ table.table.widened
   pub here : offer_due limits l offer ≡ Commits (commit_of offer.intent)
   pub alone : (later : Log) → stands_alone later barring ≡ true → IsDueAfter later (offer_due limits later offer)
-  pub quiet : (since : History) → is_quiet barring.looked since ≡ true → IsDueAfter (l ++ log since) (offer_due limits (l ++ log since) offer)
+  pub quiet : (since : History) → is_quiet barring.looked.items since ≡ true → IsDueAfter (l ++ log since) (offer_due limits (l ++ log since) offer)
 
 -- a commit that was found for a batch of rows that were read for a table
 abbrev pub IsOfferOf : Limits → Log → Numbered → Batch → List (List ℕ) → Found → Type 0
