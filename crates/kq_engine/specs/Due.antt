@@ -117,9 +117,13 @@ made_due limits l name schema =
 abbrev pub unnamed_due : Limits → Log → Identifier → List Field → Bool → Due
 unnamed_due limits l name schema viewed = if viewed then refused (refusals.Exists name.at) else made_due limits l name schema
 
+-- no table has the name
+abbrev pub new_due : Limits → Log → Identifier → List Field → Due
+new_due limits l name schema = unnamed_due limits l name schema (is_view name.text l)
+
 abbrev pub named_due : Limits → Log → Identifier → List Field → Option Table → Due
 named_due limits l name schema (Some t) = kept_due name schema t
-named_due limits l name schema None = unnamed_due limits l name schema (is_view name.text l)
+named_due limits l name schema None = new_due limits l name schema
 
 -- too many columns are refused, whether the name stands or not
 abbrev pub table_due : Limits → Log → Identifier → List Field → Due
@@ -139,10 +143,14 @@ abbrev pub lacking_due : Limits → Log → Numbered → List Field → Due
 lacking_due limits l found [] = Says (replies.Kept found.table.widened)
 lacking_due limits l found (f ∷ more) = wider_due limits l found (f ∷ more)
 
+-- those of the columns that the table lacks
+abbrev pub lacked_due : Limits → Log → Numbered → List Column → Due
+lacked_due limits l found columns = lacking_due limits l found (schema_of (new_columns found.table.schema columns))
+
 -- the first column is refused that the table has with another type
 abbrev pub clash_due : Limits → Log → Numbered → List Column → Option ℕ → Due
 clash_due limits l found columns (Some at) = refused (refusals.Mistyped at)
-clash_due limits l found columns None = lacking_due limits l found (schema_of (new_columns found.table.schema columns))
+clash_due limits l found columns None = lacked_due limits l found columns
 
 abbrev pub widening_due : Limits → Log → Identifier → List Column → Option Numbered → Due
 widening_due limits l name columns None = refused (refusals.Unknown name.at)

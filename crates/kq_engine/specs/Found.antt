@@ -1,17 +1,19 @@
 -- What is found of a command on a history, what of it stays due, and where memory may be wanting.
-use Rattle.std.specs.Prelude.{◌≡◌, ◌≢◌, ◌⊎◌, ◌<◌, ◌+◌, ◌&&◌, ◌||◌, not, ℕ, ℤ, Bool, true, false, nat_eq, nat_lt, List, [], ◌∷◌, ◌++◌, length, take, drop, Option, Some, None, Result, Ok, Err}
+use Rattle.std.specs.Prelude.{◌≡◌, ◌≢◌, ◌⊎◌, ◌<◌, ◌+◌, ◌&&◌, ◌||◌, not, ℕ, ℤ, Bool, true, false, nat_eq, nat_lt, List, [], ◌∷◌, ◌++◌, length, take, drop, Option, Some, None, Result, Ok, Err, IfOk}
 use Rattle.std.specs.List.{slice_get}
 use Rattle.kq_model.specs.declared.batch.Batch.{Batch}
 use Rattle.kq_model.specs.declared.event.Commit.{Commit}
 use Rattle.kq_model.specs.declared.limits.Limits.{Limits}
 use Rattle.kq_model.specs.declared.policy.Due.{Due as Entering}
 use Rattle.kq_model.specs.declared.table.Table.{Table}
+use Rattle.kq_model.specs.Derived.{Row}
 use Rattle.kq_model.specs.History.{History, Log, cursor, log, mark, tables, table_named, Numbered, table_numbered}
 use Rattle.kq_model.specs.Policies.{dues}
 use Rattle.kq_model.specs.Tagged.{least_tagged}
 use Rattle.kq_cascade.specs.declared.running.CascadeFault.{CascadeFault}
 use Rattle.kq_cascade.specs.declared.running.CascadeFault.TheVariants as cascades
 use Rattle.kq_catalog.specs.Intents.{Begins as IsBegun, commit_of}
+use Rattle.kq_catalog.specs.Seen.{SnapshotView}
 use Rattle.kq_command.specs.declared.columns.Column.{Column}
 use Rattle.kq_command.specs.declared.columns.Identifier.{Identifier}
 use Rattle.kq_command.specs.Widening.{new_columns}
@@ -25,6 +27,7 @@ use Rattle.kq_command.specs.declared.command.Show.TheVariants as shows
 use Rattle.kq_reply.specs.declared.refusal.Refusal.{Refusal}
 use Rattle.kq_reply.specs.declared.refusal.Refusal.TheVariants as refusals
 use Rattle.kq_reply.specs.declared.reply.Reply.TheVariants as replies
+use Rattle.kq_engine.specs.declared.tags.Labels.{Labels}
 use Rattle.kq_engine.specs.declared.work.Barring.{Barring}
 use Rattle.kq_engine.specs.declared.work.Found.{Found}
 use Rattle.kq_engine.specs.declared.work.Found.TheVariants as founds
@@ -102,6 +105,18 @@ IsOfferOf limits l table own barring (founds.Says reply) = Unit {0}
 IsOfferOf limits l table own barring (founds.Merges merging) = ⊥
 IsOfferOf limits l table own barring (founds.Folds folding) = ⊥
 IsOfferOf limits l table own barring (founds.Commits offer) = IsKept limits l table (λ (later : Log) (due : Due). IsBatchDue limits later own barring due) offer
+
+-- rows that were read for a table, as a batch with their tags
+abbrev pub batch_read : Numbered → List Row → Labels → Batch
+batch_read table rows labels = record { table = table.number; rows = rows; tags = labels.tags }
+
+-- the commit that was found for them
+abbrev pub OffersRead : SnapshotView → Numbered → List Row → Labels → Result Found Refusal → Type 0
+OffersRead s table rows labels result = IfOk result (IsOfferOf s.limits (log s.history) table (batch_read table rows labels) labels.barring)
+
+-- what it is, is due
+abbrev pub FindsRead : SnapshotView → Numbered → List Row → Labels → Result Found Refusal → Type 0
+FindsRead s table rows labels = Finds (IsBatchDue s.limits (log s.history) (batch_read table rows labels) labels.barring)
 
 -- a commit that was found for an ingestion into a table
 abbrev pub OffersRows : Limits → Log → Ingestion → Numbered → Found → Type 0

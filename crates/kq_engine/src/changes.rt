@@ -5,9 +5,9 @@ ghost use Rattle.kq_command.specs.declared.command.Change.TheVariants as changes
 ghost use Rattle.kq_command.specs.declared.command.Command.TheVariants as commands;
 ghost use Rattle.kq_command.specs.Columns.{schema_of};
 ghost use Rattle.kq_command.specs.Widening.{new_columns};
-ghost use Rattle.kq_engine.specs.Due.{IsDueByLog, kept_due, lacking_due, made_due, table_due, unnamed_due};
+ghost use Rattle.kq_engine.specs.Due.{IsDueByLog, kept_due, lacked_due, made_due, new_due, table_due};
 ghost use Rattle.kq_engine.specs.Found.{Finds, Gains, OffersChange, TakesToFind};
-ghost use Rattle.kq_model.specs.History.{log, tables, table_named, table_numbered, is_view};
+ghost use Rattle.kq_model.specs.History.{log, tables, table_named, table_numbered};
 ghost use Rattle.kq_reply.specs.declared.refusal.Refusal.TheVariants as refusals;
 
 use crate::ingestions::ingest;
@@ -78,7 +78,7 @@ fn keep(name: &Identifier, columns: &Columns, table: &Table) -> Result<Found, Re
 
 // No table has the name.
 fn make(snapshot: &Snapshot, name: &Identifier, columns: &Columns) -> Result<Found, Refusal>
-    ensures { Finds (λ due. due ≡ unnamed_due snapshot.now.limits (log snapshot.now.history) name.now (schema_of columns.now) (is_view name.now.text (log snapshot.now.history))) result }
+    ensures { Finds (λ due. due ≡ new_due snapshot.now.limits (log snapshot.now.history) name.now (schema_of columns.now)) result }
 {
     if snapshot.is_view(&name.text) {
         Err(Refusal::Exists { at: name.at as u64 })
@@ -130,7 +130,7 @@ fn widen(
     table: &Table,
     columns: &Columns,
 ) -> Result<Found, Refusal>
-    ensures due { Finds (λ due. due ≡ lacking_due snapshot.now.limits (log snapshot.now.history) (record { number = number; table = table.now }) (schema_of (new_columns table.now.schema columns.now))) result }
+    ensures due { Finds (λ due. due ≡ lacked_due snapshot.now.limits (log snapshot.now.history) (record { number = number; table = table.now }) columns.now) result }
     ensures memory { IfErr result (λ r. r ≡ refusals.Memory → new_columns table.now.schema columns.now ≢ []) }
 {
     let new = columns.count_new(&table.schema);

@@ -4,8 +4,8 @@ ghost use Rattle.std.specs.List.{slice_get};
 ghost use Rattle.kq_cascade.specs.Makes.{RefusesBy};
 ghost use Rattle.kq_catalog.specs.Intents.{batch_of};
 ghost use Rattle.kq_command.specs.declared.command.Change.TheVariants as changes;
-ghost use Rattle.kq_engine.specs.Due.{IsBatchDue, IsDueByLog, IsRowsDue, counted, refusal_of as refusal_by};
-ghost use Rattle.kq_engine.specs.Found.{Finds, IsOfferOf, OffersCommit, OffersInto, OffersRows, Stands, refusal_by_cascade};
+ghost use Rattle.kq_engine.specs.Due.{IsDueByLog, IsRowsDue, counted, refusal_of as refusal_by};
+ghost use Rattle.kq_engine.specs.Found.{Finds, FindsRead, OffersCommit, OffersRead, OffersInto, OffersRows, Stands, refusal_by_cascade};
 ghost use Rattle.kq_model.specs.declared.event.Commit.TheVariants as commits;
 ghost use Rattle.kq_model.specs.History.{log, tables, table_numbered};
 ghost use Rattle.kq_model.specs.Records.{schema_of};
@@ -84,8 +84,8 @@ fn put_rows(
 ) -> Result<Found, Refusal>
     requires stands { slice_get (tables (log snapshot.now.history)) number ≡ Some table.now }
     requires typed { All (HasTypes table.now.schema) rows }
-    ensures due { Finds (IsBatchDue snapshot.now.limits (log snapshot.now.history) (record { table = number; rows = rows; tags = labels.tags }) labels.barring) result }
-    ensures offers { IfOk result (IsOfferOf snapshot.now.limits (log snapshot.now.history) (record { number = number; table = table.now }) (record { table = number; rows = rows; tags = labels.tags }) labels.barring) }
+    ensures due { FindsRead snapshot.now (record { number = number; table = table.now }) rows labels result }
+    ensures offers { OffersRead snapshot.now (record { number = number; table = table.now }) rows labels result }
 {
     let Labels { tags, barring } = labels;
     if let Some(cursor) = least_cursor(snapshot, number, barring.as_slice()) {

@@ -50,6 +50,10 @@ abbrev pub IsKept : History → History → Upkeep → Type 0
 IsKept first h (upkeeps.Fold view) = IsForward first h view
 IsKept first h (upkeeps.Merge table) = IsMerged first h table
 
+-- the first so many views, or tables, are kept up
+abbrev pub AreKeptBelow : History → History → (ℕ → Upkeep) → ℕ → Type 0
+AreKeptBelow first h of count = (n : ℕ) → n < count → IsKept first h (of n)
+
 -- each view and each table that stood at the end of the earlier history is kept up
 abbrev pub AreKept : History → History → Type 0
 AreKept first h = (upkeep : Upkeep) → IsThere (log first) upkeep → IsKept first h upkeep

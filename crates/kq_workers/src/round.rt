@@ -1,8 +1,8 @@
 // One round of a worker.
-ghost use Rattle.std.specs.Prelude.{◌≡◌, ◌<◌, ℕ, false, length};
+ghost use Rattle.std.specs.Prelude.{◌≡◌, false, length};
 ghost use Rattle.kq_engine.specs.Upkeeps.{IsThere, KeepsUp};
 ghost use Rattle.kq_model.specs.History.{log, tables, view_count};
-ghost use Rattle.kq_workers.specs.Kept.{AreKept, IsKept};
+ghost use Rattle.kq_workers.specs.Kept.{AreKept, AreKeptBelow, IsKept};
 ghost use Rattle.kq_workers.specs.Rounds.{GoesOn, HasRound, HasTurns, TakesOne, wants_memory as wants_memory_by};
 
 use crate::worker::{Post, Worker};
@@ -33,7 +33,7 @@ fn fold_views<R: Wait, G: Gate>(post: &Post<R, G>, worker: &mut Worker, snapshot
     requires since { GoesOn post.now.shared.now.limits snapshot.now.history worker.old.pass.seen }
     ensures turns { HasTurns post.now.shared.now.limits post.now.actor worker.old worker.new }
     ensures since { GoesOn post.now.shared.now.limits snapshot.now.history worker.new.pass.seen }
-    ensures kept { worker.new.short ≡ false → (view : ℕ) → view < view_count (log snapshot.now.history) → IsKept snapshot.now.history worker.new.pass.seen (Upkeep.Fold view) }
+    ensures kept { worker.new.short ≡ false → AreKeptBelow snapshot.now.history worker.new.pass.seen Upkeep.Fold (view_count (log snapshot.now.history)) }
 {
     let mut moved = false;
     for view in 0..snapshot.view_count() {
@@ -53,7 +53,7 @@ fn merge_tables<R: Wait, G: Gate>(
     requires since { GoesOn post.now.shared.now.limits snapshot.now.history worker.old.pass.seen }
     ensures turns { HasTurns post.now.shared.now.limits post.now.actor worker.old worker.new }
     ensures since { GoesOn post.now.shared.now.limits snapshot.now.history worker.new.pass.seen }
-    ensures kept { worker.new.short ≡ false → (table : ℕ) → table < length (tables (log snapshot.now.history)) → IsKept snapshot.now.history worker.new.pass.seen (Upkeep.Merge table) }
+    ensures kept { worker.new.short ≡ false → AreKeptBelow snapshot.now.history worker.new.pass.seen Upkeep.Merge (length (tables (log snapshot.now.history))) }
 {
     let mut moved = false;
     for table in 0..snapshot.table_count() {
