@@ -45,7 +45,7 @@ pub record AppendsLast (limits : Limits) (old new : PassView) (work : Work) (out
   pub last : new.taken ≡ before ++ length found ∷ []
   pub appends : Appends limits found new.seen work.by work.command outcome
 
--- a command went through the pass: it made at most one event, and its outcome fits what the pass has then seen, at a place not below what it had seen
+-- a command went through the pass: under its last take it made at most one event, and its outcome fits what the pass has then seen, at a place not below what it had seen
 pub record Applies (limits : Limits) (old new : PassView) (work : Work) (outcome : Outcome) : Type 0 where
   pub of : new.of ≡ old.of
   pub worth : new.worth ≡ old.worth
