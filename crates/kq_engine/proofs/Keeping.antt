@@ -22,7 +22,7 @@ use Rattle.kq_model.specs.Policies.{dues, policies, rules}
 use Rattle.kq_model.specs.Tagged.{least_tagged}
 use Rattle.kq_model.proofs.Wider.{Comes-wider}
 use Rattle.kq_policies.specs.Quiet.{is_quiet, looked}
-use Rattle.kq_policies.proofs.Quiet.{derived-still}
+use Rattle.kq_policies.proofs.Lasting.{derived-still}
 use Rattle.kq_reply.specs.declared.refusal.Refusal.{Refusal}
 use Rattle.kq_reply.specs.declared.refusal.Refusal.TheVariants as refusals
 use Rattle.kq_engine.specs.declared.work.Barring.{Barring}

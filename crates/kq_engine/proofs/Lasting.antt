@@ -21,7 +21,7 @@ use Rattle.kq_reply.specs.declared.refusal.Refusal.TheVariants as refusals
 use Rattle.kq_reply.specs.declared.reply.Reply.{Reply}
 use Rattle.kq_reply.specs.declared.reply.Reply.TheVariants as replies
 use Rattle.kq_policies.specs.Quiet.{is_quiet}
-use Rattle.kq_policies.proofs.Quiet.{tables-quiet}
+use Rattle.kq_policies.proofs.Lasting.{tables-quiet}
 use Rattle.kq_engine.specs.declared.work.Barring.{Barring}
 use Rattle.kq_engine.specs.declared.work.Found.{Found}
 use Rattle.kq_engine.specs.declared.work.Found.TheVariants as founds

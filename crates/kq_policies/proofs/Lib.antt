@@ -1,5 +1,5 @@
 pub mod Cutting
-pub mod Quiet
+pub mod Lasting
 pub mod Reading
 pub mod Entries
 pub mod Records

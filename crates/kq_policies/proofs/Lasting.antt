@@ -1,8 +1,9 @@
 -- What came of a batch comes of it still where nothing disturbs it.
-use Rattle.std.proofs.Common.{◌≡◌, ◌≢◌, ◌⊎◌, ◌&&◌, ◌||◌, not, inl, inr, ◌+◌, ℕ, Bool, true, false, cond, List, [], ◌∷◌, ◌++◌, All, Option, None, Some, length, nat_eq, refl, ap, sym, ◌∙◌, subst, arith, add-zero}
+use Rattle.std.proofs.Common.{◌≡◌, ◌≢◌, ◌⊎◌, ◌&&◌, ◌||◌, not, inl, inr, ◌+◌, ◌<◌, ℕ, suc, Bool, true, false, cond, drop, drop-cons, get_or, map, List, [], ◌∷◌, ◌++◌, All, Option, None, Some, length, nat_eq, refl, ap, sym, ◌∙◌, subst, arith, add-zero}
 use Rattle.std.specs.List.{slice_get}
 use Rattle.std.proofs.lemmas.Bool.{and_parts, false≢true}
 use Rattle.std.proofs.lemmas.Bool.Decides.{eqb_tells}
+use Rattle.std.proofs.lemmas.List.{get_or-map, length-map}
 use Rattle.std.proofs.lemmas.List.Elements.{All-cons, All-nil}
 use Rattle.kq_cascade.specs.Makes.{among}
 use Rattle.kq_model.specs.declared.batch.Batch.{Batch}
@@ -45,16 +46,16 @@ or_right : (a b : Bool) → b ≡ true → a || b ≡ true
 or_right true b e = refl
 or_right false b e = e
 
+or_more : (a b c : Bool) → (b ≡ true → c ≡ true) → a || b ≡ true → a || c ≡ true
+or_more true b c more e = refl
+or_more false b c more e = more e
+
 never : (b : Bool) → b ≡ false → b ≡ true → ⊥
 never b is_not is = false≢true (sym is_not ∙ is)
 
 one_left : (t : ℕ) (xs ys : List ℕ) → is_one_of t xs ≡ true → is_one_of t (xs ++ ys) ≡ true
 one_left t [] ys e = absurd (false≢true e)
-one_left t (x ∷ xs) ys e = by_test (nat_eq x t) e
-  where
-    by_test : (b : Bool) → b || is_one_of t xs ≡ true → b || is_one_of t (xs ++ ys) ≡ true
-    by_test true is = refl
-    by_test false is = one_left t xs ys is
+one_left t (x ∷ xs) ys e = or_more (nat_eq x t) (is_one_of t xs) (is_one_of t (xs ++ ys)) (one_left t xs ys) e
 
 one_right : (t : ℕ) (xs ys : List ℕ) → is_one_of t ys ≡ true → is_one_of t (xs ++ ys) ≡ true
 one_right t [] ys e = e
@@ -74,15 +75,37 @@ itself t ts = or_left (nat_eq t t) (is_one_of t ts) same
     same : nat_eq t t ≡ true
     same = by_case (eqb_tells t t)
 
+and_both : (a b c d : Bool) → d ≡ (b && c) → (a && d) ≡ ((a && b) && c)
+and_both true b c d e = e
+and_both false b c d e = refl
+
 -- ---- walks
 
 pub quiet-append : (ts : List ℕ) (h more : History) → is_quiet ts (h ++ more) ≡ (is_quiet ts h && is_quiet ts more)
 quiet-append ts [] more = refl
-quiet-append ts (e ∷ h) more = by_test (disturbs ts e.operation)
-  where
-    by_test : (b : Bool) → (not b && is_quiet ts (h ++ more)) ≡ ((not b && is_quiet ts h) && is_quiet ts more)
-    by_test true = refl
-    by_test false = quiet-append ts h more
+quiet-append ts (e ∷ h) more = and_both (not (disturbs ts e.operation)) (is_quiet ts h) (is_quiet ts more) (is_quiet ts (h ++ more)) (quiet-append ts h more)
+
+-- what is left of some events, and the next
+pub next_event : {H : Type 0} (value : H → Event) (handles : List H) (i : ℕ) (h : H) → i < length handles → h ≡ get_or handles i h
+    → drop i (map value handles) ≡ value h ∷ drop (i + 1) (map value handles)
+next_event value handles i h within is =
+    let es = map value handles in
+    let n = length-map handles value in
+    let more : suc i ≡ i + 1 = omega arith in
+    drop-cons es i (value h) (omega (arith, n, within)) ∙ ap (λ (e : Event). e ∷ drop (suc i) es) (get_or-map value handles i h (value h) within ∙ ap value (sym is)) ∙ ap (λ (k : ℕ). value h ∷ drop k es) more
+
+pub quiet-next : (ts : List ℕ) (whole before left : History) (e : Event) → before ≡ e ∷ left → disturbs ts e.operation ≡ false → is_quiet ts before ≡ is_quiet ts whole → is_quiet ts left ≡ is_quiet ts whole
+quiet-next ts whole before left e is none same = ap (λ (b : Bool). not b && is_quiet ts left) (sym none) ∙ ap (is_quiet ts) (sym is) ∙ same
+
+pub quiet-ended : (ts : List ℕ) (whole before left : History) (e : Event) → before ≡ e ∷ left → disturbs ts e.operation ≡ true → is_quiet ts before ≡ is_quiet ts whole → false ≡ is_quiet ts whole
+quiet-ended ts whole before left e is one same = ap (λ (b : Bool). not b && is_quiet ts left) (sym one) ∙ ap (is_quiet ts) (sym is) ∙ same
+
+-- the rest is as quiet as what stands in front of it lets it be
+pub quiet-part : (ts : List ℕ) (whole before part left : History) → before ≡ part ++ left → is_quiet ts part ≡ true → is_quiet ts before ≡ is_quiet ts whole → is_quiet ts left ≡ is_quiet ts whole
+quiet-part ts whole before part left is quiet same = ap (λ (b : Bool). b && is_quiet ts left) (sym quiet) ∙ sym (quiet-append ts part left) ∙ ap (is_quiet ts) (sym is) ∙ same
+
+pub quiet-parted : (ts : List ℕ) (whole before part left : History) → before ≡ part ++ left → is_quiet ts part ≡ false → is_quiet ts before ≡ is_quiet ts whole → false ≡ is_quiet ts whole
+quiet-parted ts whole before part left is loud same = ap (λ (b : Bool). b && is_quiet ts left) (sym loud) ∙ sym (quiet-append ts part left) ∙ ap (is_quiet ts) (sym is) ∙ same
 
 -- ---- tables and policies
 
@@ -141,16 +164,16 @@ policies_quiet ts l more q = policies_from-append [] l (log more) ∙ policies_s
 
 -- ---- rows
 
+passed_over : (ts : List ℕ) (t at ordinal : ℕ) (b : Batch) (bs : List Batch) → is_one_of b.table ts ≡ false → is_one_of t ts ≡ true → given_by t at ordinal bs ≡ []
+    → ((nat_eq b.table t ≡ true) × (b.table ≡ t)) ⊎ ((nat_eq b.table t ≡ false) × (b.table ≢ t)) → given_by t at ordinal (b ∷ bs) ≡ []
+passed_over ts t at ordinal b bs none one rest (inl here) = absurd (never (is_one_of t ts) (ap (λ (k : ℕ). is_one_of k ts) (sym here.1) ∙ none) one)
+passed_over ts t at ordinal b bs none one rest (inr there) = rw there.0 rest
+
 none_by : (ts : List ℕ) (t at ordinal : ℕ) (bs : List Batch) → gives_one ts bs ≡ false → is_one_of t ts ≡ true → given_by t at ordinal bs ≡ []
 none_by ts t at ordinal [] none one = refl
-none_by ts t at ordinal (b ∷ bs) none one = by_case (eqb_tells b.table t)
-  where
-    parts : (is_one_of b.table ts ≡ false) × (gives_one ts bs ≡ false)
-    parts = or_none (is_one_of b.table ts) (gives_one ts bs) none
-
-    by_case : ((nat_eq b.table t ≡ true) × (b.table ≡ t)) ⊎ ((nat_eq b.table t ≡ false) × (b.table ≢ t)) → given_by t at ordinal (b ∷ bs) ≡ []
-    by_case (inl here) = absurd (never (is_one_of t ts) (ap (λ (k : ℕ). is_one_of k ts) (sym here.1) ∙ parts.0) one)
-    by_case (inr there) = rw there.0 (none_by ts t at ordinal bs parts.1 one)
+none_by ts t at ordinal (b ∷ bs) none one =
+    let parts = or_none (is_one_of b.table ts) (gives_one ts bs) none in
+    passed_over ts t at ordinal b bs parts.0 one (none_by ts t at ordinal bs parts.1 one) (eqb_tells b.table t)
 
 none_one : (ts : List ℕ) (t n : ℕ) (o : Operation) → disturbs ts o ≡ false → is_one_of t ts ≡ true → records_from t n (commits_of o) ≡ []
 none_one ts t n (operations.Commit (commits.CreateTable name schema)) q one = refl
