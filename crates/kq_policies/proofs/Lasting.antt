@@ -7,7 +7,6 @@ use Rattle.std.proofs.lemmas.List.{get_or-map, length-map}
 use Rattle.std.proofs.lemmas.List.Elements.{All-cons, All-nil}
 use Rattle.kq_cascade.specs.Makes.{among}
 use Rattle.kq_model.specs.declared.batch.Batch.{Batch}
-use Rattle.kq_model.specs.declared.event.Commit.{Commit}
 use Rattle.kq_model.specs.declared.event.Commit.TheVariants as commits
 use Rattle.kq_model.specs.declared.event.Event.{Event}
 use Rattle.kq_model.specs.declared.event.Operation.{Operation}
@@ -18,7 +17,7 @@ use Rattle.kq_model.specs.declared.table.Table.{Table}
 use Rattle.kq_model.specs.Beside.{DueGives}
 use Rattle.kq_model.specs.Derived.{Cascade, IsDerived}
 use Rattle.kq_model.specs.Force.{policy_at}
-use Rattle.kq_model.specs.History.{History, Log, Numbered, commits_of, log, table_numbered, tables, tables_from, tables_with}
+use Rattle.kq_model.specs.History.{History, Log, Numbered, commits_of, log, tables, tables_from, tables_with}
 use Rattle.kq_model.specs.Policies.{policies, policies_from, policies_with, rules}
 use Rattle.kq_model.specs.Records.{given_by, records_from}
 use Rattle.kq_model.proofs.Lasting.{AreKept, IsDerived-later, IsKept}
@@ -26,7 +25,7 @@ use Rattle.kq_model.proofs.Unique.{records_from-append}
 use Rattle.kq_plan.specs.declared.work.LeafKind.TheVariants as kind
 use Rattle.kq_plan.specs.Plans.{Doing, Stepping, leaf, one_row, numbers, written, scalar, kept, mapped, cut, counted, sorted, topped, apart, summarized, joined, united, expanded, planned_of}
 use Rattle.kq_value.specs.declared.record.Record.{Record}
-use Rattle.kq_policies.specs.Quiet.{changes, disturbs, gives_one, in_front, is_one_of, is_quiet, looked, looked_at, looked_by, looked_from, other_than}
+use Rattle.kq_policies.specs.Quiet.{disturbs, gives_one, in_front, is_one_of, is_quiet, looked, looked_at, looked_by, looked_from, other_than}
 
 -- ---- tests
 
