@@ -1,4 +1,5 @@
 pub mod Cutting
+pub mod LaidOut
 pub mod Reading
 pub mod Entries
 pub mod Records
