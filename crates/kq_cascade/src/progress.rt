@@ -1,9 +1,11 @@
 // A cascade in progress.
 ghost use Rattle.std.specs.Prelude.{◌≡◌, ◌<◌, ◌^◌, IfOk, OnOk, length};
+ghost use Rattle.kq_model.specs.Typed.{IsTyped};
 ghost use Rattle.kq_cascade.specs.Steps.{Falls, IsLaid, IsNext, Settles, batch_at, begun, noted, opened, state_of};
 
 use crate::batch::BatchRows;
 use crate::stack::{Frame, Stack};
+use crate::tables::Tables;
 use kq_model::{Cause, Due, Failure, Failures};
 use kq_value::Memory;
 use std::alloc::Global;
@@ -53,6 +55,15 @@ impl Progress {
         ensures { result.now ≡ batch_at self.now.batches.items self.now.top.own }
     {
         &self.batches[self.top.own]
+    }
+
+    /// Lays out the rows of the batch whose entries run, where they aren't yet.
+    pub fn lay_out<T: Tables>(&mut self, alloc: Global, tables: &T) -> Result<(), Memory>
+        requires own { self.old.top.own < length self.old.batches.items }
+        requires typed { IsTyped (T.rules tables.now).columns (batch_at self.old.batches.items self.old.top.own) }
+        ensures { state_of self.new ≡ state_of self.old }
+    {
+        self.batches[self.top.own].lay_out(alloc, tables)
     }
 
     /// The next entry that runs, and none where all did.

@@ -18,19 +18,19 @@ use std::alloc::Global;
 // The most rows of a batch that comes of another.
 const MOST_ROWS: u64 = 1048576;
 
-/// The rows that the query of an entry gives over rows of its source, or the cause by which it fails.
+/// The rows that the query of an entry gives over a batch of its source, or the cause by which it fails.
 pub(crate) fn query<T: Tables>(
     alloc: Global,
     tables: &T,
     due: Due,
-    rows: &Rows,
+    batch: &BatchRows,
 ) -> Result<Rows, QueryFault>
     requires standing { IsStanding (T.rules tables.now).policies due }
-    requires typed { All (HasTypes ((T.rules tables.now).columns due.source)) rows.now }
-    ensures answer { IsQueried (T.gives tables.now) due rows.now result }
+    requires typed { All (HasTypes ((T.rules tables.now).columns due.source)) batch.now.rows }
+    ensures answer { IsQueried (T.gives tables.now) due batch.now.rows result }
     ensures typed { IfOk result (All (IsLead ((T.rules tables.now).columns due.target))) }
 {
-    match tables.run(alloc, due, rows) {
+    match tables.run(alloc, due, batch) {
         Ok(given) if given.len() as u64 > MOST_ROWS => {
             Err(QueryFault::Fails(Cause::Full { limit: MOST_ROWS }))
         }

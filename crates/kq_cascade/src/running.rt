@@ -85,7 +85,7 @@ pub fn cascade<T: Tables>(
     })
 }
 
-// Runs the query of an entry for the batch whose entries run.
+// Runs the query of an entry for the batch whose entries run, which is laid out for all of them.
 fn run<T: Tables>(
     alloc: Global,
     tables: &T,
@@ -97,7 +97,8 @@ fn run<T: Tables>(
     ensures ok { OnOk result (Runs (T.rules tables.now) (T.gives tables.now) dues.now due (state_of progress.old) (state_of progress.new)) }
     ensures err { IfErr result (FailsWhole (T.gives tables.now) dues.now due (state_of progress.old)) }
 {
-    match query(alloc, tables, due, progress.batch().rows()) {
+    progress.lay_out(alloc, tables)?;
+    match query(alloc, tables, due, progress.batch()) {
         Ok(given) => {
             let batch = next_batch(alloc, tables, progress.batch(), due, given)?;
             progress.open(batch)?;

@@ -2,10 +2,13 @@
 ghost use Rattle.std.specs.Prelude.{◌≡◌, All, IfOk};
 ghost use Rattle.kq_model.specs.Enabled.{enabled};
 ghost use Rattle.kq_model.specs.Force.{IsStanding};
+ghost use Rattle.kq_cascade.specs.Lent.{HoldsRows};
 ghost use Rattle.kq_cascade.specs.Queried.{Answers};
 ghost use Rattle.kq_model.specs.Typed.{IsLead};
 ghost use Rattle.kq_value.specs.Typed.{HasTypes};
 
+use crate::batch::BatchRows;
+use kq_extent::TableExtents;
 use kq_model::{Cause, Due};
 use kq_rows::Rows;
 use kq_value::{Field, Memory};
@@ -50,10 +53,15 @@ pub trait Tables {
     fn columns(&self, table: u32) -> &[Field]
         ensures { result.now ≡ (rules self.now).columns table };
 
-    /// Runs the query of an entry over rows of its source. The rows that it gives lack no column of the target's but the last ones.
-    fn run(&self, alloc: Global, due: Due, rows: &Rows) -> Result<Rows, QueryFault>
+    /// Lays out rows of a table as an extent, once for all queries that are run over them.
+    fn lay_out(&self, alloc: Global, table: u32, rows: &Rows) -> Result<TableExtents, Memory>
+        requires { All (HasTypes ((rules self.now).columns table)) rows.now }
+        ensures { IfOk result (λ held. HoldsRows held rows.now) };
+
+    /// Runs the query of an entry over a batch of its source. The rows that it gives lack no column of the target's but the last ones.
+    fn run(&self, alloc: Global, due: Due, batch: &BatchRows) -> Result<Rows, QueryFault>
         requires standing { IsStanding (rules self.now).policies due }
-        requires typed { All (HasTypes ((rules self.now).columns due.source)) rows.now }
-        ensures answer { Answers (gives self.now due rows.now) result }
+        requires typed { All (HasTypes ((rules self.now).columns due.source)) batch.now.rows }
+        ensures answer { Answers (gives self.now due batch.now.rows) result }
         ensures typed { IfOk result (All (IsLead ((rules self.now).columns due.target))) };
 }

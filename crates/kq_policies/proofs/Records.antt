@@ -1,12 +1,14 @@
 -- What the tables of a snapshot give beside the rows of a batch.
-use Rattle.std.proofs.Common.{◌≡◌, ◌<◌, ◌^◌, ℕ, [], List, All, Option, Some, length, map, option_map, take, unwrap_or, cond, ap, sym, ◌∙◌, subst, arith}
+use Rattle.std.proofs.Common.{◌≡◌, ◌<◌, ◌^◌, ℕ, [], List, All, Option, Some, Result, Ok, Err, IfOk, length, map, option_map, take, unwrap_or, cond, ap, sym, ◌∙◌, subst, arith}
 use Rattle.std.specs.List.{slice_get}
 use Rattle.std.specs.List.Sorted.{IsPermutation}
 use Rattle.std.proofs.lemmas.Bool.{eq-eqb}
 use Rattle.std.proofs.lemmas.List.Sorted.{All-permutation, IsPermutation-map, IsPermutation-sym, length_permutation}
+use Rattle.kq_cascade.specs.Lent.{HoldsRows}
 use Rattle.kq_computed.specs.Computed.{Is}
 use Rattle.kq_extent.specs.Seen.{HeldExtents, held_records, row_of}
 use Rattle.kq_extent.specs.Wide.{wide_held}
+use Rattle.kq_extent.proofs.Wide.{held_records-wide}
 use Rattle.kq_lent.specs.Lent.{AreLent, rows_held}
 use Rattle.kq_model.specs.declared.table.Table.{Table}
 use Rattle.kq_model.specs.Beside.{TableBeside, cut_to, rows_beside}
@@ -20,11 +22,17 @@ use Rattle.kq_value.specs.declared.schema.Field.{Field}
 use Rattle.kq_value.specs.Same.{Same}
 use Rattle.kq_value.specs.Typed.{HasTypes}
 use Rattle.kq_value.proofs.SameLemmas.{Same-from_permutation, Same-refl}
+use Rattle.kq_widened.proofs.Widened.{widened_records-same}
 use Rattle.kq_policies.specs.Reading.{IsFirstOf}
 use Rattle.kq_policies.proofs.Cutting.{all_typed_take, all_whole}
 
-schema_at : (l : Log) (number : ℕ) (t : Table) → slice_get (tables l) number ≡ Some t → schema_of l number ≡ t.schema
+pub schema_at : (l : Log) (number : ℕ) (t : Table) → slice_get (tables l) number ≡ Some t → schema_of l number ≡ t.schema
 schema_at l number t at = ap (λ (o : Option Table). unwrap_or (option_map (λ (x : Table). x.schema) o) []) at
+
+-- rows that a call gives are some, of which this holds
+pub of_given : {E : Type 0} (r : Result (List Row) E) (rows : List Row) (P : List Row → Type 0) → IfOk r (λ given. given ≡ rows) → P rows → IfOk r P
+of_given (Ok given) rows P is here = subst P (sym is) here
+of_given (Err e) rows P is here = tt
 
 -- ---- a table's records
 
@@ -74,6 +82,26 @@ copies_lent fields copied held shared same also lent =
 pub copies_hold : (fields copied : List Field) (held shared : HeldExtents) → copied ≡ fields → shared ≡ held → rows_held (wide_held copied shared) ≡ rows_held (wide_held fields held)
 copies_hold fields copied held shared same also =
     ap (λ (t : HeldExtents). rows_held (wide_held copied t)) also ∙ ap (λ (fs : List Field). rows_held (wide_held fs held)) same
+
+-- ---- a batch
+
+-- extents that hold rows of a table's types hold them under its columns too
+module _ (fields : List Field) (held : HeldExtents) (batch : List Row) (holds : HoldsRows held batch) (typed : All (HasTypes fields) batch) where
+  unwidened : held_records (wide_held fields held) ≡ held_records held
+  unwidened = held_records-wide fields held ∙ widened_records-same fields (held_records held) (subst (All (HasTypes fields)) (sym holds.are) typed)
+
+  pub batch_held : rows_held (wide_held fields held) ≡ batch
+  batch_held = ap (map row_of) unwidened ∙ holds.are
+
+  pub batch_lent : AreLent (wide_held fields held)
+  batch_lent =
+      let few = holds.small in
+      let long = ap length unwidened in
+      record { wide = subst (λ (rs : List Row). same_width rs) (sym batch_held) (same_width-typed fields batch typed); small = omega (arith, long, few) }
+
+  -- and where so many cells are read as there are columns, they are read whole
+  pub batch_whole : (n : ℕ) → n ≡ length fields → rows_held (wide_held fields held) ≡ map (take n) batch
+  batch_whole n all = batch_held ∙ sym (ap (λ (k : ℕ). map (take k) batch) all ∙ all_whole fields batch typed)
 
 -- ---- the source
 

@@ -1,6 +1,8 @@
 // The rows of a batch, beside the records of the tables.
-ghost use Rattle.std.specs.Prelude.{◌≡◌, All, IfOk, Some, length, slice_get, take};
+ghost use Rattle.std.specs.Prelude.{◌≡◌, All, IfOk, Some, length, map, slice_get, take};
 ghost use Rattle.kq_computed.specs.Computed.{Is};
+ghost use Rattle.kq_extent.specs.Wide.{wide_held};
+ghost use Rattle.kq_lent.specs.Lent.{AreLent, rows_held};
 ghost use Rattle.kq_model.specs.Beside.{cut_to};
 ghost use Rattle.kq_model.specs.History.{log, tables};
 ghost use Rattle.kq_model.specs.Records.{rows_in, schema_of};
@@ -10,14 +12,15 @@ ghost use Rattle.kq_policies.specs.Over.{GivesBeside};
 ghost use Rattle.kq_policies.specs.Reading.{IsFirstOf};
 
 use crate::cut::cut;
+use kq_cascade::BatchRows;
 use kq_catalog::Snapshot;
 use kq_computed::EvalFault;
+use kq_extent::TableExtents;
 use kq_lent::Held;
 use kq_model::Table;
 use kq_pipe::Leaves;
 use kq_plan::{LeafKind, Plan};
-use kq_rows::Rows;
-use kq_value::{Field, Memory, Text};
+use kq_value::{Field, Memory, Schema, Text};
 use std::alloc::Global;
 use std::marker::Model;
 
@@ -26,7 +29,7 @@ use std::marker::Model;
 pub(crate) struct Beside<'a> {
     snapshot: &'a Snapshot,
     source: u32,
-    rows: &'a Rows,
+    batch: &'a BatchRows,
     plan: &'a Plan,
 }
 
@@ -44,20 +47,25 @@ impl<'a> Model for Beside<'a> {
 
     ghost coded = { Prim.hlevel (codes, cell.the_row.coded, expr.the_row.coded) };
 
-    ghost view = { λ b. record { history = b.snapshot.now.history; source = b.source; rows = b.rows.now; plan = b.plan.now } };
+    ghost view = { λ b. record { history = b.snapshot.now.history; source = b.source; rows = b.batch.now.rows; plan = b.plan.now } };
 
-    ghost invariant = { λ b. All (HasTypes (schema_of (log b.snapshot.now.history) b.source)) b.rows.now };
+    ghost invariant = { λ b. All (HasTypes (schema_of (log b.snapshot.now.history) b.source)) b.batch.now.rows };
 }
 
 impl<'a> Beside<'a> {
-    pub fn new(snapshot: &'a Snapshot, source: u32, rows: &'a Rows, plan: &'a Plan) -> Beside<'a>
-        requires { All (HasTypes (schema_of (log snapshot.now.history) source)) rows.now }
-        ensures { result ≡ record { history = snapshot.now.history; source = source; rows = rows.now; plan = plan.now } }
+    pub fn new(
+        snapshot: &'a Snapshot,
+        source: u32,
+        batch: &'a BatchRows,
+        plan: &'a Plan,
+    ) -> Beside<'a>
+        requires { All (HasTypes (schema_of (log snapshot.now.history) source)) batch.now.rows }
+        ensures { result ≡ record { history = snapshot.now.history; source = source; rows = batch.now.rows; plan = plan.now } }
     {
         Beside {
             snapshot,
             source,
-            rows,
+            batch,
             plan,
         }
     }
@@ -85,7 +93,7 @@ impl Leaves for Beside<'_> {
                 alloc,
                 self.snapshot,
                 self.source,
-                self.rows,
+                self.batch,
                 name,
                 columns,
             )?),
@@ -99,23 +107,39 @@ fn table_beside(
     alloc: Global,
     snapshot: &Snapshot,
     source: u32,
-    batch: &Rows,
+    batch: &BatchRows,
     name: &Text,
     columns: &[Field],
 ) -> Result<Held, Memory>
-    requires typed { All (HasTypes (schema_of (log snapshot.now.history) source)) batch.now }
+    requires typed { All (HasTypes (schema_of (log snapshot.now.history) source)) batch.now.rows }
     requires first { IsFirstOf (log snapshot.now.history) name.now columns.now }
-    ensures { IfOk result (λ rows. GivesBeside (log snapshot.now.history) source batch.now name.now columns.now (Is rows)) }
+    ensures { IfOk result (λ rows. GivesBeside (log snapshot.now.history) source batch.now.rows name.now columns.now (Is rows)) }
 {
     match snapshot.table(name) {
         Some((number, table)) => {
             if number == source {
-                Ok(Held::own(cut(alloc, batch, columns.len())?))
+                batch_cut(alloc, batch, table, columns)
             } else {
                 records_cut(alloc, snapshot, number, table, columns)
             }
         }
         None => unreachable!(),
+    }
+}
+
+// The rows of a batch: lent where they are laid out and read under all columns of their table, and else copied as far as they are.
+fn batch_cut(
+    alloc: Global,
+    batch: &BatchRows,
+    table: &Table,
+    columns: &[Field],
+) -> Result<Held, Memory>
+    requires { All (HasTypes table.now.schema) batch.now.rows }
+    ensures { IfOk result (λ rows. rows ≡ map (take (length columns.now)) batch.now.rows) }
+{
+    match batch.lent() {
+        Some(extents) if columns.len() == table.schema.len() => lend(extents, &table.schema),
+        _ => Ok(Held::own(cut(alloc, batch.rows(), columns.len())?)),
     }
 }
 
@@ -134,9 +158,17 @@ fn records_cut(
 {
     let extents = snapshot.extents(number);
     if columns.len() == table.schema.len() {
-        Ok(Held::lent(extents.share()?, table.schema.clone_in()?))
+        lend(extents, &table.schema)
     } else {
         let all = extents.all_rows(alloc, table.schema.as_slice())?;
         Ok(Held::own(cut(alloc, &all, columns.len())?))
     }
+}
+
+// The rows of extents as they stand, under the columns of their table.
+fn lend(extents: &TableExtents, schema: &Schema) -> Result<Held, Memory>
+    requires { AreLent (wide_held schema.now extents.now) }
+    ensures { IfOk result (λ rows. rows ≡ rows_held (wide_held schema.now extents.now)) }
+{
+    Ok(Held::lent(extents.share()?, schema.clone_in()?))
 }

@@ -3,6 +3,7 @@
 
 mod beside;
 mod cut;
+mod laying;
 mod lookups;
 mod policies;
 mod quiet;

@@ -5,12 +5,14 @@ ghost use Rattle.kq_model.specs.Records.{schema_of};
 ghost use Rattle.kq_value.specs.Typed.{HasTypes};
 ghost use Rattle.kq_policies.specs.Over.{MakesOver, RefusesOver};
 
+use crate::laying::lay_out;
 use crate::running::run_due;
-use kq_cascade::{CascadeFault, Derived, QueryFault, Tables, cascade};
+use kq_cascade::{BatchRows, CascadeFault, Derived, QueryFault, Tables, cascade};
 use kq_catalog::Snapshot;
+use kq_extent::TableExtents;
 use kq_model::Due;
 use kq_rows::Rows;
-use kq_value::{Field, Tags};
+use kq_value::{Field, Memory, Tags};
 use std::alloc::Global;
 
 /// The policies of a snapshot, with its tables.
@@ -36,8 +38,12 @@ impl Tables for Policies<'_> {
         columns_of(self.snapshot, table)
     }
 
-    fn run(&self, alloc: Global, due: Due, rows: &Rows) -> Result<Rows, QueryFault> {
-        run_due(alloc, self.snapshot, due, rows)
+    fn lay_out(&self, alloc: Global, table: u32, rows: &Rows) -> Result<TableExtents, Memory> {
+        lay_out(alloc, self.snapshot, table, rows)
+    }
+
+    fn run(&self, alloc: Global, due: Due, batch: &BatchRows) -> Result<Rows, QueryFault> {
+        run_due(alloc, self.snapshot, due, batch)
     }
 }
 

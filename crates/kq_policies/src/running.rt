@@ -12,29 +12,29 @@ ghost use Rattle.kq_value.specs.Typed.{HasTypes};
 ghost use Rattle.kq_policies.specs.World.{IsNoCell};
 
 use crate::beside::Beside;
-use kq_cascade::QueryFault;
+use kq_cascade::{BatchRows, QueryFault};
 use kq_catalog::Snapshot;
 use kq_model::{Cause, Due, Entry};
 use kq_pipe::{Outcome, run_plan};
 use kq_rows::Rows;
 use std::alloc::Global;
 
-/// What the query of an entry gives over rows of its source, by the entry's place.
+/// What the query of an entry gives over a batch of its source, by the entry's place.
 pub(crate) fn run_due(
     alloc: Global,
     snapshot: &Snapshot,
     due: Due,
-    rows: &Rows,
+    batch: &BatchRows,
 ) -> Result<Rows, QueryFault>
     requires standing { IsStanding (policies (log snapshot.now.history)) due }
-    requires typed { All (HasTypes (schema_of (log snapshot.now.history) due.source)) rows.now }
-    ensures answer { Answers (DueGives (log snapshot.now.history) due rows.now) result }
+    requires typed { All (HasTypes (schema_of (log snapshot.now.history) due.source)) batch.now.rows }
+    ensures answer { Answers (DueGives (log snapshot.now.history) due batch.now.rows) result }
     ensures typed { IfOk result (All (IsLead (schema_of (log snapshot.now.history) due.target))) }
 {
     // The snapshot is sound.
     let _cursor = snapshot.cursor();
     let entry = &snapshot.entries(due.target)[due.place];
-    run_entry(alloc, snapshot, due, entry, rows)
+    run_entry(alloc, snapshot, due, entry, batch)
 }
 
 // The same of an entry that is at hand.
@@ -43,14 +43,14 @@ fn run_entry(
     snapshot: &Snapshot,
     due: Due,
     entry: &Entry,
-    rows: &Rows,
+    batch: &BatchRows,
 ) -> Result<Rows, QueryFault>
     requires sound { Sound snapshot.now }
     requires stands { slice_get (policy_at (policies (log snapshot.now.history)) due.target) due.place ≡ Some entry.now }
-    requires typed { All (HasTypes (schema_of (log snapshot.now.history) entry.now.source)) rows.now }
-    ensures { Answers (EntryGives (log snapshot.now.history) entry.now rows.now) result }
+    requires typed { All (HasTypes (schema_of (log snapshot.now.history) entry.now.source)) batch.now.rows }
+    ensures { Answers (EntryGives (log snapshot.now.history) entry.now batch.now.rows) result }
 {
-    let tables = Beside::new(snapshot, entry.source, rows, &entry.plan);
+    let tables = Beside::new(snapshot, entry.source, batch, &entry.plan);
     let outcome = run_plan(alloc, &entry.plan, &tables, 0)?;
     told(alloc, outcome)
 }

@@ -8,11 +8,11 @@ pub returns-in-Ok-clause-answer : goal.returns-in-Ok-clause-answer
 returns-in-Ok-clause-answer g c =
     let q = g.T.Tables.gives c.args.tables.now in
     let d = c.args.due in
-    let rows = c.args.rows.now in
+    let rows = c.args.batch.now.rows in
     let many : 1048576 < length c.in-Ok.given = omega (arith, c.if-len-gt-MOST_ROWS.true, c.len.ensures.count) in
     gave_too_many c.in-Ok.given (subst (Answers (q d rows)) c.in-Ok.is c.run.ensures.answer) many
 
 pub returns-in-Err-clause-answer : goal.returns-in-Err-clause-answer
 returns-in-Err-clause-answer g c =
     let q = g.T.Tables.gives c.args.tables.now in
-    Queried-err q c.args.due c.args.rows.now c.in-Err.fault (subst (Answers (q c.args.due c.args.rows.now)) c.in-Err.is c.run.ensures.answer)
+    Queried-err q c.args.due c.args.batch.now.rows c.in-Err.fault (subst (Answers (q c.args.due c.args.batch.now.rows)) c.in-Err.is c.run.ensures.answer)

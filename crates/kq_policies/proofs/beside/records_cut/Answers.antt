@@ -9,16 +9,14 @@ use Rattle.kq_rows.specs.Chunks.{same_width}
 use Rattle.kq_value.specs.declared.schema.Field.{Field}
 use Rattle.kq_value.specs.Same.{Same}
 use Rattle.kq_value.specs.Typed.{HasTypes}
-use Rattle.kq_policies.proofs.Records.{copies_hold, copies_lent, cut_same, cut_typed, may_lend, whole_same, whole_typed, wide_rows}
+use Rattle.kq_policies.proofs.Records.{cut_same, cut_typed, may_lend, of_given, whole_same, whole_typed, wide_rows}
 use Rattle.kq_policies.proofs.beside.records_cut.Goals as goal
 
-pub lent-requires : goal.lent-requires
-lent-requires c =
+pub lend-requires : goal.lend-requires
+lend-requires c =
     let h = c.args.snapshot.now.history in
-    let t = c.args.table.now in
     let e = c.extents-extents in
-    copies_lent t.schema _ e.result.now _ c.in_ok-clone_in.ensures c.in_ok-share.ensures
-    (may_lend h c.args.number t e.result.now c.requires.stands e.ensures.records (e.ensures.typed t c.requires.stands) e.ensures.small)
+    may_lend h c.args.number c.args.table.now e.result.now c.requires.stands e.ensures.records (e.ensures.typed c.args.table.now c.requires.stands) e.ensures.small
 
 pub all_rows-requires : goal.all_rows-requires
 all_rows-requires c =
@@ -28,24 +26,22 @@ all_rows-requires c =
     subst (λ (fs : List Field). same_width (map row_of (held_records (wide_held fs e.result.now)))) (sym c.as_slice.ensures)
     (wide_rows h c.args.number t e.result.now c.requires.stands e.ensures.records (e.ensures.typed t c.requires.stands))
 
-pub returns-in_ok-clone_in-clause-same : goal.returns-in_ok-clone_in-clause-same
-returns-in_ok-clone_in-clause-same c =
+pub returns-then-columns-len-clause-same : goal.returns-then-columns-len-clause-same
+returns-then-columns-len-clause-same c =
     let h = c.args.snapshot.now.history in
     let t = c.args.table.now in
     let e = c.extents-extents in
-    let is : c.lent.result ≡ rows_held (wide_held t.schema e.result.now) = c.lent.ensures ∙ copies_hold t.schema _ e.result.now _ c.in_ok-clone_in.ensures c.in_ok-share.ensures in
     let all : length c.args.columns.now ≡ length t.schema = omega (arith, c.if-columns-len.true, c.len.ensures.count) in
-    subst (λ (rs : List Row). Same rs (cut_to c.args.columns.now (rows_in h c.args.number))) (sym is)
+    of_given c.lend.result (rows_held (wide_held t.schema e.result.now)) (λ rs. Same rs (cut_to c.args.columns.now (rows_in h c.args.number))) c.lend.ensures
     (whole_same h c.args.number t e.result.now c.requires.stands e.ensures.records (e.ensures.typed t c.requires.stands) c.args.columns.now c.requires.first all)
 
-pub returns-in_ok-clone_in-clause-typed : goal.returns-in_ok-clone_in-clause-typed
-returns-in_ok-clone_in-clause-typed c =
+pub returns-then-columns-len-clause-typed : goal.returns-then-columns-len-clause-typed
+returns-then-columns-len-clause-typed c =
     let h = c.args.snapshot.now.history in
     let t = c.args.table.now in
     let e = c.extents-extents in
-    let is : c.lent.result ≡ rows_held (wide_held t.schema e.result.now) = c.lent.ensures ∙ copies_hold t.schema _ e.result.now _ c.in_ok-clone_in.ensures c.in_ok-share.ensures in
     let all : length c.args.columns.now ≡ length t.schema = omega (arith, c.if-columns-len.true, c.len.ensures.count) in
-    subst (All (HasTypes c.args.columns.now)) (sym is)
+    of_given c.lend.result (rows_held (wide_held t.schema e.result.now)) (All (HasTypes c.args.columns.now)) c.lend.ensures
     (whole_typed h c.args.number t e.result.now c.requires.stands e.ensures.records (e.ensures.typed t c.requires.stands) c.args.columns.now c.requires.first all)
 
 pub returns-in_ok-cut-clause-same : goal.returns-in_ok-cut-clause-same

@@ -25,14 +25,14 @@ run_entry-requires-clause-typed c =
     let l = log c.args.snapshot.now.history in
     let e = c.index-entries-due.result in
     let at = stands_there l c.args.due c.requires.standing c.entries.result.now e c.entries.ensures c.index-entries-due.is in
-    subst (λ t. All (HasTypes (schema_of l t)) c.args.rows.now) (source_of l c.args.due c.requires.standing e at) c.requires.typed
+    subst (λ t. All (HasTypes (schema_of l t)) c.args.batch.now.rows) (source_of l c.args.due c.requires.standing e at) c.requires.typed
 
 pub returns-clause-answer : goal.returns-clause-answer
 returns-clause-answer c =
     let l = log c.args.snapshot.now.history in
     let e = c.index-entries-due.result in
     let at = stands_there l c.args.due c.requires.standing c.entries.result.now e c.entries.ensures c.index-entries-due.is in
-    due_answers l c.args.due e c.args.rows.now c.run_entry.result at c.run_entry.ensures
+    due_answers l c.args.due e c.args.batch.now.rows c.run_entry.result at c.run_entry.ensures
 
 pub returns-clause-typed : goal.returns-clause-typed
 returns-clause-typed c =
@@ -40,5 +40,5 @@ returns-clause-typed c =
     let l = log seen.history in
     let e = c.index-entries-due.result in
     let at = stands_there l c.args.due c.requires.standing c.entries.result.now e c.entries.ensures c.index-entries-due.is in
-    due_typed seen.limits seen.history c.cursor-cursor.ensures.sound.lawful c.args.due c.args.rows.now c.run_entry.result c.requires.standing c.requires.typed
-    (due_answers l c.args.due e c.args.rows.now c.run_entry.result at c.run_entry.ensures)
+    due_typed seen.limits seen.history c.cursor-cursor.ensures.sound.lawful c.args.due c.args.batch.now.rows c.run_entry.result c.requires.standing c.requires.typed
+    (due_answers l c.args.due e c.args.batch.now.rows c.run_entry.result at c.run_entry.ensures)

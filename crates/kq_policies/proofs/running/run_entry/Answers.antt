@@ -14,11 +14,11 @@ run_plan-requires-clause-fits c =
     let seen = c.args.snapshot.now in
     let p = planned_of c.args.entry.now.plan in
     subst (λ (b : BesideView). FitsWorld p (known_as_read (log b.history) (planned_of b.plan)) (beside (log b.history) b.source b.rows)) (sym c.new-tables.ensures)
-    (plan_fits seen.limits seen.history c.requires.sound.lawful c.args.due.target c.args.due.place c.args.entry.now c.requires.stands c.args.rows.now)
+    (plan_fits seen.limits seen.history c.requires.sound.lawful c.args.due.target c.args.due.place c.args.entry.now c.requires.stands c.args.batch.now.rows)
 
 pub told-requires : goal.told-requires
 told-requires c =
     let seen = c.args.snapshot.now in
     let p = planned_of c.args.entry.now.plan in
-    gives_no_cell seen.limits seen.history c.requires.sound.lawful c.args.due.target c.args.due.place c.args.entry.now c.requires.stands c.args.rows.now c.in_ok-outcome.outcome
+    gives_no_cell seen.limits seen.history c.requires.sound.lawful c.args.due.target c.args.due.place c.args.entry.now c.requires.stands c.args.batch.now.rows c.in_ok-outcome.outcome
     (subst (λ (b : BesideView). Gives p (beside (log b.history) b.source b.rows) (pos 0) c.in_ok-outcome.outcome) c.new-tables.ensures c.in_ok-outcome.ensures)

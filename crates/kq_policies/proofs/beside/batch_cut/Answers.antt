@@ -1,0 +1,18 @@
+use Rattle.std.proofs.Common.{◌≡◌, List, length, map, take, arith}
+use Rattle.kq_extent.specs.Wide.{wide_held}
+use Rattle.kq_lent.specs.Lent.{rows_held}
+use Rattle.kq_model.specs.Derived.{Row}
+use Rattle.kq_policies.proofs.Records.{batch_lent, batch_whole, of_given}
+use Rattle.kq_policies.proofs.beside.batch_cut.Goals as goal
+
+pub lend-requires : goal.lend-requires
+lend-requires c = batch_lent c.args.table.now.schema c.in-Some.extents.now c.args.batch.now.rows c.in-Some.ensures c.requires
+
+pub returns-in-Some : goal.returns-in-Some
+returns-in-Some c =
+    let fields = c.args.table.now.schema in
+    let held = c.in-Some.extents.now in
+    let rows = c.args.batch.now.rows in
+    let n = length c.args.columns.now in
+    let all : n ≡ length fields = omega (arith, c.if-columns-len.true, c.len.ensures.count) in
+    of_given c.lend.result (rows_held (wide_held fields held)) (λ (rs : List Row). rs ≡ map (take n) rows) c.lend.ensures (batch_whole fields held rows c.in-Some.ensures c.requires n all)
