@@ -15,7 +15,10 @@ use Rattle.kq_model.specs.declared.limits.Limits.{Limits}
 use Rattle.kq_model.specs.declared.policy.Due.{Due as Entering}
 use Rattle.kq_model.specs.Beside.{DueGives}
 use Rattle.kq_model.specs.declared.batch.Failure.{Failure}
-use Rattle.kq_model.specs.Derived.{Cascade, Comes, Failed, Follows, IsDerived, Made, Queries, TooMany, after, ended, first, goes_on, no_more, too_many}
+use Rattle.kq_command.specs.declared.ingestion.Ingestion.{Ingestion}
+use Rattle.kq_ingest.specs.declared.fault.IngestFault.{IngestFault}
+use Rattle.kq_ingest.specs.Ingestion.{first_fault, rows_of}
+use Rattle.kq_model.specs.Derived.{Cascade, Comes, Failed, Follows, IsDerived, Made, Queries, Row, TooMany, after, ended, first, goes_on, no_more, too_many}
 use Rattle.kq_model.specs.Force.{Rules, in_force}
 use Rattle.kq_model.specs.History.{Log, Numbered, log, tables}
 use Rattle.kq_model.specs.Policies.{dues, policies, rules}
@@ -25,12 +28,14 @@ use Rattle.kq_policies.specs.Quiet.{is_quiet, looked}
 use Rattle.kq_policies.proofs.Lasting.{derived-still}
 use Rattle.kq_reply.specs.declared.refusal.Refusal.{Refusal}
 use Rattle.kq_reply.specs.declared.refusal.Refusal.TheVariants as refusals
+use Rattle.kq_engine.specs.declared.tags.Labels.{Labels}
 use Rattle.kq_engine.specs.declared.work.Barring.{Barring}
 use Rattle.kq_engine.specs.declared.work.Found.{Found}
 use Rattle.kq_engine.specs.declared.work.Found.TheVariants as founds
 use Rattle.kq_engine.specs.declared.work.Offer.{Offer}
-use Rattle.kq_engine.specs.Due.{Due, Commits, IsBatchDue, IsCascadeDue, IsTaggedDue, counted, refused, unless_tagged}
-use Rattle.kq_engine.specs.Found.{Finds, IsKept, IsOfferOf, OffersCommit, barred_at, is_alone, is_source, is_widened_at, offer_due, refusal_by_cascade, stands_alone}
+use Rattle.kq_engine.specs.Due.{Due, Commits, IsBatchDue, IsBodyDue, IsCascadeDue, IsRowsDue, IsTaggedDue, IsValuesDue, barring_tags, counted, own_batch, refused, unless_tagged}
+use Rattle.kq_engine.specs.Labels.{AreLabels}
+use Rattle.kq_engine.specs.Found.{Finds, IsKept, IsOfferOf, OffersCommit, OffersRows, barred_at, batch_read, is_alone, is_source, is_widened_at, offer_due, refusal_by_cascade, stands_alone}
 
 -- ---- batches that come alone
 
@@ -164,3 +169,32 @@ Offers-kept limits l table own b d (Ok (founds.Commits offer)) into number widen
 Offers-kept limits l table own b d (Ok (founds.Merges merging)) into number widened asked alone_then none makes offered = absurd offered
 Offers-kept limits l table own b d (Ok (founds.Folds folding)) into number widened asked alone_then none makes offered = absurd offered
 Offers-kept limits l table own b d (Err r) into number widened asked alone_then none makes offered = offered
+
+-- ---- rows of a text
+
+rows_due : (limits : Limits) (later : Log) (i : Ingestion) (table : Numbered) (rows : List Row) (labels : Labels) (due : Due) → AreLabels i.properties labels → rows ≡ rows_of table.table.schema i.properties.ignore_first i.body
+    → first_fault table.table.schema i.properties.ignore_first limits.batch i.body ≡ None → IsBatchDue limits later (batch_read table rows labels) labels.barring due → IsRowsDue limits later i table due
+rows_due limits later i table rows labels due are so sound is =
+    let bars = barring_tags i.properties in
+    let tagged : List (List ℕ) → Batch = λ ts. record { table = table.number; rows = rows_of table.table.schema i.properties.ignore_first i.body; tags = ts } in
+    let own : batch_read table rows labels ≡ own_batch table i = ap (λ (rs : List Row). batch_read table rs labels) so ∙ ap tagged are.tags in
+    subst (λ (o : Option ℕ). IsValuesDue o (IsBodyDue limits later (own_batch table i) bars (first_fault table.table.schema i.properties.ignore_first limits.batch i.body)) due) (sym are.good)
+    (subst (λ (f : Option IngestFault). IsBodyDue limits later (own_batch table i) bars f due) (sym sound)
+    (subst (λ (b : Batch). IsBatchDue limits later b bars due) own (subst (λ (ts : List (List ℕ)). IsBatchDue limits later (batch_read table rows labels) ts due) are.barring is)))
+
+-- an offer of what comes of the rows of a text is one for the text
+pub Offers-rows : (limits : Limits) (l : Log) (i : Ingestion) (table : Numbered) (rows : List Row) (labels : Labels) (result : Result Found Refusal) → AreLabels i.properties labels → rows ≡ rows_of table.table.schema i.properties.ignore_first i.body
+    → first_fault table.table.schema i.properties.ignore_first limits.batch i.body ≡ None → IfOk result (IsOfferOf limits l table (batch_read table rows labels) labels.barring) → IfOk result (OffersRows limits l i table)
+Offers-rows limits l i table rows labels (Ok (founds.Says reply)) are so sound offered = tt
+Offers-rows limits l i table rows labels (Ok (founds.Commits offer)) are so sound offered = record {
+  barring = offered.barring;
+  barred = offered.barred;
+  number = offered.number;
+  widened = offered.widened;
+  here = offered.here;
+  alone = λ later stands. rows_due limits later i table rows labels (offer_due limits later offer) are so sound (offered.alone later stands);
+  quiet = λ since still. rows_due limits (l ++ log since) i table rows labels (offer_due limits (l ++ log since) offer) are so sound (offered.quiet since still);
+}
+Offers-rows limits l i table rows labels (Ok (founds.Merges merging)) are so sound offered = absurd offered
+Offers-rows limits l i table rows labels (Ok (founds.Folds folding)) are so sound offered = absurd offered
+Offers-rows limits l i table rows labels (Err r) are so sound offered = offered
