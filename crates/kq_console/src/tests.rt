@@ -1,6 +1,9 @@
+mod devices;
+mod faults;
 mod feeds;
 mod scripts;
 mod steps;
 mod views;
+mod widened;
 mod workers;
 mod worlds;

@@ -1,4 +1,4 @@
-// Feeds beside session 0: faults of their objects, and what they come to together.
+// Feeds beside session 0, and what they come to together.
 ghost use Rattle.std.specs.Prelude.{◌<◌, All, IfOk};
 ghost use Rattle.kq_world.specs.World.{IsFresh};
 
@@ -14,44 +14,6 @@ use std::alloc::Global;
 use std::sync::Wait;
 use std::test::Fail;
 use std::thread::Threads;
-
-const TABLE: &[u8] = b".create table M (k:long)\n";
-
-// Its second column is at 25.
-const REPEATED: &[u8] = b".create table A (k:long, k:long)\n\n.create table A (k:long)\n";
-
-// The first feed's first read ends with the blank line, and its second fails; the second feed's first write fails.
-fn failing_feeds(alloc: Global) -> Result<Vec<Feed>, Memory>
-    ensures { IfOk result (λ v. All (λ f. IsFresh f.parts) v.items) }
-{
-    let a = feed(alloc, "a", parts(alloc, REPEATED, 34, &[2], &[])?)?;
-    let b = feed(alloc, "b", parts(alloc, REPEATED, 4096, &[], &[1])?)?;
-    Ok(Vec::from_array(alloc, [a, b])?)
-}
-
-#[test]
-fn faults_in_feeds(rt: HostRuntime) -> Result<(), Fail> {
-    let first = parts(rt.alloc(), TABLE, 4096, &[], &[])?;
-    let feeds = failing_feeds(rt.alloc())?;
-    let run = served(&rt, rt.alloc(), &["a", "b"], first, feeds, &OpenGate)?;
-    let a = ended(&run, 1, 3, b"refused Type at 25\n\n");
-    let b = ended(&run, 2, 4, b"") && receipts_of(&run, 2) == 1;
-    assert!(rt;
-        run.status == 3 && run.sessions.len() == 3 && ended(&run, 0, 0, b"done 1\n\n") && a && b
-    );
-    Ok(())
-}
-
-#[test]
-fn a_feed_goes_on_beside_a_fault_of_session_0(rt: HostRuntime) -> Result<(), Fail> {
-    let script = b".create table A (k:long)\n\n.create table A (k:long)\n";
-    let first = parts(rt.alloc(), TABLE, 4096, &[1], &[])?;
-    let feeds = equal_feeds(rt.alloc(), &["a"], script, 7)?;
-    let run = served(&rt, rt.alloc(), &["a"], first, feeds, &OpenGate)?;
-    let a = ended(&run, 1, 0, b"done 1\n\nkept 1\n\n");
-    assert!(rt; run.status == 3 && run.sessions.len() == 2 && ended(&run, 0, 3, b"") && a);
-    Ok(())
-}
 
 // As many feeds with one script as there are names.
 pub(super) fn equal_feeds(
@@ -85,16 +47,8 @@ fn equal_sessions<R: Threads + Wait + Sync>(
     served(rt, alloc, names, first, feeds, &OpenGate)
 }
 
-// How many receipts the session has.
-fn receipts_of(run: &Run<MemoryWorld>, i: usize) -> usize {
-    match run.sessions.get(i) {
-        Some(session) => session.receipts.len(),
-        None => 0,
-    }
-}
-
 // How many of the sessions' receipts made a commit.
-fn commits_of(run: &Run<MemoryWorld>) -> u64 {
+pub(super) fn commits_of(run: &Run<MemoryWorld>) -> u64 {
     let mut commits = 0u64;
     for session in &run.sessions {
         for receipt in session.receipts.as_slice() {
@@ -163,9 +117,9 @@ fn batches_script(alloc: Global) -> Result<String, Memory> {
     Ok(script)
 }
 
-// The number of the rows of E in the run's catalogue, as it is printed.
-fn counted(alloc: Global, run: &Run<MemoryWorld>) -> Result<Bytes, Fail> {
-    let command = read_command(alloc, b"E | count")?;
+// What the run's catalogue answers to a query.
+pub(super) fn asked(alloc: Global, run: &Run<MemoryWorld>, query: &[u8]) -> Result<Bytes, Fail> {
+    let command = read_command(alloc, query)?;
     let by = By {
         actor: 0,
         number: 1,
@@ -197,7 +151,7 @@ fn sessions_put_in_each_row_once(rt: HostRuntime) -> Result<(), Fail> {
     ] {
         for step in [7, 100, 4096] {
             let run = equal_sessions(&rt, rt.alloc(), names, script.as_bytes(), step)?;
-            let found = counted(rt.alloc(), &run)?;
+            let found = asked(rt.alloc(), &run, b"E | count")?;
             let whole = places_rise(&run) && cursor_of(&run) == Some(commits_of(&run));
             assert!(rt;
                 run.status == 0 && whole && found.as_slice() == count,

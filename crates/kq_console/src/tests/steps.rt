@@ -20,7 +20,7 @@ pub(super) fn step(alloc: Global, actor: u32, text: &str) -> Result<Step, Fail> 
     }))
 }
 
-fn steps(alloc: Global, rows: &[(u32, &str)]) -> Result<Vec<Step>, Fail> {
+pub(super) fn steps(alloc: Global, rows: &[(u32, &str)]) -> Result<Vec<Step>, Fail> {
     let mut steps = Vec::new(alloc);
     for (actor, text) in rows {
         steps.push(step(alloc, *actor, text)?)?;
@@ -46,7 +46,7 @@ fn code(reply: &Reply) -> (u8, u64) {
 }
 
 // Whether the outcomes are these, in order: the actor, and the code of the reply.
-fn tells(trace: &Trace, expected: &[(u32, u8, u64)]) -> bool {
+pub(super) fn tells(trace: &Trace, expected: &[(u32, u8, u64)]) -> bool {
     let mut same = trace.outcomes.len() == expected.len();
     for (told, (actor, letter, number)) in trace.outcomes.iter().zip(expected) {
         let by = By {
@@ -240,7 +240,7 @@ fn place_of(trace: &Trace, at: usize) -> Option<u64> {
 }
 
 // The place of an outcome, and the rows that it printed.
-fn printed(trace: &Trace, at: usize) -> Option<(u64, &[u8])> {
+pub(super) fn printed(trace: &Trace, at: usize) -> Option<(u64, &[u8])> {
     let told = trace.outcomes.get(at)?;
     match &told.outcome.reply {
         Reply::Rows { text } => Some((told.outcome.place, text.as_slice())),

@@ -61,7 +61,7 @@ pub fn feed(
     Ok(Feed { name, parts })
 }
 
-fn words(alloc: Global, said: &[&str]) -> Result<Vec<String>, Memory> {
+pub fn words(alloc: Global, said: &[&str]) -> Result<Vec<String>, Memory> {
     let mut words = Vec::new(alloc);
     for word in said {
         words.push(String::from_str(alloc, word)?)?;

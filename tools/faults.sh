@@ -1,0 +1,28 @@
+#!/usr/bin/env bash
+# faults.sh [ROUNDS]: runs the program on the log of devices (scripts/workers/device_log), with two workers and a feed that makes commits of its own, again and
+# again: each time another allocation is refused, or another read or write fails, where reads and writes move 40 bytes at most; each of them in ROUNDS (3)
+# runs, since the threads fall otherwise each time. After each run it looks whether
+#   - each reply is the one that its command is due behind what came of those before it, or `refused Memory`;
+#   - the commits of the journal are just those that the replies of the two sessions tell of, with their cursors, but for a last one whose reply could not
+#     be written; what was written of that is a beginning of it;
+#   - the status is that of the first session that has one, as README.md says: 3 or 4 of the session whose read or write failed, 1 where a reply is
+#     `refused Memory` or a session ended for want of room, or where there is no catalogue, and then nothing was printed.
+# The journal is shown to a third session, which waits for the others; where that one is refused it is what the main script was shown at its end.
+# The last line counts the runs. It needs a C compiler and python3, and the proved program, which .ci/run builds; KQ_PROGRAM names another one.
+set -eu
+top=$(cd "$(dirname "$0")/.." && pwd)
+program=${KQ_PROGRAM:-$top/crates/kq_console/out/kq_console}
+folder=$(mktemp -d)
+trap 'rm -rf "$folder"' EXIT
+"${CC:-cc}" -O2 -shared -fPIC -o "$folder/faults.so" "$top/tools/faults.c" -ldl
+cat >"$folder/feed.kql" <<'FEED'
+print "feed"
+
+.create table Seen (k:long)
+
+.ingest inline into table Seen <|
+1
+
+Seen | count
+FEED
+python3 "$top/tools/faults.py" "$program" "$folder/faults.so" "$top/scripts/workers/device_log.kql" "$folder/feed.kql" "${1:-3}"
