@@ -1,5 +1,5 @@
 -- What was found stays due, or is skipped, as the log grows.
-use Rattle.std.proofs.Common.{◌≡◌, ◌||◌, ℕ, ℤ, Bool, true, false, cond, List, [], ◌∷◌, ◌++◌, append-nil, length-append, arith, length, nat_eq, take, drop, nat_lt, Option, Some, None, Result, Ok, Err, IfOk, inl, refl, ap, sym, ◌∙◌, subst}
+use Rattle.std.proofs.Common.{◌≡◌, ◌||◌, ℕ, ℤ, Bool, true, false, cond, List, ◌++◌, length, take, drop, nat_lt, Option, Some, None, Result, Ok, Err, IfOk, inl, refl, ap, sym, ◌∙◌, subst}
 use Rattle.std.specs.List.{slice_get}
 use Rattle.std.proofs.lemmas.Bool.{eqb-true, false≢true}
 use Rattle.std.proofs.lemmas.List.{take-append-drop}
