@@ -1,4 +1,4 @@
--- Turns and rounds, one after another.
+-- Chores and rounds, one after another.
 use Rattle.std.proofs.Common.{◌≡◌, ◌||◌, Bool, true, false, ℕ, List, [], ◌∷◌, ◌++◌, refl, ap, sym, ◌∙◌, subst}
 use mathlib.Core.List.{IsPrefix}
 use Rattle.kq_turn.proofs.Beginnings.{IsPrefix-refl, IsPrefix-trans}
@@ -7,7 +7,7 @@ use Rattle.kq_model.specs.History.{History}
 use Rattle.kq_engine.specs.declared.upkeep.Upkeep.{Upkeep}
 use Rattle.kq_engine.specs.Shared.{PassView}
 use Rattle.kq_workers.specs.declared.worker.Worker.{Worker}
-use Rattle.kq_workers.specs.Rounds.{GoesOn, GoesRound, GoesRounds, HasRound, HasRounds, HasTurns, Looks, TakesOne, TakesTurn, TakesTurns, Turn, Works, begun, wants_memory}
+use Rattle.kq_workers.specs.Rounds.{GoesOn, GoesRound, GoesRounds, HasRound, HasRounds, HasChores, Looks, TakesOne, TakesChore, TakesChores, Chore, Works, begun, wants_memory}
 
 -- ---- short
 
@@ -27,31 +27,31 @@ or_second : (a b : Bool) → (a || b) ≡ false → b ≡ false
 or_second true b none = absurd (cc)
 or_second false b none = none
 
--- ---- turns
+-- ---- chores
 
-turns_append : (limits : Limits) (actor : ℕ) (xs ys : List Turn) (a b c : Worker) → TakesTurns limits actor xs a b → TakesTurns limits actor ys b c → TakesTurns limits actor (xs ++ ys) a c
-turns_append limits actor [] ys a b c same rest = subst (λ (w : Worker). TakesTurns limits actor ys w c) (sym same) rest
-turns_append limits actor (t ∷ xs) ys a b c went rest = (went.0, went.1, turns_append limits actor xs ys went.0 b c went.2 rest)
+chores_append : (limits : Limits) (actor : ℕ) (xs ys : List Chore) (a b c : Worker) → TakesChores limits actor xs a b → TakesChores limits actor ys b c → TakesChores limits actor (xs ++ ys) a c
+chores_append limits actor [] ys a b c same rest = subst (λ (w : Worker). TakesChores limits actor ys w c) (sym same) rest
+chores_append limits actor (t ∷ xs) ys a b c went rest = (went.0, went.1, chores_append limits actor xs ys went.0 b c went.2 rest)
 
-pub HasTurns-none : (limits : Limits) (actor : ℕ) (w : Worker) → HasTurns limits actor w w
-HasTurns-none limits actor w = record { turns = []; taken = refl }
+pub HasChores-none : (limits : Limits) (actor : ℕ) (w : Worker) → HasChores limits actor w w
+HasChores-none limits actor w = record { chores = []; taken = refl }
 
-pub HasTurns-one : (limits : Limits) (actor : ℕ) (old new : Worker) (upkeep : Upkeep) → TakesOne limits actor old new upkeep → HasTurns limits actor old new
-HasTurns-one limits actor old new upkeep one = record { turns = record { upkeep = upkeep; outcome = one.outcome } ∷ []; taken = (new, one.turn, refl) }
+pub HasChores-one : (limits : Limits) (actor : ℕ) (old new : Worker) (upkeep : Upkeep) → TakesOne limits actor old new upkeep → HasChores limits actor old new
+HasChores-one limits actor old new upkeep one = record { chores = record { upkeep = upkeep; outcome = one.outcome } ∷ []; taken = (new, one.chore, refl) }
 
-pub HasTurns-append : (limits : Limits) (actor : ℕ) (a b c : Worker) → HasTurns limits actor a b → HasTurns limits actor b c → HasTurns limits actor a c
-HasTurns-append limits actor a b c first later = record { turns = first.turns ++ later.turns; taken = turns_append limits actor first.turns later.turns a b c first.taken later.taken }
+pub HasChores-append : (limits : Limits) (actor : ℕ) (a b c : Worker) → HasChores limits actor a b → HasChores limits actor b c → HasChores limits actor a c
+HasChores-append limits actor a b c first later = record { chores = first.chores ++ later.chores; taken = chores_append limits actor first.chores later.chores a b c first.taken later.taken }
 
-turns_short : (limits : Limits) (actor : ℕ) (turns : List Turn) (old new : Worker) → TakesTurns limits actor turns old new → new.short ≡ false → old.short ≡ false
-turns_short limits actor [] old new same none = ap (λ (w : Worker). w.short) same ∙ none
-turns_short limits actor (t ∷ turns) old new went none = or_first old.short _ (sym went.1.short ∙ turns_short limits actor turns went.0 new went.2 none)
+chores_short : (limits : Limits) (actor : ℕ) (chores : List Chore) (old new : Worker) → TakesChores limits actor chores old new → new.short ≡ false → old.short ≡ false
+chores_short limits actor [] old new same none = ap (λ (w : Worker). w.short) same ∙ none
+chores_short limits actor (t ∷ chores) old new went none = or_first old.short _ (sym went.1.short ∙ chores_short limits actor chores went.0 new went.2 none)
 
--- where memory was wanting in no turn, it was wanting in none before
-pub HasTurns-short : (limits : Limits) (actor : ℕ) (old new : Worker) → HasTurns limits actor old new → new.short ≡ false → old.short ≡ false
-HasTurns-short limits actor old new has none = turns_short limits actor has.turns old new has.taken none
+-- where memory was wanting in no chore, it was wanting in none before
+pub HasChores-short : (limits : Limits) (actor : ℕ) (old new : Worker) → HasChores limits actor old new → new.short ≡ false → old.short ≡ false
+HasChores-short limits actor old new has none = chores_short limits actor has.chores old new has.taken none
 
 pub TakesOne-granted : (limits : Limits) (actor : ℕ) (old new : Worker) (upkeep : Upkeep) (one : TakesOne limits actor old new upkeep) → new.short ≡ false → wants_memory one.outcome.reply ≡ false
-TakesOne-granted limits actor old new upkeep one none = or_second old.short _ (sym one.turn.short ∙ none)
+TakesOne-granted limits actor old new upkeep one none = or_second old.short _ (sym one.chore.short ∙ none)
 
 -- ---- passes
 
@@ -86,48 +86,48 @@ Carries-looks old new looks = record {
   seen = looks.seen;
 }
 
-turn_carries : (limits : Limits) (actor : ℕ) (old new : Worker) (t : Turn) → TakesTurn limits actor old new t → Carries old.pass new.pass
-turn_carries limits actor old new t turn = record { of = turn.keeps.of; worth = turn.keeps.worth; made = turn.keeps.made; seen = turn.keeps.seen }
+chore_carries : (limits : Limits) (actor : ℕ) (old new : Worker) (t : Chore) → TakesChore limits actor old new t → Carries old.pass new.pass
+chore_carries limits actor old new t chore = record { of = chore.keeps.of; worth = chore.keeps.worth; made = chore.keeps.made; seen = chore.keeps.seen }
 
-turns_carry : (limits : Limits) (actor : ℕ) (turns : List Turn) (old new : Worker) → TakesTurns limits actor turns old new → Carries old.pass new.pass
-turns_carry limits actor [] old new same = Carries-same old.pass new.pass (ap (λ (w : Worker). w.pass) same)
-turns_carry limits actor (t ∷ turns) old new went = Carries-trans old.pass went.0.pass new.pass (turn_carries limits actor old went.0 t went.1) (turns_carry limits actor turns went.0 new went.2)
+chores_carry : (limits : Limits) (actor : ℕ) (chores : List Chore) (old new : Worker) → TakesChores limits actor chores old new → Carries old.pass new.pass
+chores_carry limits actor [] old new same = Carries-same old.pass new.pass (ap (λ (w : Worker). w.pass) same)
+chores_carry limits actor (t ∷ chores) old new went = Carries-trans old.pass went.0.pass new.pass (chore_carries limits actor old went.0 t went.1) (chores_carry limits actor chores went.0 new went.2)
 
-pub HasTurns-carries : (limits : Limits) (actor : ℕ) (old new : Worker) → HasTurns limits actor old new → Carries old.pass new.pass
-HasTurns-carries limits actor old new has = turns_carry limits actor has.turns old new has.taken
+pub HasChores-carries : (limits : Limits) (actor : ℕ) (old new : Worker) → HasChores limits actor old new → Carries old.pass new.pass
+HasChores-carries limits actor old new has = chores_carry limits actor has.chores old new has.taken
 
-round_carries : (limits : Limits) (actor : ℕ) (turns : List Turn) (old new : Worker) → GoesRound limits actor turns old new → Carries old.pass new.pass
-round_carries limits actor turns old new round = Carries-trans old.pass round.looked.pass new.pass (Carries-looks old.pass round.looked.pass round.looks) (turns_carry limits actor turns round.looked new round.turn)
+round_carries : (limits : Limits) (actor : ℕ) (chores : List Chore) (old new : Worker) → GoesRound limits actor chores old new → Carries old.pass new.pass
+round_carries limits actor chores old new round = Carries-trans old.pass round.looked.pass new.pass (Carries-looks old.pass round.looked.pass round.looks) (chores_carry limits actor chores round.looked new round.chore)
 
 pub HasRound-carries : (limits : Limits) (actor : ℕ) (old new : Worker) → HasRound limits actor old new → Carries old.pass new.pass
-HasRound-carries limits actor old new has = round_carries limits actor has.turns old new has.went
+HasRound-carries limits actor old new has = round_carries limits actor has.chores old new has.went
 
-rounds_carry : (limits : Limits) (actor : ℕ) (rounds : List (List Turn)) (old new : Worker) → GoesRounds limits actor rounds old new → Carries old.pass new.pass
+rounds_carry : (limits : Limits) (actor : ℕ) (rounds : List (List Chore)) (old new : Worker) → GoesRounds limits actor rounds old new → Carries old.pass new.pass
 rounds_carry limits actor [] old new same = Carries-same old.pass new.pass (ap (λ (w : Worker). w.pass) same)
-rounds_carry limits actor (turns ∷ rounds) old new went = Carries-trans old.pass went.0.pass new.pass (round_carries limits actor turns old went.0 went.1) (rounds_carry limits actor rounds went.0 new went.2)
+rounds_carry limits actor (chores ∷ rounds) old new went = Carries-trans old.pass went.0.pass new.pass (round_carries limits actor chores old went.0 went.1) (rounds_carry limits actor rounds went.0 new went.2)
 
--- a turn goes on lawfully
+-- a chore goes on lawfully
 pub GoesOn-one : (limits : Limits) (actor : ℕ) (first : History) (old new : Worker) (upkeep : Upkeep) → GoesOn limits first old.pass.seen → TakesOne limits actor old new upkeep → GoesOn limits first new.pass.seen
-GoesOn-one limits actor first old new upkeep on one = record { begins = IsPrefix-trans first old.pass.seen new.pass.seen on.begins one.turn.keeps.seen; lawful = one.turn.keeps.lawful }
+GoesOn-one limits actor first old new upkeep on one = record { begins = IsPrefix-trans first old.pass.seen new.pass.seen on.begins one.chore.keeps.seen; lawful = one.chore.keeps.lawful }
 
 -- ---- rounds
 
 -- memory was wanting for the look
 pub HasRound-refused : (limits : Limits) (actor : ℕ) (old new : Worker) → Looks old.pass new.pass → new.number ≡ old.number → new.short ≡ true → HasRound limits actor old new
 HasRound-refused limits actor old new looks number short = record {
-  turns = [];
-  went = record { looked = new; looks = looks; number = number; refused = true; short = short ∙ or_true old.short; none = λ e. refl; turn = refl };
+  chores = [];
+  went = record { looked = new; looks = looks; number = number; refused = true; short = short ∙ or_true old.short; none = λ e. refl; chore = refl };
 }
 
-pub HasRound-turns : (limits : Limits) (actor : ℕ) (old looked new : Worker) → Looks old.pass looked.pass → looked.number ≡ old.number → looked.short ≡ old.short → HasTurns limits actor looked new → HasRound limits actor old new
-HasRound-turns limits actor old looked new looks number short has = record {
-  turns = has.turns;
-  went = record { looked = looked; looks = looks; number = number; refused = false; short = short ∙ or_false old.short; none = λ e. absurd (cc); turn = has.taken };
+pub HasRound-chores : (limits : Limits) (actor : ℕ) (old looked new : Worker) → Looks old.pass looked.pass → looked.number ≡ old.number → looked.short ≡ old.short → HasChores limits actor looked new → HasRound limits actor old new
+HasRound-chores limits actor old looked new looks number short has = record {
+  chores = has.chores;
+  went = record { looked = looked; looks = looks; number = number; refused = false; short = short ∙ or_false old.short; none = λ e. absurd (cc); chore = has.taken };
 }
 
 -- rounds that were gone so far
 pub record SoFar (limits : Limits) (actor : ℕ) (old new : Worker) : Type 0 where
-  pub rounds : List (List Turn)
+  pub rounds : List (List Chore)
   pub went : GoesRounds limits actor rounds old new
 
 pub SoFar-none : (limits : Limits) (actor : ℕ) (w : Worker) → SoFar limits actor w w
@@ -136,21 +136,21 @@ SoFar-none limits actor w = record { rounds = []; went = refl }
 pub SoFar-carries : (limits : Limits) (actor : ℕ) (old new : Worker) → SoFar limits actor old new → Carries old.pass new.pass
 SoFar-carries limits actor old new so_far = rounds_carry limits actor so_far.rounds old new so_far.went
 
-rounds_push : (limits : Limits) (actor : ℕ) (rounds : List (List Turn)) (turns : List Turn) (a b c : Worker) → GoesRounds limits actor rounds a b → GoesRound limits actor turns b c → GoesRounds limits actor (rounds ++ turns ∷ []) a c
-rounds_push limits actor [] turns a b c same round = (c, subst (λ (w : Worker). GoesRound limits actor turns w c) (sym same) round, refl)
-rounds_push limits actor (first ∷ rounds) turns a b c went round = (went.0, went.1, rounds_push limits actor rounds turns went.0 b c went.2 round)
+rounds_push : (limits : Limits) (actor : ℕ) (rounds : List (List Chore)) (chores : List Chore) (a b c : Worker) → GoesRounds limits actor rounds a b → GoesRound limits actor chores b c → GoesRounds limits actor (rounds ++ chores ∷ []) a c
+rounds_push limits actor [] chores a b c same round = (c, subst (λ (w : Worker). GoesRound limits actor chores w c) (sym same) round, refl)
+rounds_push limits actor (first ∷ rounds) chores a b c went round = (went.0, went.1, rounds_push limits actor rounds chores went.0 b c went.2 round)
 
 -- one round more
 pub SoFar-push : (limits : Limits) (actor : ℕ) (a b c : Worker) → SoFar limits actor a b → HasRound limits actor b c → SoFar limits actor a c
-SoFar-push limits actor a b c so_far has = record { rounds = so_far.rounds ++ has.turns ∷ []; went = rounds_push limits actor so_far.rounds has.turns a b c so_far.went has.went }
+SoFar-push limits actor a b c so_far has = record { rounds = so_far.rounds ++ has.chores ∷ []; went = rounds_push limits actor so_far.rounds has.chores a b c so_far.went has.went }
 
 -- so there is one or more
 pub HasRounds-push : (limits : Limits) (actor : ℕ) (a b c : Worker) → SoFar limits actor a b → HasRound limits actor b c → HasRounds limits actor a c
 HasRounds-push limits actor a b c so_far has = by_rounds so_far.rounds so_far.went
   where
-    by_rounds : (rounds : List (List Turn)) → GoesRounds limits actor rounds a b → HasRounds limits actor a c
-    by_rounds [] same = record { first = has.turns; more = []; went = rounds_push limits actor [] has.turns a b c same has.went }
-    by_rounds (first ∷ rounds) went = record { first = first; more = rounds ++ has.turns ∷ []; went = rounds_push limits actor (first ∷ rounds) has.turns a b c went has.went }
+    by_rounds : (rounds : List (List Chore)) → GoesRounds limits actor rounds a b → HasRounds limits actor a c
+    by_rounds [] same = record { first = has.chores; more = []; went = rounds_push limits actor [] has.chores a b c same has.went }
+    by_rounds (first ∷ rounds) went = record { first = first; more = rounds ++ has.chores ∷ []; went = rounds_push limits actor (first ∷ rounds) has.chores a b c went has.went }
 
 -- what became of the pass in all
 pub Works-rounds : (limits : Limits) (actor : ℕ) (pass : PassView) (new : Worker) → HasRounds limits actor (begun pass) new → Works limits actor pass new.pass new.short

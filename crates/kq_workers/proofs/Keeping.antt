@@ -1,4 +1,4 @@
--- What is kept up stays so, and a turn keeps it up.
+-- What is kept up stays so, and a chore keeps it up.
 use Rattle.std.proofs.Common.{◌≡◌, ◌≤◌, ◌<◌, ◌⊎◌, inl, inr, ℕ, false, [], ◌∷◌, ◌++◌, length, take, refl, ap, sym, ◌∙◌, subst, arith, append-nil, append_assoc}
 use Rattle.std.proofs.lemmas.Bool.{true≢false}
 use Rattle.std.proofs.lemmas.List.{length_push, take_all, take-append-le}
@@ -111,7 +111,7 @@ kept_earlier older first h (upkeeps.Merge table) begins kept = merged_earlier ol
 pub AreKept-earlier : (older first h : History) → IsPrefix older first → AreKept first h → AreKept older h
 AreKept-earlier older first h begins kept upkeep there = kept_earlier older first h upkeep begins (kept upkeep (there_later older first upkeep begins there))
 
--- ---- without a turn
+-- ---- without a chore
 
 pub kept_idle : (limits : Limits) (first seen : History) (upkeep : Upkeep) → GoesOn limits first seen → IsThere (log first) upkeep → IsIdle first upkeep → IsKept first seen upkeep
 kept_idle limits first seen (upkeeps.Fold view) on there idle = let rises = marks_rise limits first seen on.begins on.lawful view there in inl (omega (arith, rises, idle))
@@ -121,7 +121,7 @@ kept_idle limits first seen (upkeeps.Merge table) on there idle = inr (record {
   few = subst (λ (g : History). length (picked g table) < 2) (sym (take-IsPrefix first seen on.begins)) idle;
 })
 
--- ---- by a turn
+-- ---- by a chore
 
 at_end : (first seen new : History) → IsPrefix first seen → IsPrefix seen new → IsLate first new (length new)
 at_end first seen new begins goes =
@@ -166,9 +166,9 @@ told_kept : (first seen new : History) (upkeep : Upkeep) (reply : Reply) → IsP
 told_kept first seen new (upkeeps.Fold view) reply begins goes names tells = fold_kept first seen new view reply begins goes names tells
 told_kept first seen new (upkeeps.Merge table) reply begins goes names tells = merge_kept first seen new table reply begins goes names tells
 
--- a turn that isn't refused for memory keeps up what stood when it began
-pub kept_turn : (limits : Limits) (first : History) (old new : PassView) (by : By) (upkeep : Upkeep) (outcome : Outcome) → IsPrefix first old.seen → KeepsUp limits old new by upkeep outcome → wants_memory outcome.reply ≡ false → IsKept first new.seen upkeep
-kept_turn limits first old new by upkeep outcome begins keeps granted = by_answer keeps.last.upholds.answers
+-- a chore that isn't refused for memory keeps up what stood when it began
+pub kept_chore : (limits : Limits) (first : History) (old new : PassView) (by : By) (upkeep : Upkeep) (outcome : Outcome) → IsPrefix first old.seen → KeepsUp limits old new by upkeep outcome → wants_memory outcome.reply ≡ false → IsKept first new.seen upkeep
+kept_chore limits first old new by upkeep outcome begins keeps granted = by_answer keeps.last.upholds.answers
   where
     by_answer : (outcome.reply ≡ replies.Refused refusals.Memory) ⊎ TellsUpkeep new.seen upkeep outcome.reply → IsKept first new.seen upkeep
     by_answer (inl wanting) = absurd (true≢false (sym (ap wants_memory wanting) ∙ granted))

@@ -1,4 +1,4 @@
--- What a worker does to its pass: rounds of turns.
+-- What a worker does to its pass: rounds of chores.
 use Rattle.std.specs.Prelude.{◌≡◌, ◌+◌, ◌-◌, ◌^◌, ◌||◌, ◌++◌, ◌∷◌, [], ℕ, Bool, true, false, List, length, min}
 use mathlib.Core.List.{IsPrefix}
 use Rattle.kq_model.specs.declared.limits.Limits.{Limits}
@@ -22,77 +22,77 @@ abbrev pub wants_memory : Reply → Bool
 wants_memory (replies.Refused refusals.Memory) = true
 wants_memory _ = false
 
--- a turn: a fold or a merge, with its outcome
-pub record Turn : Type 0 where
+-- a chore: a fold or a merge, with its outcome
+pub record Chore : Type 0 where
   pub upkeep : Upkeep
   pub outcome : Outcome
 
 -- it went through the pass under the actor's next number
-pub record TakesTurn (limits : Limits) (actor : ℕ) (old new : Worker) (t : Turn) : Type 0 where
+pub record TakesChore (limits : Limits) (actor : ℕ) (old new : Worker) (t : Chore) : Type 0 where
   pub number : new.number ≡ next old.number
   pub keeps : KeepsUp limits old.pass new.pass (record { actor = actor; number = new.number }) t.upkeep t.outcome
   pub short : new.short ≡ (old.short || wants_memory t.outcome.reply)
 
--- such a turn was taken for this upkeep
+-- such a chore was taken for this upkeep
 pub record TakesOne (limits : Limits) (actor : ℕ) (old new : Worker) (upkeep : Upkeep) : Type 0 where
   pub outcome : Outcome
-  pub turn : TakesTurn limits actor old new (record { upkeep = upkeep; outcome = outcome })
+  pub chore : TakesChore limits actor old new (record { upkeep = upkeep; outcome = outcome })
 
--- turns, one after another
-abbrev pub TakesTurns : Limits → ℕ → List Turn → Worker → Worker → Type 0
-TakesTurns limits actor [] old new = old ≡ new
-TakesTurns limits actor (t ∷ turns) old new = (mid : Worker) × TakesTurn limits actor old mid t × TakesTurns limits actor turns mid new
+-- chores, one after another
+abbrev pub TakesChores : Limits → ℕ → List Chore → Worker → Worker → Type 0
+TakesChores limits actor [] old new = old ≡ new
+TakesChores limits actor (t ∷ chores) old new = (mid : Worker) × TakesChore limits actor old mid t × TakesChores limits actor chores mid new
 
 -- one take of the catalogue, which appends nothing
 pub record Looks (old new : PassView) : Type 0 where
   pub seen : IsPrefix old.seen new.seen
   pub pass : new ≡ record old { seen = new.seen; taken = old.taken ++ length new.seen ∷ [] }
 
--- a round: a look and its turns, or a look for which memory was wanting, and none
-pub record GoesRound (limits : Limits) (actor : ℕ) (turns : List Turn) (old new : Worker) : Type 0 where
+-- a round: a look and its chores, or a look for which memory was wanting, and none
+pub record GoesRound (limits : Limits) (actor : ℕ) (chores : List Chore) (old new : Worker) : Type 0 where
   pub looked : Worker
   pub looks : Looks old.pass looked.pass
   pub number : looked.number ≡ old.number
   pub refused : Bool
   pub short : looked.short ≡ (old.short || refused)
-  pub none : refused ≡ true → turns ≡ []
-  pub turn : TakesTurns limits actor turns looked new
+  pub none : refused ≡ true → chores ≡ []
+  pub chore : TakesChores limits actor chores looked new
 
 -- rounds, one after another
-abbrev pub GoesRounds : Limits → ℕ → List (List Turn) → Worker → Worker → Type 0
+abbrev pub GoesRounds : Limits → ℕ → List (List Chore) → Worker → Worker → Type 0
 GoesRounds limits actor [] old new = old ≡ new
-GoesRounds limits actor (turns ∷ rounds) old new = (mid : Worker) × GoesRound limits actor turns old mid × GoesRounds limits actor rounds mid new
+GoesRounds limits actor (chores ∷ rounds) old new = (mid : Worker) × GoesRound limits actor chores old mid × GoesRounds limits actor rounds mid new
 
 -- a worker that begins
 abbrev pub begun : PassView → Worker
 begun pass = record { pass = pass; number = 0; short = false }
 
--- a pass after a worker's rounds, of which there is one or more: it has seen at least as much, and no commit was made through it; each turn made, under its last take, at most one event, a fold or a merge with the actor's mark; memory was wanting in one of them, or not
+-- a pass after a worker's rounds, of which there is one or more: it has seen at least as much, and no commit was made through it; each chore made, under its last take, at most one event, a fold or a merge with the actor's mark; memory was wanting in one of them, or not
 pub record Works (limits : Limits) (actor : ℕ) (old new : PassView) (short : Bool) : Type 0 where
   pub of : new.of ≡ old.of
   pub worth : new.worth ≡ old.worth
   pub made : new.made ≡ old.made
   pub seen : IsPrefix old.seen new.seen
-  pub first : List Turn
-  pub rounds : List (List Turn)
+  pub first : List Chore
+  pub rounds : List (List Chore)
   pub last : ℕ
   pub went : GoesRounds limits actor (first ∷ rounds) (begun old) (record { pass = new; number = last; short = short })
 
 -- one round or more
 pub record HasRounds (limits : Limits) (actor : ℕ) (old new : Worker) : Type 0 where
-  pub first : List Turn
-  pub more : List (List Turn)
+  pub first : List Chore
+  pub more : List (List Chore)
   pub went : GoesRounds limits actor (first ∷ more) old new
 
--- turns under way
-pub record HasTurns (limits : Limits) (actor : ℕ) (old new : Worker) : Type 0 where
-  pub turns : List Turn
-  pub taken : TakesTurns limits actor turns old new
+-- chores under way
+pub record HasChores (limits : Limits) (actor : ℕ) (old new : Worker) : Type 0 where
+  pub chores : List Chore
+  pub taken : TakesChores limits actor chores old new
 
 -- a round under way
 pub record HasRound (limits : Limits) (actor : ℕ) (old new : Worker) : Type 0 where
-  pub turns : List Turn
-  pub went : GoesRound limits actor turns old new
+  pub chores : List Chore
+  pub went : GoesRound limits actor chores old new
 
 -- what was seen goes on lawfully from an earlier history
 pub record GoesOn (limits : Limits) (first seen : History) : Type 0 where

@@ -3,7 +3,7 @@ ghost use Rattle.std.specs.Prelude.{◌≡◌, false, length};
 ghost use Rattle.kq_engine.specs.Upkeeps.{IsThere, KeepsUp};
 ghost use Rattle.kq_model.specs.History.{log, tables, view_count};
 ghost use Rattle.kq_workers.specs.Kept.{AreKept, AreKeptBelow, IsKept};
-ghost use Rattle.kq_workers.specs.Rounds.{GoesOn, HasRound, HasTurns, TakesOne, wants_memory as wants_memory_by};
+ghost use Rattle.kq_workers.specs.Rounds.{GoesOn, HasRound, HasChores, TakesOne, wants_memory as wants_memory_by};
 
 use crate::worker::{Post, Worker};
 use kq_catalog::Snapshot;
@@ -31,7 +31,7 @@ pub(crate) fn round<R: Wait, G: Gate>(post: &Post<R, G>, worker: &mut Worker) ->
 fn fold_views<R: Wait, G: Gate>(post: &Post<R, G>, worker: &mut Worker, snapshot: &Snapshot) -> bool
     requires of { worker.old.pass.of ≡ post.now.shared.now.turn }
     requires since { GoesOn post.now.shared.now.limits snapshot.now.history worker.old.pass.seen }
-    ensures turns { HasTurns post.now.shared.now.limits post.now.actor worker.old worker.new }
+    ensures chores { HasChores post.now.shared.now.limits post.now.actor worker.old worker.new }
     ensures since { GoesOn post.now.shared.now.limits snapshot.now.history worker.new.pass.seen }
     ensures kept { worker.new.short ≡ false → AreKeptBelow snapshot.now.history worker.new.pass.seen Upkeep.Fold (view_count (log snapshot.now.history)) }
 {
@@ -51,7 +51,7 @@ fn merge_tables<R: Wait, G: Gate>(
 ) -> bool
     requires of { worker.old.pass.of ≡ post.now.shared.now.turn }
     requires since { GoesOn post.now.shared.now.limits snapshot.now.history worker.old.pass.seen }
-    ensures turns { HasTurns post.now.shared.now.limits post.now.actor worker.old worker.new }
+    ensures chores { HasChores post.now.shared.now.limits post.now.actor worker.old worker.new }
     ensures since { GoesOn post.now.shared.now.limits snapshot.now.history worker.new.pass.seen }
     ensures kept { worker.new.short ≡ false → AreKeptBelow snapshot.now.history worker.new.pass.seen Upkeep.Merge (length (tables (log snapshot.now.history))) }
 {
@@ -64,7 +64,7 @@ fn merge_tables<R: Wait, G: Gate>(
     moved
 }
 
-// Takes a turn where there was something to do. True where something was done.
+// Takes a chore where there was something to do. True where something was done.
 fn tend<R: Wait, G: Gate>(
     post: &Post<R, G>,
     worker: &mut Worker,
@@ -74,19 +74,19 @@ fn tend<R: Wait, G: Gate>(
     requires of { worker.old.pass.of ≡ post.now.shared.now.turn }
     requires since { GoesOn post.now.shared.now.limits snapshot.now.history worker.old.pass.seen }
     requires there { IsThere (log snapshot.now.history) upkeep }
-    ensures turns { HasTurns post.now.shared.now.limits post.now.actor worker.old worker.new }
+    ensures chores { HasChores post.now.shared.now.limits post.now.actor worker.old worker.new }
     ensures since { GoesOn post.now.shared.now.limits snapshot.now.history worker.new.pass.seen }
     ensures kept { worker.new.short ≡ false → IsKept snapshot.now.history worker.new.pass.seen upkeep }
 {
     if upkeep.is_wanted(snapshot) {
-        turn(post, worker, upkeep)
+        chore(post, worker, upkeep)
     } else {
         false
     }
 }
 
-// One turn, under the next number. True where something was done; a refusal does nothing.
-fn turn<R: Wait, G: Gate>(post: &Post<R, G>, worker: &mut Worker, upkeep: Upkeep) -> bool
+// One chore, under the next number. True where something was done; a refusal does nothing.
+fn chore<R: Wait, G: Gate>(post: &Post<R, G>, worker: &mut Worker, upkeep: Upkeep) -> bool
     requires of { worker.old.pass.of ≡ post.now.shared.now.turn }
     requires there { IsThere (log worker.old.pass.seen) upkeep }
     ensures { TakesOne post.now.shared.now.limits post.now.actor worker.old worker.new upkeep }

@@ -1,7 +1,7 @@
 // A worker, and what it works with.
 use kq_engine::{Pass, Shared};
 
-/// A worker that is under way: its pass, the number of its last turn, and whether memory was wanting.
+/// A worker that is under way: its pass, the number of its last chore, and whether memory was wanting.
 #[derive(Drop)]
 pub(crate) struct Worker {
     pub pass: Pass,

@@ -2,7 +2,7 @@ use Rattle.std.proofs.Common.{◌∙◌, true, refl, subst, sym}
 use mathlib.Core.List.{IsPrefix}
 use Rattle.kq_workers.specs.declared.worker.Worker.{Worker}
 use Rattle.kq_workers.specs.Rounds.{Looks}
-use Rattle.kq_workers.proofs.Going.{Carries-looks, HasRound-refused, HasRound-turns, HasTurns-append, HasTurns-carries}
+use Rattle.kq_workers.proofs.Going.{Carries-looks, HasRound-refused, HasRound-chores, HasChores-append, HasChores-carries}
 use Rattle.kq_workers.proofs.Keeping.{AreKept-earlier}
 use Rattle.kq_workers.proofs.Looping.{AreKept-round}
 use Rattle.kq_workers.proofs.round.round.Goals as goal
@@ -21,7 +21,7 @@ merge_tables-merged-requires-clause-of g c =
     let old = c.args.worker.now in
     let looked : Worker = record { pass = c.snapshot.new.pass; number = old.number; short = old.short } in
     let looks : Looks old.pass looked.pass = record { seen = c.snapshot.ensures.seen; pass = c.snapshot.ensures.pass } in
-    (HasTurns-carries post.shared.now.limits post.actor looked c.fold_views-folded.new.worker c.fold_views-folded.ensures.turns).of ∙ (Carries-looks old.pass looked.pass looks).of ∙ c.requires
+    (HasChores-carries post.shared.now.limits post.actor looked c.fold_views-folded.new.worker c.fold_views-folded.ensures.chores).of ∙ (Carries-looks old.pass looked.pass looks).of ∙ c.requires
 
 pub returns-clause-round : goal.returns-clause-round
 returns-clause-round g c =
@@ -31,7 +31,7 @@ returns-clause-round g c =
     let new = c.merge_tables-merged.new.worker in
     let looked : Worker = record { pass = c.snapshot.new.pass; number = old.number; short = old.short } in
     let looks : Looks old.pass looked.pass = record { seen = c.snapshot.ensures.seen; pass = c.snapshot.ensures.pass } in
-    HasRound-turns post.shared.now.limits post.actor old looked new looks refl refl (HasTurns-append post.shared.now.limits post.actor looked mid new c.fold_views-folded.ensures.turns c.merge_tables-merged.ensures.turns)
+    HasRound-chores post.shared.now.limits post.actor old looked new looks refl refl (HasChores-append post.shared.now.limits post.actor looked mid new c.fold_views-folded.ensures.chores c.merge_tables-merged.ensures.chores)
 
 pub returns-clause-kept : goal.returns-clause-kept
 returns-clause-kept g c = λ none.
@@ -42,4 +42,4 @@ returns-clause-kept g c = λ none.
     let first = c.in-Ok.snapshot.history in
     let begins : IsPrefix old.pass.seen first = subst (IsPrefix old.pass.seen) (sym c.in-Ok.ensures.history) c.snapshot.ensures.seen in
     AreKept-earlier old.pass.seen first new.pass.seen begins
-    (AreKept-round post.shared.now.limits post.actor first mid new c.fold_views-folded.ensures.since c.merge_tables-merged.ensures.turns c.merge_tables-merged.ensures.since c.fold_views-folded.ensures.kept c.merge_tables-merged.ensures.kept none)
+    (AreKept-round post.shared.now.limits post.actor first mid new c.fold_views-folded.ensures.since c.merge_tables-merged.ensures.chores c.merge_tables-merged.ensures.since c.fold_views-folded.ensures.kept c.merge_tables-merged.ensures.kept none)
