@@ -5,7 +5,7 @@ use Rattle.kq_model.specs.declared.limits.Limits.{Limits}
 use Rattle.kq_model.specs.History.{History}
 use Rattle.kq_engine.specs.Shared.{PassView}
 use Rattle.kq_session.specs.Session.{Explained, owns}
-use Rattle.kq_session.specs.Turns.{Rises}
+use Rattle.kq_session.specs.Exchanges.{Rises}
 use Rattle.kq_console.specs.Views.{OpenedView, EndedView}
 
 -- the session of an actor was served: the history explains it, and its faults have their causes

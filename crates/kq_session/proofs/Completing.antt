@@ -26,10 +26,10 @@ use Rattle.kq_session.specs.Blocks.{FitsRead, FitsBlock, Refuses, refusal_of}
 use Rattle.kq_session.specs.Complete.{AreAllBlocks, Completes, IsComplete, IsRefused, IsServed, IsValid}
 use Rattle.kq_session.specs.Ends.{status_of, wants_memory}
 use Rattle.kq_session.specs.Objects.{Objects, SessionView}
-use Rattle.kq_session.specs.Session.{Turn, AreTurns, Ends, Explained, blocks_of, texts_of, input_bytes}
-use Rattle.kq_session.specs.Turns.{Rises}
+use Rattle.kq_session.specs.Session.{Exchange, AreExchanges, Ends, Explained, blocks_of, texts_of, input_bytes}
+use Rattle.kq_session.specs.Exchanges.{Rises}
 
--- ---- one turn
+-- ---- one exchange
 
 -- no refusal, or one for want of memory
 abbrev IsGranted : Reply → Type 0
@@ -81,31 +81,31 @@ granted_block limits h mark (command text) now place own reply fits valid = gran
 granted_block limits h mark (too_long bytes) now place own reply fits valid =
     refused_alone limits (take (place - made_by own) h) h now (too_long bytes) place own reply (refusals.TooLong bytes) valid (λ q is. is) (record { within = fits.within; not_own = fits.not_own; reason = inl fits.refused })
 
-AreTurns-served : (limits : Limits) (h : History) (actor n q : ℕ) (ts : List Turn) → AreTurns limits h actor n q ts → All (IsServed limits h) ts
-AreTurns-served limits h actor n q [] all = All-nil (IsServed limits h)
-AreTurns-served limits h actor n q (t ∷ ts) all =
+AreExchanges-served : (limits : Limits) (h : History) (actor n q : ℕ) (ts : List Exchange) → AreExchanges limits h actor n q ts → All (IsServed limits h) ts
+AreExchanges-served limits h actor n q [] all = All-nil (IsServed limits h)
+AreExchanges-served limits h actor n q (t ∷ ts) all =
     let r = t.receipt in
-    let turn = all.2 in
+    let exchange = all.2 in
     All-cons (IsServed limits h) t ts
-    (record { granted = λ valid. subst (λ (k : ℕ). (k ≡ 0) ⊎ (k ≡ 1)) (sym turn.kind) (granted_block limits h _ t.block r.moment r.place r.own t.reply turn.fits valid) })
-    (AreTurns-served limits h actor (n + 1) r.place ts all.3)
+    (record { granted = λ valid. subst (λ (k : ℕ). (k ≡ 0) ⊎ (k ≡ 1)) (sym exchange.kind) (granted_block limits h _ t.block r.moment r.place r.own t.reply exchange.fits valid) })
+    (AreExchanges-served limits h actor (n + 1) r.place ts all.3)
 
 -- ---- a session
 
 complete_with : (limits : Limits) (h : History) (actor : ℕ) (before : Contents) (s : SessionView) (end : End) (ends : Ends limits h actor before s.objects.contents s.receipts end)
-    → (s.status ≡ 0) ⊎ (s.status ≡ 1) → s.status ≡ status_of end s.receipts → AreAllBlocks end ends.bytes s.objects.contents.source.ended (blocks_of ends.turns) → Adds before.accepted s.objects.contents.accepted (texts_of ends.turns) → IsComplete limits h actor before s
+    → (s.status ≡ 0) ⊎ (s.status ≡ 1) → s.status ≡ status_of end s.receipts → AreAllBlocks end ends.bytes s.objects.contents.source.ended (blocks_of ends.exchanges) → Adds before.accepted s.objects.contents.accepted (texts_of ends.exchanges) → IsComplete limits h actor before s
 complete_with limits h actor before s end ends status by_end blocks written = record {
   status = status;
-  turns = ends.turns;
+  exchanges = ends.exchanges;
   bytes = ends.bytes;
-  of_turns = ends.of_turns;
+  of_exchanges = ends.of_exchanges;
   each = ends.each;
   gave = ends.gave;
   end = end;
   by_end = by_end;
   blocks = blocks;
   all_at_end = ends.all_at_end;
-  served = AreTurns-served limits h actor 0 0 ends.turns ends.each;
+  served = AreExchanges-served limits h actor 0 0 ends.exchanges ends.each;
   written = written;
 }
 

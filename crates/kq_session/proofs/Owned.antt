@@ -13,7 +13,7 @@ use Rattle.kq_engine.proofs.Owning.{IsIn, Fits-own}
 use Rattle.kq_session.specs.declared.receipt.Receipt.{Receipt}
 use Rattle.kq_session.specs.Blocks.{FitsRead, FitsBlock}
 use Rattle.kq_session.specs.Objects.{SessionView}
-use Rattle.kq_session.specs.Session.{Turn, AreTurns, Explained, own_commits}
+use Rattle.kq_session.specs.Session.{Exchange, AreExchanges, Explained, own_commits}
 
 -- the places never fall from q on, and the numbers rise from above n
 abbrev pub Follows : ℕ → ℕ → List CommitAt → Type 0
@@ -53,14 +53,14 @@ own_more limits h mark block now place false reply q n ms low number fits rest =
   in_it = rest.in_it;
 }
 
-AreTurns-owned : (limits : Limits) (h : History) (actor n q : ℕ) (ts : List Turn) → AreTurns limits h actor n q ts → AreOwned q n (commits_at h) (own_commits actor (map (λ (t : Turn). t.receipt) ts))
-AreTurns-owned limits h actor n q [] all = record { follows = tt; in_it = tt }
-AreTurns-owned limits h actor n q (t ∷ ts) all =
+AreExchanges-owned : (limits : Limits) (h : History) (actor n q : ℕ) (ts : List Exchange) → AreExchanges limits h actor n q ts → AreOwned q n (commits_at h) (own_commits actor (map (λ (t : Exchange). t.receipt) ts))
+AreExchanges-owned limits h actor n q [] all = record { follows = tt; in_it = tt }
+AreExchanges-owned limits h actor n q (t ∷ ts) all =
     let r = t.receipt in
-    own_more limits h (record { actor = actor; number = r.number }) t.block r.moment r.place r.own t.reply q n _ all.1.since all.0 all.2.fits (AreTurns-owned limits h actor (n + 1) r.place ts all.3)
+    own_more limits h (record { actor = actor; number = r.number }) t.block r.moment r.place r.own t.reply q n _ all.1.since all.0 all.2.fits (AreExchanges-owned limits h actor (n + 1) r.place ts all.3)
 
 -- those of a session that is explained
 pub Explained-owned : (limits : Limits) (h : History) (actor : ℕ) (before : Contents) (s : SessionView) → Explained limits h actor before s → AreOwned 0 0 (commits_at h) (own_commits actor s.receipts)
 Explained-owned limits h actor before s explained =
     let ends = explained.ends in
-    subst (λ (rs : List Receipt). AreOwned 0 0 (commits_at h) (own_commits actor rs)) (sym ends.of_turns) (AreTurns-owned limits h actor 0 0 ends.turns ends.each)
+    subst (λ (rs : List Receipt). AreOwned 0 0 (commits_at h) (own_commits actor rs)) (sym ends.of_exchanges) (AreExchanges-owned limits h actor 0 0 ends.exchanges ends.each)

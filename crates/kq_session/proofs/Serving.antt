@@ -1,4 +1,4 @@
--- A session goes on by one turn.
+-- A session goes on by one exchange.
 use Rattle.std.proofs.Common.{◌≡◌, ◌≤◌, ◌+◌, ℕ, Bool, List, [], ◌∷◌, ◌++◌, length, map, take, Some, None, Result, Ok, Err, ap, sym, ◌∙◌, subst, refl, arith, append-nil, append_assoc, length-append, add-zero, zero-add}
 use mathlib.Core.List.{IsPrefix}
 use Rattle.kq_turn.proofs.Beginnings.{IsPrefix-refl, IsPrefix-trans}
@@ -24,39 +24,39 @@ use Rattle.kq_session.specs.declared.end.End.TheVariants.{Finished, Short, Sourc
 use Rattle.kq_session.specs.declared.receipt.Receipt.{Receipt}
 use Rattle.kq_session.specs.Blocks.{FitsBlock, Steps, AreTakes}
 use Rattle.kq_session.specs.Objects.{SessionView}
-use Rattle.kq_session.specs.Session.{Turn, IsTurn, ComesAfter, AreTurns, AreWritten, Ends, Explained, GoesOn, blocks_of, moments_of, texts_of, owns, AreTaken, command_bytes, input_bytes}
-use Rattle.kq_session.specs.Turns.{State, Progress, Went, Idle, TurnBy, Comes}
+use Rattle.kq_session.specs.Session.{Exchange, IsExchange, ComesAfter, AreExchanges, AreWritten, Ends, Explained, GoesOn, blocks_of, moments_of, texts_of, owns, AreTaken, command_bytes, input_bytes}
+use Rattle.kq_session.specs.Exchanges.{State, Progress, Went, Idle, ExchangeBy, Comes}
 use Rattle.kq_session.proofs.Blocks.{FitsBlock-append}
-use Rattle.kq_session.proofs.Turning.{given_at_end, open_still}
+use Rattle.kq_session.proofs.Exchanging.{given_at_end, open_still}
 
-IsTurn-later : (limits : Limits) (actor : ℕ) (h new more : History) → new ≡ h ++ more → (t : Turn) → IsTurn limits h actor t → IsTurn limits new actor t
-IsTurn-later limits actor h new more is t turn = subst (λ (n : History). IsTurn limits n actor t) (sym is) (record {
-  fits = FitsBlock-append limits h more _ t.block t.receipt.moment t.receipt.place t.receipt.own t.reply turn.fits;
-  within = omega (arith, turn.within, length-append h more);
-  kind = turn.kind;
+IsExchange-later : (limits : Limits) (actor : ℕ) (h new more : History) → new ≡ h ++ more → (t : Exchange) → IsExchange limits h actor t → IsExchange limits new actor t
+IsExchange-later limits actor h new more is t exchange = subst (λ (n : History). IsExchange limits n actor t) (sym is) (record {
+  fits = FitsBlock-append limits h more _ t.block t.receipt.moment t.receipt.place t.receipt.own t.reply exchange.fits;
+  within = omega (arith, exchange.within, length-append h more);
+  kind = exchange.kind;
 })
 
-ComesAfter-later : (h new more : History) (q : ℕ) → new ≡ h ++ more → (t : Turn) → t.receipt.place ≤ length h → ComesAfter h q t → ComesAfter new q t
+ComesAfter-later : (h new more : History) (q : ℕ) → new ≡ h ++ more → (t : Exchange) → t.receipt.place ≤ length h → ComesAfter h q t → ComesAfter new q t
 ComesAfter-later h new more q is t within after = record {
   since = after.since;
   names_all = subst (λ (n : History). NamesAll n q t.reply) (sym (ap (take t.receipt.place) is ∙ take-append-le t.receipt.place h more within)) after.names_all;
 }
 
-AreTurns-later : (limits : Limits) (actor : ℕ) (h new more : History) (n q : ℕ) → new ≡ h ++ more → (ts : List Turn) → AreTurns limits h actor n q ts → AreTurns limits new actor n q ts
-AreTurns-later limits actor h new more n q is [] all = tt
-AreTurns-later limits actor h new more n q is (t ∷ ts) all = (all.0, ComesAfter-later h new more q is t all.2.within all.1, IsTurn-later limits actor h new more is t all.2, AreTurns-later limits actor h new more (n + 1) t.receipt.place is ts all.3)
+AreExchanges-later : (limits : Limits) (actor : ℕ) (h new more : History) (n q : ℕ) → new ≡ h ++ more → (ts : List Exchange) → AreExchanges limits h actor n q ts → AreExchanges limits new actor n q ts
+AreExchanges-later limits actor h new more n q is [] all = tt
+AreExchanges-later limits actor h new more n q is (t ∷ ts) all = (all.0, ComesAfter-later h new more q is t all.2.within all.1, IsExchange-later limits actor h new more is t all.2, AreExchanges-later limits actor h new more (n + 1) t.receipt.place is ts all.3)
 
--- the place of the last turn, or the one before the turns
-abbrev last_place : ℕ → List Turn → ℕ
+-- the place of the last exchange, or the one before the exchanges
+abbrev last_place : ℕ → List Exchange → ℕ
 last_place q [] = q
 last_place q (t ∷ ts) = last_place t.receipt.place ts
 
-AreTurns-push : (limits : Limits) (actor : ℕ) (h : History) (n q : ℕ) (ts : List Turn) (t : Turn) → AreTurns limits h actor n q ts → t.receipt.number ≡ n + length ts + 1 → ComesAfter h (last_place q ts) t → IsTurn limits h actor t → AreTurns limits h actor n q (ts ++ t ∷ [])
-AreTurns-push limits actor h n q [] t all number place turn = (omega arith, place, turn, tt)
-AreTurns-push limits actor h n q (x ∷ ts) t all number place turn = (all.0, all.1, all.2, AreTurns-push limits actor h (n + 1) x.receipt.place ts t all.3 (omega arith) place turn)
+AreExchanges-push : (limits : Limits) (actor : ℕ) (h : History) (n q : ℕ) (ts : List Exchange) (t : Exchange) → AreExchanges limits h actor n q ts → t.receipt.number ≡ n + length ts + 1 → ComesAfter h (last_place q ts) t → IsExchange limits h actor t → AreExchanges limits h actor n q (ts ++ t ∷ [])
+AreExchanges-push limits actor h n q [] t all number place exchange = (omega arith, place, exchange, tt)
+AreExchanges-push limits actor h n q (x ∷ ts) t all number place exchange = (all.0, all.1, all.2, AreExchanges-push limits actor h (n + 1) x.receipt.place ts t all.3 (omega arith) place exchange)
 
 -- the last place lies within the history
-last_place-within : (limits : Limits) (actor : ℕ) (h : History) (n q : ℕ) (ts : List Turn) → q ≤ length h → AreTurns limits h actor n q ts → last_place q ts ≤ length h
+last_place-within : (limits : Limits) (actor : ℕ) (h : History) (n q : ℕ) (ts : List Exchange) → q ≤ length h → AreExchanges limits h actor n q ts → last_place q ts ≤ length h
 last_place-within limits actor h n q [] within all = within
 last_place-within limits actor h n q (t ∷ ts) within all = last_place-within limits actor h (n + 1) t.receipt.place ts all.2.within all.3
 
@@ -95,22 +95,22 @@ GoesOn-push limits first old new by block receipts r reply goes_on kind step = r
 
 -- the session before its n-th block
 pub record SoFar (limits : Limits) (actor : ℕ) (start now : State) (reader : ScriptReader) (n : ℕ) : Type 0 where
-  pub turns : List Turn
+  pub exchanges : List Exchange
   pub bytes : List ℕ
-  pub of_turns : now.receipts ≡ map (λ (t : Turn). t.receipt) turns
-  pub each : AreTurns limits now.pass.seen actor 0 0 turns
+  pub of_exchanges : now.receipts ≡ map (λ (t : Exchange). t.receipt) exchanges
+  pub each : AreExchanges limits now.pass.seen actor 0 0 exchanges
   pub gave : Gives start.contents.source now.contents.source bytes
-  pub reading : IsReading command_bytes input_bytes reader start.contents.source now.contents.source bytes (blocks_of turns)
-  pub moments : Adds start.contents.readings now.contents.readings (moments_of turns)
-  pub written : Adds start.contents.accepted now.contents.accepted (texts_of turns)
+  pub reading : IsReading command_bytes input_bytes reader start.contents.source now.contents.source bytes (blocks_of exchanges)
+  pub moments : Adds start.contents.readings now.contents.readings (moments_of exchanges)
+  pub written : Adds start.contents.accepted now.contents.accepted (texts_of exchanges)
   pub goes_on : GoesOn start.pass now.pass now.receipts
-  pub count : length turns + 1 ≡ n
+  pub count : length exchanges + 1 ≡ n
 
 pub SoFar-none : (limits : Limits) (actor : ℕ) (s : State) (reader : ScriptReader) → s.receipts ≡ [] → IsReading command_bytes input_bytes reader s.contents.source s.contents.source [] [] → SoFar limits actor s s reader 1
 SoFar-none limits actor s reader fresh reading = record {
-  turns = [];
+  exchanges = [];
   bytes = [];
-  of_turns = fresh;
+  of_exchanges = fresh;
   each = tt;
   gave = Gives-none s.contents.source;
   reading = reading;
@@ -122,120 +122,120 @@ SoFar-none limits actor s reader fresh reading = record {
 
 -- what was read before the n-th block
 abbrev pub progress : {limits : Limits} {actor : ℕ} {start now : State} {reader : ScriptReader} {n : ℕ} → SoFar limits actor start now reader n → Progress
-progress {start = start} so_far = record { first = start.contents.source; taken = so_far.bytes; given = blocks_of so_far.turns }
+progress {start = start} so_far = record { first = start.contents.source; taken = so_far.bytes; given = blocks_of so_far.exchanges }
 
-texts_of-push : (turns : List Turn) (t : Turn) → texts_of (turns ++ t ∷ []) ≡ texts_of turns ++ text_of t.reply
-texts_of-push turns t = sym (flat_map_more (λ (u : Turn). text_of u.reply) [] turns t)
+texts_of-push : (exchanges : List Exchange) (t : Exchange) → texts_of (exchanges ++ t ∷ []) ≡ texts_of exchanges ++ text_of t.reply
+texts_of-push exchanges t = sym (flat_map_more (λ (u : Exchange). text_of u.reply) [] exchanges t)
 
--- the turns with one more
-record More (limits : Limits) (actor : ℕ) (start now : State) (reader : ScriptReader) (turns : List Turn) (n : ℕ) : Type 0 where
+-- the exchanges with one more
+record More (limits : Limits) (actor : ℕ) (start now : State) (reader : ScriptReader) (exchanges : List Exchange) (n : ℕ) : Type 0 where
   pub bytes : List ℕ
-  pub of_turns : now.receipts ≡ map (λ (t : Turn). t.receipt) turns
-  pub each : AreTurns limits now.pass.seen actor 0 0 turns
+  pub of_exchanges : now.receipts ≡ map (λ (t : Exchange). t.receipt) exchanges
+  pub each : AreExchanges limits now.pass.seen actor 0 0 exchanges
   pub gave : Gives start.contents.source now.contents.source bytes
-  pub reading : IsReading command_bytes input_bytes reader start.contents.source now.contents.source bytes (blocks_of turns)
-  pub moments : Adds start.contents.readings now.contents.readings (moments_of turns)
+  pub reading : IsReading command_bytes input_bytes reader start.contents.source now.contents.source bytes (blocks_of exchanges)
+  pub moments : Adds start.contents.readings now.contents.readings (moments_of exchanges)
   pub goes_on : GoesOn start.pass now.pass now.receipts
-  pub count : length turns + 1 ≡ n
+  pub count : length exchanges + 1 ≡ n
 
 more_by : {E : Type 0} (limits : Limits) (actor n : ℕ) (start old new : State) (was reader : ScriptReader) (so_far : SoFar limits actor start old was n) (result : Result (Unit {0}) E)
-    → (went : Went limits (record { actor = actor; number = n }) (progress so_far) old new reader result) → More limits actor start new reader (so_far.turns ++ went.replied.turn ∷ []) (n + 1)
+    → (went : Went limits (record { actor = actor; number = n }) (progress so_far) old new reader result) → More limits actor start new reader (so_far.exchanges ++ went.replied.exchange ∷ []) (n + 1)
 more_by limits actor n start old new was reader so_far result went =
-    let t = went.replied.turn in
+    let t = went.replied.exchange in
     let answered = went.replied.answered in
     let step = answered.step in
     let grown = step.seen in
     let r = t.receipt in
-    let turns = so_far.turns in
-    let low : last_place 0 turns ≤ length old.pass.seen = last_place-within limits actor old.pass.seen 0 0 turns (omega arith) so_far.each in
-    let number : t.receipt.number ≡ 0 + length turns + 1 = omega (arith, answered.number, so_far.count) in
+    let exchanges = so_far.exchanges in
+    let low : last_place 0 exchanges ≤ length old.pass.seen = last_place-within limits actor old.pass.seen 0 0 exchanges (omega arith) so_far.each in
+    let number : t.receipt.number ≡ 0 + length exchanges + 1 = omega (arith, answered.number, so_far.count) in
     record {
       bytes = so_far.bytes ++ went.reads.bytes;
-      of_turns = answered.receipt ∙ ap (λ (l : List Receipt). l ++ r ∷ []) so_far.of_turns ∙ sym (map_push (λ (u : Turn). u.receipt) turns t);
-      each = AreTurns-push limits actor new.pass.seen 0 0 turns t (AreTurns-later limits actor old.pass.seen new.pass.seen grown.0 0 0 (sym grown.1) turns so_far.each) number (record { since = omega (arith, low, step.since); names_all = NamesAll-since (take r.place new.pass.seen) (last_place 0 turns) (length old.pass.seen) t.reply low step.names_all })
+      of_exchanges = answered.receipt ∙ ap (λ (l : List Receipt). l ++ r ∷ []) so_far.of_exchanges ∙ sym (map_push (λ (u : Exchange). u.receipt) exchanges t);
+      each = AreExchanges-push limits actor new.pass.seen 0 0 exchanges t (AreExchanges-later limits actor old.pass.seen new.pass.seen grown.0 0 0 (sym grown.1) exchanges so_far.each) number (record { since = omega (arith, low, step.since); names_all = NamesAll-since (take r.place new.pass.seen) (last_place 0 exchanges) (length old.pass.seen) t.reply low step.names_all })
           (record {
             fits = subst (λ (m : ℕ). FitsBlock limits new.pass.seen (record { actor = actor; number = m }) t.block r.moment r.place r.own t.reply) (sym answered.number) step.fits;
             within = step.within;
             kind = answered.kind;
           });
       gave = Gives-trans start.contents.source old.contents.source new.contents.source so_far.bytes went.reads.bytes so_far.gave went.reads.gave;
-      reading = subst (IsReading command_bytes input_bytes reader start.contents.source new.contents.source (so_far.bytes ++ went.reads.bytes)) (ap (λ (b : Block). blocks_of turns ++ b ∷ []) (sym went.replied.same_block) ∙ sym (map_push (λ (u : Turn). u.block) turns t)) went.reads.reading;
-      moments = subst (Adds start.contents.readings new.contents.readings) (sym (map_push (λ (u : Turn). u.receipt.moment) turns t)) (Adds-trans start.contents.readings old.contents.readings new.contents.readings (moments_of turns) _ so_far.moments answered.moment);
+      reading = subst (IsReading command_bytes input_bytes reader start.contents.source new.contents.source (so_far.bytes ++ went.reads.bytes)) (ap (λ (b : Block). blocks_of exchanges ++ b ∷ []) (sym went.replied.same_block) ∙ sym (map_push (λ (u : Exchange). u.block) exchanges t)) went.reads.reading;
+      moments = subst (Adds start.contents.readings new.contents.readings) (sym (map_push (λ (u : Exchange). u.receipt.moment) exchanges t)) (Adds-trans start.contents.readings old.contents.readings new.contents.readings (moments_of exchanges) _ so_far.moments answered.moment);
       goes_on = subst (GoesOn start.pass new.pass) (sym answered.receipt) (GoesOn-push limits start.pass old.pass new.pass (record { actor = actor; number = n }) t.block old.receipts r t.reply so_far.goes_on answered.kind step);
-      count = omega (arith, so_far.count, length_push turns t);
+      count = omega (arith, so_far.count, length_push exchanges t);
     }
 
 pub SoFar-push : (limits : Limits) (actor n : ℕ) (start old new : State) (was reader : ScriptReader) (so_far : SoFar limits actor start old was n)
-    → TurnBy limits (record { actor = actor; number = n }) (progress so_far) old new reader None → SoFar limits actor start new reader (n + 1)
+    → ExchangeBy limits (record { actor = actor; number = n }) (progress so_far) old new reader None → SoFar limits actor start new reader (n + 1)
 SoFar-push limits actor n start old new was reader so_far went =
-    let t = went.replied.turn in
+    let t = went.replied.exchange in
     let m = more_by limits actor n start old new was reader so_far (Ok tt) went in
     record {
-      turns = so_far.turns ++ t ∷ [];
+      exchanges = so_far.exchanges ++ t ∷ [];
       bytes = m.bytes;
-      of_turns = m.of_turns;
+      of_exchanges = m.of_exchanges;
       each = m.each;
       gave = m.gave;
       reading = m.reading;
       moments = m.moments;
-      written = subst (Adds start.contents.accepted new.contents.accepted) (sym (texts_of-push so_far.turns t)) (Adds-trans start.contents.accepted old.contents.accepted new.contents.accepted (texts_of so_far.turns) (text_of t.reply) so_far.written went.replied.written);
+      written = subst (Adds start.contents.accepted new.contents.accepted) (sym (texts_of-push so_far.exchanges t)) (Adds-trans start.contents.accepted old.contents.accepted new.contents.accepted (texts_of so_far.exchanges) (text_of t.reply) so_far.written went.replied.written);
       goes_on = m.goes_on;
       count = m.count;
     }
 
 -- nothing was answered any more
 Ends-idle : (limits : Limits) (actor n : ℕ) (start old new : State) (was : ScriptReader) (end : End) (so_far : SoFar limits actor start old was n) → Idle (progress so_far) old new end
-    → ((turns : List Turn) → Adds start.contents.accepted new.contents.accepted (texts_of turns) → AreWritten end start.contents.accepted new.contents.accepted turns) → Ends limits new.pass.seen actor start.contents new.contents new.receipts end
+    → ((exchanges : List Exchange) → Adds start.contents.accepted new.contents.accepted (texts_of exchanges) → AreWritten end start.contents.accepted new.contents.accepted exchanges) → Ends limits new.pass.seen actor start.contents new.contents new.receipts end
 Ends-idle limits actor n start old new was end so_far idle all_written = record {
-  turns = so_far.turns;
+  exchanges = so_far.exchanges;
   bytes = so_far.bytes ++ idle.bytes;
-  of_turns = idle.same_receipts ∙ so_far.of_turns;
-  each = subst (λ (p : PassView). AreTurns limits p.seen actor 0 0 so_far.turns) (sym idle.same_pass) so_far.each;
+  of_exchanges = idle.same_receipts ∙ so_far.of_exchanges;
+  each = subst (λ (p : PassView). AreExchanges limits p.seen actor 0 0 so_far.exchanges) (sym idle.same_pass) so_far.each;
   gave = Gives-trans start.contents.source old.contents.source new.contents.source so_far.bytes idle.bytes so_far.gave idle.gave;
   blocks = idle.blocks;
   at_end = idle.at_end;
   all_at_end = idle.all_at_end;
   moments = idle.readings ∙ so_far.moments;
-  written = all_written so_far.turns (idle.accepted ∙ so_far.written);
+  written = all_written so_far.exchanges (idle.accepted ∙ so_far.written);
 }
 
 GoesOn-idle : (first old new : PassView) (receipts more : List Receipt) → GoesOn first old receipts → new ≡ old → more ≡ receipts → GoesOn first new more
 GoesOn-idle first old new receipts more goes_on same same_receipts = subst (λ (p : PassView). GoesOn first p more) (sym same) (subst (GoesOn first old) (sym same_receipts) goes_on)
 
 idle_comes : (limits : Limits) (actor n : ℕ) (start old new : State) (was : ScriptReader) (end : End) (so_far : SoFar limits actor start old was n) → Idle (progress so_far) old new end
-    → ((turns : List Turn) → Adds start.contents.accepted new.contents.accepted (texts_of turns) → AreWritten end start.contents.accepted new.contents.accepted turns) → Comes limits actor start new end
+    → ((exchanges : List Exchange) → Adds start.contents.accepted new.contents.accepted (texts_of exchanges) → AreWritten end start.contents.accepted new.contents.accepted exchanges) → Comes limits actor start new end
 idle_comes limits actor n start old new was end so_far idle all_written = record {
   ends = Ends-idle limits actor n start old new was end so_far idle all_written;
   goes_on = GoesOn-idle start.pass old.pass new.pass old.receipts new.receipts so_far.goes_on idle.same_pass idle.same_receipts;
 }
 
 pub Comes-end : (limits : Limits) (actor n : ℕ) (start old new : State) (was reader : ScriptReader) (end : End) (so_far : SoFar limits actor start old was n)
-    → TurnBy limits (record { actor = actor; number = n }) (progress so_far) old new reader (Some end) → Comes limits actor start new end
+    → ExchangeBy limits (record { actor = actor; number = n }) (progress so_far) old new reader (Some end) → Comes limits actor start new end
 Comes-end limits actor n start old new was reader SinkFault so_far failed =
     let went = failed.1 in
-    let t = went.replied.turn in
-    let turns = so_far.turns in
+    let t = went.replied.exchange in
+    let exchanges = so_far.exchanges in
     let cut = went.replied.written in
     let m = more_by limits actor n start old new was reader so_far (Err failed.0) went in
     record {
       ends = record {
-        turns = turns ++ t ∷ [];
+        exchanges = exchanges ++ t ∷ [];
         bytes = m.bytes;
-        of_turns = m.of_turns;
+        of_exchanges = m.of_exchanges;
         each = m.each;
         gave = m.gave;
         blocks = m.reading.prefix;
         at_end = tt;
         all_at_end = given_at_end reader start.contents.source new.contents.source m.bytes _ m.reading;
         moments = m.moments;
-        written = (turns, t, cut.0, refl, cut.1, Adds-trans start.contents.accepted old.contents.accepted new.contents.accepted (texts_of turns) (take cut.0 (text_of t.reply)) so_far.written cut.2);
+        written = (exchanges, t, cut.0, refl, cut.1, Adds-trans start.contents.accepted old.contents.accepted new.contents.accepted (texts_of exchanges) (take cut.0 (text_of t.reply)) so_far.written cut.2);
       };
       goes_on = m.goes_on;
     }
-Comes-end limits actor n start old new was reader Finished so_far turn = idle_comes limits actor n start old new was Finished so_far turn (λ turns w. w)
-Comes-end limits actor n start old new was reader Short so_far turn = idle_comes limits actor n start old new was Short so_far turn (λ turns w. w)
-Comes-end limits actor n start old new was reader SourceFault so_far turn = idle_comes limits actor n start old new was SourceFault so_far turn (λ turns w. w)
-Comes-end limits actor n start old new was reader InputLimit so_far turn = idle_comes limits actor n start old new was InputLimit so_far turn (λ turns w. w)
+Comes-end limits actor n start old new was reader Finished so_far exchange = idle_comes limits actor n start old new was Finished so_far exchange (λ exchanges w. w)
+Comes-end limits actor n start old new was reader Short so_far exchange = idle_comes limits actor n start old new was Short so_far exchange (λ exchanges w. w)
+Comes-end limits actor n start old new was reader SourceFault so_far exchange = idle_comes limits actor n start old new was SourceFault so_far exchange (λ exchanges w. w)
+Comes-end limits actor n start old new was reader InputLimit so_far exchange = idle_comes limits actor n start old new was InputLimit so_far exchange (λ exchanges w. w)
 
 no_blocks : (ended : Bool) → Begins [] (script_blocks command_bytes [] ended)
 no_blocks ended = (script_blocks command_bytes [] ended, refl)
@@ -243,9 +243,9 @@ no_blocks ended = (script_blocks command_bytes [] ended, refl)
 -- there was no room for the first receipt
 pub Ends-none : (limits : Limits) (actor : ℕ) (h : History) (o : Contents) → Ends limits h actor o o [] Short
 Ends-none limits actor h o = record {
-  turns = [];
+  exchanges = [];
   bytes = [];
-  of_turns = refl;
+  of_exchanges = refl;
   each = tt;
   gave = Gives-none o.source;
   blocks = no_blocks o.source.ended;
@@ -262,10 +262,10 @@ Explained-later limits h new actor before s later explained =
     record {
       end = explained.end;
       ends = record {
-        turns = ends.turns;
+        exchanges = ends.exchanges;
         bytes = ends.bytes;
-        of_turns = ends.of_turns;
-        each = AreTurns-later limits actor h new later.0 0 0 (sym later.1) ends.turns ends.each;
+        of_exchanges = ends.of_exchanges;
+        each = AreExchanges-later limits actor h new later.0 0 0 (sym later.1) ends.exchanges ends.each;
         gave = ends.gave;
         blocks = ends.blocks;
         at_end = ends.at_end;

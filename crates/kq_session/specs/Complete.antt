@@ -20,7 +20,7 @@ use Rattle.kq_session.specs.declared.receipt.Receipt.{Receipt}
 use Rattle.kq_session.specs.Blocks.{refusal_of}
 use Rattle.kq_session.specs.Ends.{status_of}
 use Rattle.kq_session.specs.Objects.{Objects, SessionView}
-use Rattle.kq_session.specs.Session.{Turn, AreTurns, AreAllAtEnd, blocks_of, texts_of, command_bytes, input_bytes}
+use Rattle.kq_session.specs.Session.{Exchange, AreExchanges, AreAllAtEnd, blocks_of, texts_of, command_bytes, input_bytes}
 
 -- ---- valid commands
 
@@ -43,7 +43,7 @@ abbrev pub answering : History → Receipt → History
 answering h r = take (r.place - made_by r.own) h
 
 -- a valid command has a reply that is no refusal, or one for want of memory
-pub record IsServed (limits : Limits) (h : History) (t : Turn) : Type 0 where
+pub record IsServed (limits : Limits) (h : History) (t : Exchange) : Type 0 where
   pub granted : IsValid limits (answering h t.receipt) t.receipt.moment t.block → (t.receipt.kind ≡ 0) ⊎ (t.receipt.kind ≡ 1)
 
 -- ---- sessions
@@ -54,7 +54,7 @@ pub record IsUntroubled (before now : Objects) : Type 0 where
   pub sink : ¬ Rose before.sink_faults now.sink_faults
   pub few : length now.contents.source.taken < length before.contents.source.taken + input_bytes
 
--- the end was read and all blocks have their turns, or room for the next receipt was wanting
+-- the end was read and all blocks have their exchanges, or room for the next receipt was wanting
 abbrev pub AreAllBlocks : End → List ℕ → Bool → List Block → Type 0
 AreAllBlocks Finished bytes ended blocks = (ended ≡ true) × (blocks ≡ script_blocks command_bytes bytes true)
 AreAllBlocks Short bytes ended blocks = Begins blocks (script_blocks command_bytes bytes ended)
@@ -66,17 +66,17 @@ AreAllBlocks InputLimit bytes ended blocks = ⊥
 -- which fits, and is no refusal where the command is valid, but for want of memory; and all replies were written
 pub record IsComplete (limits : Limits) (h : History) (actor : ℕ) (before : Contents) (s : SessionView) : Type 0 where
   pub status : (s.status ≡ 0) ⊎ (s.status ≡ 1)
-  pub turns : List Turn
+  pub exchanges : List Exchange
   pub bytes : List ℕ
-  pub of_turns : s.receipts ≡ map (λ (t : Turn). t.receipt) turns
-  pub each : AreTurns limits h actor 0 0 turns
+  pub of_exchanges : s.receipts ≡ map (λ (t : Exchange). t.receipt) exchanges
+  pub each : AreExchanges limits h actor 0 0 exchanges
   pub gave : Gives before.source s.objects.contents.source bytes
   pub end : End
   pub by_end : s.status ≡ status_of end s.receipts
-  pub blocks : AreAllBlocks end bytes s.objects.contents.source.ended (blocks_of turns)
-  pub all_at_end : AreAllAtEnd before.source.ended s.objects.contents.source.ended bytes (blocks_of turns)
-  pub served : All (IsServed limits h) turns
-  pub written : Adds before.accepted s.objects.contents.accepted (texts_of turns)
+  pub blocks : AreAllBlocks end bytes s.objects.contents.source.ended (blocks_of exchanges)
+  pub all_at_end : AreAllAtEnd before.source.ended s.objects.contents.source.ended bytes (blocks_of exchanges)
+  pub served : All (IsServed limits h) exchanges
+  pub written : Adds before.accepted s.objects.contents.accepted (texts_of exchanges)
 
 -- a session that nothing troubled is complete
 abbrev pub Completes : Limits → History → ℕ → Objects → SessionView → Type 0

@@ -29,36 +29,36 @@ abbrev pub input_bytes : ℕ
 input_bytes = 4294967296
 
 -- a block with its reply and its receipt
-pub record Turn : Type 0 where
+pub record Exchange : Type 0 where
   pub block : Block
   pub reply : Reply
   pub receipt : Receipt
 
 -- the reply fits the history at the receipt's place
-pub record IsTurn (limits : Limits) (h : History) (actor : ℕ) (t : Turn) : Type 0 where
+pub record IsExchange (limits : Limits) (h : History) (actor : ℕ) (t : Exchange) : Type 0 where
   pub fits : FitsBlock limits h (record { actor = actor; number = t.receipt.number }) t.block t.receipt.moment t.receipt.place t.receipt.own t.reply
   pub within : t.receipt.place ≤ length h
   pub kind : t.receipt.kind ≡ kind_of t.reply
 
--- the turn isn't before the place q, and a merge that it tells is of all that were picked at a place from q on, and a fold up to the cursor there or a later one
-pub record ComesAfter (h : History) (q : ℕ) (t : Turn) : Type 0 where
+-- the exchange isn't before the place q, and a merge that it tells is of all that were picked at a place from q on, and a fold up to the cursor there or a later one
+pub record ComesAfter (h : History) (q : ℕ) (t : Exchange) : Type 0 where
   pub since : q ≤ t.receipt.place
   pub names_all : NamesAll (take t.receipt.place h) q t.reply
 
--- turns after n others, the last of which stood at the place q: they are numbered on, the places never fall, and no merge
+-- exchanges after n others, the last of which stood at the place q: they are numbered on, the places never fall, and no merge
 -- or fold leaves out what stood at the place before
-abbrev pub AreTurns : Limits → History → ℕ → ℕ → ℕ → List Turn → Type 0
-AreTurns limits h actor n q [] = Unit {0}
-AreTurns limits h actor n q (t ∷ ts) = (t.receipt.number ≡ n + 1) × ComesAfter h q t × IsTurn limits h actor t × AreTurns limits h actor (n + 1) t.receipt.place ts
+abbrev pub AreExchanges : Limits → History → ℕ → ℕ → ℕ → List Exchange → Type 0
+AreExchanges limits h actor n q [] = Unit {0}
+AreExchanges limits h actor n q (t ∷ ts) = (t.receipt.number ≡ n + 1) × ComesAfter h q t × IsExchange limits h actor t × AreExchanges limits h actor (n + 1) t.receipt.place ts
 
-abbrev pub blocks_of : List Turn → List Block
-blocks_of = map (λ (t : Turn). t.block)
+abbrev pub blocks_of : List Exchange → List Block
+blocks_of = map (λ (t : Exchange). t.block)
 
-abbrev pub moments_of : List Turn → List ℤ
-moments_of = map (λ (t : Turn). t.receipt.moment)
+abbrev pub moments_of : List Exchange → List ℤ
+moments_of = map (λ (t : Exchange). t.receipt.moment)
 
-abbrev pub texts_of : List Turn → List ℕ
-texts_of = flat_map (λ (t : Turn). text_of t.reply)
+abbrev pub texts_of : List Exchange → List ℕ
+texts_of = flat_map (λ (t : Exchange). text_of t.reply)
 
 -- the blocks that were answered are those of the bytes that were read, by how the session ended. One that stands open
 -- counts only where the end was read
@@ -82,28 +82,28 @@ abbrev pub AreAllAtEnd : Bool → Bool → List ℕ → List Block → Type 0
 AreAllAtEnd ended_before ended_now bytes blocks = ended_before ≡ false → ended_now ≡ true → blocks ≡ script_blocks command_bytes bytes true
 
 -- all replies were written, or all but the last and a beginning of it that isn't the whole
-abbrev pub AreWritten : End → List ℕ → List ℕ → List Turn → Type 0
-AreWritten Finished before now turns = Adds before now (texts_of turns)
-AreWritten Short before now turns = Adds before now (texts_of turns)
-AreWritten SourceFault before now turns = Adds before now (texts_of turns)
-AreWritten SinkFault before now turns =
-    (front : List Turn) × (last : Turn) × (n : ℕ) × (turns ≡ front ++ last ∷ [])
+abbrev pub AreWritten : End → List ℕ → List ℕ → List Exchange → Type 0
+AreWritten Finished before now exchanges = Adds before now (texts_of exchanges)
+AreWritten Short before now exchanges = Adds before now (texts_of exchanges)
+AreWritten SourceFault before now exchanges = Adds before now (texts_of exchanges)
+AreWritten SinkFault before now exchanges =
+    (front : List Exchange) × (last : Exchange) × (n : ℕ) × (exchanges ≡ front ++ last ∷ [])
     × (n < length (text_of last.reply))
     × Adds before now (texts_of front ++ take n (text_of last.reply))
-AreWritten InputLimit before now turns = Adds before now (texts_of turns)
+AreWritten InputLimit before now exchanges = Adds before now (texts_of exchanges)
 
--- a session's turns explain what its source gave, what its sink took, what its clock read, its receipts and how it ended
+-- a session's exchanges explain what its source gave, what its sink took, what its clock read, its receipts and how it ended
 pub record Ends (limits : Limits) (h : History) (actor : ℕ) (before now : Contents) (receipts : List Receipt) (end : End) : Type 0 where
-  pub turns : List Turn
+  pub exchanges : List Exchange
   pub bytes : List ℕ
-  pub of_turns : receipts ≡ map (λ (t : Turn). t.receipt) turns
-  pub each : AreTurns limits h actor 0 0 turns
+  pub of_exchanges : receipts ≡ map (λ (t : Exchange). t.receipt) exchanges
+  pub each : AreExchanges limits h actor 0 0 exchanges
   pub gave : Gives before.source now.source bytes
-  pub blocks : AreBlocks end bytes now.source.ended (blocks_of turns)
+  pub blocks : AreBlocks end bytes now.source.ended (blocks_of exchanges)
   pub at_end : IsLeft end before.source now.source
-  pub all_at_end : AreAllAtEnd before.source.ended now.source.ended bytes (blocks_of turns)
-  pub moments : Adds before.readings now.readings (moments_of turns)
-  pub written : AreWritten end before.accepted now.accepted turns
+  pub all_at_end : AreAllAtEnd before.source.ended now.source.ended bytes (blocks_of exchanges)
+  pub moments : Adds before.readings now.readings (moments_of exchanges)
+  pub written : AreWritten end before.accepted now.accepted exchanges
 
 -- the session of an actor, whose objects told this at first, is explained by a history
 pub record Explained (limits : Limits) (h : History) (actor : ℕ) (before : Contents) (s : SessionView) : Type 0 where

@@ -5,7 +5,7 @@ ghost use Rattle.kq_script.specs.Reading.{IsReading, GoesOn as MayGoOn};
 ghost use Rattle.kq_session.specs.Complete.{Completes};
 ghost use Rattle.kq_session.specs.Objects.{objects};
 ghost use Rattle.kq_session.specs.Session.{Explained, GoesOn, command_bytes, input_bytes};
-ghost use Rattle.kq_session.specs.Turns.{Comes, Replies, Rises, TakesTurn, state_of};
+ghost use Rattle.kq_session.specs.Exchanges.{Comes, Replies, Rises, TakesExchange, state_of};
 
 use crate::answer::answer;
 use crate::end::End;
@@ -96,7 +96,7 @@ fn serve_script<R: Wait, S: Source, K: Sink, C: Clock, G: Gate>(
 {
     for number in 1..u64::MAX {
         let by = By { actor, number };
-        if let Some(end) = turn(service, by, reader, session) {
+        if let Some(end) = exchange(service, by, reader, session) {
             return end;
         }
     }
@@ -104,7 +104,7 @@ fn serve_script<R: Wait, S: Source, K: Sink, C: Clock, G: Gate>(
 }
 
 // One block, or the end.
-fn turn<R: Wait, S: Source, K: Sink, C: Clock, G: Gate>(
+fn exchange<R: Wait, S: Source, K: Sink, C: Clock, G: Gate>(
     service: &Service<R, G>,
     by: By,
     reader: &mut ScriptReader,
@@ -112,7 +112,7 @@ fn turn<R: Wait, S: Source, K: Sink, C: Clock, G: Gate>(
 ) -> Option<End>
     requires of { session.old.pass.of ≡ service.now.shared.now.turn }
     requires goes_on { MayGoOn reader.old }
-    ensures turn { TakesTurn S.told K.accepted C.readings service.now.shared.now.limits by reader.old reader.new session.old session.new result }
+    ensures exchange { TakesExchange S.told K.accepted C.readings service.now.shared.now.limits by reader.old reader.new session.old session.new result }
     ensures source { Rises (S.faults session.old.parts.source) (S.faults session.new.parts.source) (result ≡ Some End.SourceFault) }
     ensures sink { Rises (K.faults session.old.parts.sink) (K.faults session.new.parts.sink) (result ≡ Some End.SinkFault) }
 {

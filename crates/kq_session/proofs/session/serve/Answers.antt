@@ -1,10 +1,10 @@
 use Rattle.std.proofs.Common.{◌≡◌, ap, refl, ◌∙◌, sym}
 use Rattle.kq_session.specs.declared.end.End.TheVariants as ends
 use Rattle.kq_session.specs.Ends.{status_of}
-use Rattle.kq_session.specs.Turns.{Rises}
+use Rattle.kq_session.specs.Exchanges.{Rises}
 use Rattle.kq_session.proofs.Completing.{Completes-explained, Rises-source, Rises-sink}
 use Rattle.kq_session.proofs.Serving.{Ends-none}
-use Rattle.kq_session.proofs.Turning.{Rises-none}
+use Rattle.kq_session.proofs.Exchanging.{Rises-none}
 use Rattle.kq_session.proofs.session.serve.Goals as goal
 use Rattle.kq_session.proofs.session.serve.Goals.{in-Ok, in-Err}
 

@@ -1,4 +1,4 @@
--- What the reader gives makes a turn.
+-- What the reader gives makes a exchange.
 use Rattle.std.proofs.Common.{◌≡◌, ◌≢◌, ℕ, Bool, true, false, List, [], ◌∷◌, ◌++◌, Some, Result, Ok, refl, ap, sym, ◌∙◌, subst, arith, append-nil}
 use Rattle.kq_world.specs.Outside.{SourceView, Gives, Rose}
 use Rattle.kq_world.proofs.Faults.{Rose-later, same-later}
@@ -18,7 +18,7 @@ use Rattle.kq_session.specs.declared.end.End.{End}
 use Rattle.kq_session.specs.declared.end.End.TheVariants as ends
 use Rattle.kq_session.specs.declared.receipt.Receipt.{Receipt}
 use Rattle.kq_session.specs.Session.{AreAllAtEnd, AreBlocks, IsLeft, command_bytes, input_bytes}
-use Rattle.kq_session.specs.Turns.{State, Progress, IsAfter, Idle, Reads, Replies, Rises, Went}
+use Rattle.kq_session.specs.Exchanges.{State, Progress, IsAfter, Idle, Reads, Replies, Rises, Went}
 
 -- the session, whose source tells this now, and which keeps these receipts
 abbrev pub read_on : State → SourceView → List Receipt → State
@@ -86,13 +86,13 @@ Went-reply limits by p s new reader now receipts item result not reads same is_n
       block = read.0;
       reads = subst (λ (v : SourceView). Reads p s.contents.source v reader read.0) (sym is_now) read.2;
       replied = record {
-        turn = done.turn;
+        exchange = done.exchange;
         same_block = done.same_block;
         answered = record {
           step = done.answered.step;
           number = done.answered.number;
           kind = done.answered.kind;
-          receipt = subst (λ (l : List Receipt). new.receipts ≡ l ++ done.turn.receipt ∷ []) same done.answered.receipt;
+          receipt = subst (λ (l : List Receipt). new.receipts ≡ l ++ done.exchange.receipt ∷ []) same done.answered.receipt;
           moment = done.answered.moment;
         };
         written = done.written;
@@ -106,7 +106,7 @@ Rises-none before now fault same never = record { never_falls = same-later befor
 pub Rises-fault : (before now : ℕ) (fault : Type 0) → Rose before now → fault → Rises before now fault
 Rises-fault before now fault rose is = record { never_falls = Rose-later before now rose; rose = λ f. rose; stays = λ other. absurd (other is) }
 
--- the turn of the end, after others that didn't fail
+-- the exchange of the end, after others that didn't fail
 pub Rises-end : (before between now : ℕ) (end fault : End) → between ≡ before → Rises between now (Some end ≡ Some fault) → Rises before now (end ≡ fault)
 Rises-end before between now end fault same rises = record {
   never_falls = omega (arith, same, rises.never_falls);

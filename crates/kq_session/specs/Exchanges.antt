@@ -1,4 +1,4 @@
--- What one turn of a session does.
+-- What one exchange of a session does.
 use Rattle.std.specs.Prelude.{◌≡◌, ◌≤◌, ℕ, ℤ, List, [], ◌∷◌, ◌++◌, Option, Some, None, Result, Ok, Err}
 use Rattle.kq_world.specs.Told.{Adds}
 use Rattle.kq_world.specs.Outside.{SourceView, Contents, Gives, PutsAll, Rose, contents}
@@ -18,7 +18,7 @@ use Rattle.kq_session.specs.declared.end.End.TheVariants.{Finished, Short, Sourc
 use Rattle.kq_session.specs.declared.receipt.Receipt.{Receipt}
 use Rattle.kq_session.specs.declared.session.Session.{Session}
 use Rattle.kq_session.specs.Blocks.{Steps}
-use Rattle.kq_session.specs.Session.{Turn, Ends, GoesOn, AreBlocks, AreAllAtEnd, IsLeft, command_bytes, input_bytes}
+use Rattle.kq_session.specs.Session.{Exchange, Ends, GoesOn, AreBlocks, AreAllAtEnd, IsLeft, command_bytes, input_bytes}
 
 -- a session at one moment: its pass, what its objects tell, and its receipts
 pub record State : Type 0 where
@@ -40,7 +40,7 @@ abbrev pub IsAfter : ScriptReader → SourceView → Progress → Type 0
 IsAfter reader now p = IsReading command_bytes input_bytes reader p.first now p.taken p.given
 
 -- a block was answered, and its receipt kept
-pub record Answered (limits : Limits) (by : By) (old new : State) (t : Turn) : Type 0 where
+pub record Answered (limits : Limits) (by : By) (old new : State) (t : Exchange) : Type 0 where
   pub step : Steps limits old.pass new.pass by t.block t.receipt.moment (record { place = t.receipt.place; own = t.receipt.own; reply = t.reply })
   pub number : t.receipt.number ≡ by.number
   pub kind : t.receipt.kind ≡ kind_of t.reply
@@ -49,10 +49,10 @@ pub record Answered (limits : Limits) (by : By) (old new : State) (t : Turn) : T
 
 -- this block was answered, and its reply written as far as the sink took it
 pub record Replied {E : Type 0} (limits : Limits) (by : By) (old new : State) (block : Block) (result : Result (Unit {0}) E) : Type 0 where
-  pub turn : Turn
-  pub same_block : turn.block ≡ block
-  pub answered : Answered limits by old new turn
-  pub written : PutsAll old.contents.accepted new.contents.accepted result (text_of turn.reply)
+  pub exchange : Exchange
+  pub same_block : exchange.block ≡ block
+  pub answered : Answered limits by old new exchange
+  pub written : PutsAll old.contents.accepted new.contents.accepted result (text_of exchange.reply)
 
 -- so was the block of an item
 abbrev pub Replies : {E : Type 0} → Limits → By → Item → State → State → Result (Unit {0}) E → Type 0
@@ -83,19 +83,19 @@ pub record Went {E : Type 0} (limits : Limits) (by : By) (p : Progress) (old new
   pub replied : Replied limits by old new block result
 
 -- by its end, where it has one
-abbrev pub TurnBy : Limits → By → Progress → State → State → ScriptReader → Option End → Type 0
-TurnBy limits by p old new reader None = Went {E = Failed} limits by p old new reader (Ok tt)
-TurnBy limits by p old new reader (Some SinkFault) = (e : Failed) × Went limits by p old new reader (Err e)
-TurnBy limits by p old new reader (Some Finished) = Idle p old new Finished
-TurnBy limits by p old new reader (Some Short) = Idle p old new Short
-TurnBy limits by p old new reader (Some SourceFault) = Idle p old new SourceFault
-TurnBy limits by p old new reader (Some InputLimit) = Idle p old new InputLimit
+abbrev pub ExchangeBy : Limits → By → Progress → State → State → ScriptReader → Option End → Type 0
+ExchangeBy limits by p old new reader None = Went {E = Failed} limits by p old new reader (Ok tt)
+ExchangeBy limits by p old new reader (Some SinkFault) = (e : Failed) × Went limits by p old new reader (Err e)
+ExchangeBy limits by p old new reader (Some Finished) = Idle p old new Finished
+ExchangeBy limits by p old new reader (Some Short) = Idle p old new Short
+ExchangeBy limits by p old new reader (Some SourceFault) = Idle p old new SourceFault
+ExchangeBy limits by p old new reader (Some InputLimit) = Idle p old new InputLimit
 
--- one turn of a session under way, whatever was read before it
-abbrev pub TakesTurn : {S K C : Type 0} → (S → SourceView) → (K → List ℕ) → (C → List ℤ) → Limits → By → ScriptReader → ScriptReader → Session S K C → Session S K C → Option End → Type 0
-TakesTurn told accepted readings limits by was reader old new end =
+-- one exchange of a session under way, whatever was read before it
+abbrev pub TakesExchange : {S K C : Type 0} → (S → SourceView) → (K → List ℕ) → (C → List ℤ) → Limits → By → ScriptReader → ScriptReader → Session S K C → Session S K C → Option End → Type 0
+TakesExchange told accepted readings limits by was reader old new end =
     let at = state_of told accepted readings in
-    (p : Progress) → IsAfter was (at old).contents.source p → TurnBy limits by p (at old) (at new) reader end
+    (p : Progress) → IsAfter was (at old).contents.source p → ExchangeBy limits by p (at old) (at new) reader end
 
 -- what a session comes to from its start
 pub record Comes (limits : Limits) (actor : ℕ) (old new : State) (end : End) : Type 0 where
