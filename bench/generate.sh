@@ -5,7 +5,7 @@
 # the output, of the runs where they came apart. The program has to be built (.ci/run does it).
 set -eu
 top=$(cd "$(dirname "$0")/.." && pwd)
-python3 - "${KQ_PROGRAM:-$top/crates/kq_console/out/kq_console}" "${1:-1000000}" <<'PY'
+python3 - "$top/crates/kq_console/out/kq_console" "${1:-1000000}" <<'PY'
 import os, statistics, subprocess, sys, time
 
 program, rows = sys.argv[1], int(sys.argv[2])

@@ -4,7 +4,7 @@
 # batches are answered, and half a second later; those of fewer than 4096 rows are what workers merge. The program has to be built (.ci/run does it).
 set -eu
 top=$(cd "$(dirname "$0")/.." && pwd)
-python3 - "${KQ_PROGRAM:-$top/crates/kq_console/out/kq_console}" "${1:-200}" <<'PY'
+python3 - "$top/crates/kq_console/out/kq_console" "${1:-200}" <<'PY'
 import os, subprocess, sys, tempfile, time
 
 program = os.path.realpath(sys.argv[1])
