@@ -10,4 +10,5 @@ run_opened-requires-clause-few g c κs within = let same = AreOpened-length _ _ 
 pub returns-in-Ok-clause-run : goal.returns-in-Ok-clause-run
 returns-in-Ok-clause-run g c =
     let of_feed = g.W.World.feed_contents c.args.world.now in
-    subst (λ (first : Contents). Runs c.args.names.items first of_feed c.run_opened.result) c.in-Ok.ensures.first (c.run_opened.ensures.run of_feed c.args.names.items c.in-Ok.ensures.opened)
+    let options = c.args.options in
+    subst (λ (first : Contents). Runs options.generate options.feeds.items first of_feed c.run_opened.result) c.in-Ok.ensures.first (c.run_opened.ensures.run of_feed options.feeds.items c.in-Ok.ensures.opened)
