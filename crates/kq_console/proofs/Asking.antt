@@ -87,13 +87,13 @@ or_none (Some w) few = few
 
 all_up_to : (w n : Option (Option ℕ)) (f : Option (List Text)) (a : Asked) → ((k : Option ℕ) → w ≡ Some k → IsUpTo 8 k) → ((k : Option ℕ) → n ≡ Some k → IsUpTo 1000000 k) → all_asked w n f ≡ Some a → AreUpTo a
 unfolding AreUpTo
-all_up_to (Some w) (Some n) (Some fs) a workers rows e =
+all_up_to (Some w) (Some n) (Some fs) a few rows e =
     let all : Asked = record { workers = unwrap_or w 0; generate = n; feeds = fs } in
     let same : all ≡ a = cc in
-    subst AreUpTo same (or_none w (workers w refl), rows n refl)
-all_up_to (Some w) (Some n) None a workers rows e = absurd cc
-all_up_to (Some w) None f a workers rows e = absurd cc
-all_up_to None n f a workers rows e = absurd cc
+    subst AreUpTo same (or_none w (few w refl), rows n refl)
+all_up_to (Some w) (Some n) None a few rows e = absurd cc
+all_up_to (Some w) None f a few rows e = absurd cc
+all_up_to None n f a few rows e = absurd cc
 
 up_to_said : (said : Option (List Said)) (a : Asked) → option_and_then asked_by said ≡ Some a → AreUpTo a
 up_to_said (Some said) a e =

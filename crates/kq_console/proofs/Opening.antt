@@ -1,8 +1,8 @@
 -- The feeds are opened one after another.
-use Rattle.std.proofs.Common.{◌≡◌, ◌≢◌, ℕ, ◌+◌, ◌&&◌, ◌||◌, not, Bool, true, false, List, [], ◌∷◌, ◌++◌, length, take, Option, Some, None, IsSome, Err, refl, ap, sym, ◌∙◌, subst, arith, inl, inr, append_assoc, append-nil, length-append}
+use Rattle.std.proofs.Common.{◌≡◌, ◌≢◌, ℕ, ◌+◌, ◌&&◌, ◌||◌, not, Bool, true, false, List, [], ◌∷◌, ◌++◌, length, take, None, Err, refl, ap, sym, ◌∙◌, subst, arith, inl, inr, append_assoc, append-nil, length-append}
 use Rattle.std.specs.List.{list_any}
 use Rattle.std.specs.Str.{bytes_eq}
-use Rattle.std.proofs.Math.Seq.{take-append_seam}
+use Rattle.std.proofs.Math.Seq.{take-append_seam, take-length}
 use Rattle.std.proofs.lemmas.List.{length_push}
 use Rattle.std.proofs.lemmas.Slice.Eq.{bytes_eq-Decides}
 use Rattle.kq_world.specs.Outside.{Contents, AsksFor, OpensByCause, Rose}
@@ -144,17 +144,13 @@ nothing_left (x ∷ xs) e = absurd (omega (arith, e))
 pub AreOpened-all : (told : List ℕ → Contents) (done names : List (List ℕ)) (os : List OpenedView) → done ≡ names → AreOpened told done os → AreOpened told names os
 AreOpened-all told done names os all each = subst (λ (l : List (List ℕ)). AreOpened told l os) all each
 
--- no feed was asked for
-pub OpensFeeds-none : (feeds before : List (List ℕ)) (count : ℕ) (run : RunView) → run.catalog ≡ None → ¬ (run.status ≡ 5) → OpensFeeds feeds before before count count run
-OpensFeeds-none feeds before count run none opened = record {
-  asked = 0;
+-- all feeds were opened
+pub OpensFeeds-all : (feeds before now : List (List ℕ)) (count count_now : ℕ) (run : RunView) → now ≡ before ++ feeds → count_now ≡ count → ¬ (run.status ≡ 5) → OpensFeeds feeds before now count count_now run
+OpensFeeds-all feeds before now count count_now run in_order counts opened = record {
+  asked = length feeds;
   within = omega arith;
-  in_order = sym (append-nil before);
-  all = λ some. absurd (not_some run.catalog none some);
+  in_order = in_order ∙ ap (λ (l : List (List ℕ)). before ++ l) (sym (take-length feeds));
+  all = λ some. refl;
   failed = λ e. absurd (opened e);
-  stays = λ other. refl;
+  stays = λ other. counts;
 }
-  where
-    not_some : {C : Type 0} (catalog : Option C) → catalog ≡ None → IsSome catalog → ⊥
-    not_some None none some = cc
-    not_some (Some c) none some = cc

@@ -1,5 +1,5 @@
 -- A session by its own or a generated script.
-use Rattle.std.proofs.Common.{◌≡◌, ◌+◌, ℕ, Bool, false, List, [], Option, Some, None, refl, sym, subst, arith, inl, inr, add-zero}
+use Rattle.std.proofs.Common.{◌≡◌, ℕ, false, List, [], Option, Some, None, refl, sym, subst, arith, inl, inr, add-zero}
 use Rattle.std.proofs.lemmas.List.Sums.{sum_by-cons}
 use Rattle.kq_turn.proofs.Beginnings.{IsPrefix-refl}
 use Rattle.kq_world.specs.Outside.{Contents, SourceView}
