@@ -1,4 +1,4 @@
--- The feeds and the workers that words ask for.
+-- The feeds, the workers and the rows that words ask for.
 use Rattle.std.proofs.Common.{◌≡◌, ◌≤◌, ◌&&◌, Bool, true, false, ℕ, cond, List, length, nat_le, ◌∷◌, [], Option, Some, None, option_and_then, option_map, unwrap_or, refl, subst, arith}
 use Rattle.std.proofs.lemmas.Bool.Decides.{nat_tests}
 use Rattle.std.specs.Str.Parse.{digits_value}
@@ -43,47 +43,67 @@ of_said None a e = absurd cc
 pub asked-feeds : (words : List Text) (a : Asked) → asked words ≡ Some a → AreFeeds a.feeds
 asked-feeds words a e = of_said (read None words) a e
 
--- ---- the workers
+-- ---- the numbers
 
-few_if : (b : Bool) (n w : ℕ) → (b ≡ true → n ≤ 8) → cond b (Some n) None ≡ Some w → w ≤ 8
-few_if true n w few e = let same : n ≡ w = cc in subst (λ (k : ℕ). k ≤ 8) same (few refl)
-few_if false n w few e = absurd cc
+-- a number, where one is given, isn't above this
+abbrev pub IsUpTo : ℕ → Option ℕ → Type 0
+IsUpTo high None = Unit {0}
+IsUpTo high (Some n) = n ≤ high
 
-number_few : (text : Text) (w : ℕ) → number_in 0 8 text ≡ Some w → w ≤ 8
-number_few text w e = few_if (is_number text && (nat_le 0 n && nat_le n 8)) n w few e
+some_if : (b : Bool) (high n w : ℕ) → (b ≡ true → n ≤ high) → cond b (Some n) None ≡ Some w → w ≤ high
+some_if true high n w few e = let same : n ≡ w = cc in subst (λ (k : ℕ). k ≤ high) same (few refl)
+some_if false high n w few e = absurd cc
+
+number_up_to : (low high : ℕ) (text : Text) (w : ℕ) → number_in low high text ≡ Some w → w ≤ high
+number_up_to low high text w e = some_if (is_number text && (nat_le low n && nat_le n high)) high n w few e
   where
     n : ℕ
     n = digits_value 10 text
 
-    few : is_number text && (nat_le 0 n && nat_le n 8) ≡ true → n ≤ 8
+    few : is_number text && (nat_le low n && nat_le n high) ≡ true → n ≤ high
     few t =
-        let both = both_true (is_number text) (nat_le 0 n && nat_le n 8) t in
-        let last = both_true (nat_le 0 n) (nat_le n 8) both.1 in
+        let both = both_true (is_number text) (nat_le low n && nat_le n high) t in
+        let last = both_true (nat_le low n) (nat_le n high) both.1 in
         grind (arith, nat_tests, last.1)
 
-few_of_one : (n : Option ℕ) (w : Option ℕ) → ((k : ℕ) → n ≡ Some k → k ≤ 8) → option_map (λ (k : ℕ). Some k) n ≡ Some w → unwrap_or w 0 ≤ 8
-few_of_one None w few e = absurd cc
-few_of_one (Some n) None few e = absurd cc
-few_of_one (Some n) (Some w) few e = let same : n ≡ w = cc in subst (λ (k : ℕ). k ≤ 8) same (few n refl)
+of_one : (high : ℕ) (n : Option ℕ) (w : Option ℕ) → ((k : ℕ) → n ≡ Some k → k ≤ high) → option_map (λ (k : ℕ). Some k) n ≡ Some w → IsUpTo high w
+of_one high None w few e = absurd cc
+of_one high (Some n) None few e = tt
+of_one high (Some n) (Some w) few e = let same : n ≡ w = cc in subst (λ (k : ℕ). k ≤ high) same (few n refl)
 
-given_few : (texts : List Text) (w : Option ℕ) → number_given 0 8 texts ≡ Some w → unwrap_or w 0 ≤ 8
-given_few [] None e = omega arith
-given_few [] (Some w) e = absurd cc
-given_few (text ∷ []) w e = few_of_one (number_in 0 8 text) w (number_few text) e
-given_few (text ∷ second ∷ more) w e = absurd cc
+given_up_to : (low high : ℕ) (texts : List Text) (w : Option ℕ) → number_given low high texts ≡ Some w → IsUpTo high w
+given_up_to low high [] None e = tt
+given_up_to low high [] (Some w) e = absurd cc
+given_up_to low high (text ∷ []) w e = of_one high (number_in low high text) w (number_up_to low high text) e
+given_up_to low high (text ∷ second ∷ more) w e = absurd cc
 
-all_few : (w n : Option (Option ℕ)) (f : Option (List Text)) (a : Asked) → ((k : Option ℕ) → w ≡ Some k → unwrap_or k 0 ≤ 8) → all_asked w n f ≡ Some a → a.workers ≤ 8
-all_few (Some w) (Some n) (Some fs) a few e =
+-- both numbers of what was asked
+AreUpTo : Asked → Type 0
+AreUpTo a = (a.workers ≤ 8) × IsUpTo 1000000 a.generate
+
+or_none : (w : Option ℕ) → IsUpTo 8 w → unwrap_or w 0 ≤ 8
+or_none None few = omega arith
+or_none (Some w) few = few
+
+all_up_to : (w n : Option (Option ℕ)) (f : Option (List Text)) (a : Asked) → ((k : Option ℕ) → w ≡ Some k → IsUpTo 8 k) → ((k : Option ℕ) → n ≡ Some k → IsUpTo 1000000 k) → all_asked w n f ≡ Some a → AreUpTo a
+unfolding AreUpTo
+all_up_to (Some w) (Some n) (Some fs) a few rows e =
     let all : Asked = record { workers = unwrap_or w 0; generate = n; feeds = fs } in
     let same : all ≡ a = cc in
-    subst (λ (x : Asked). x.workers ≤ 8) same (few w refl)
-all_few (Some w) (Some n) None a few e = absurd cc
-all_few (Some w) None f a few e = absurd cc
-all_few None n f a few e = absurd cc
+    subst AreUpTo same (or_none w (few w refl), rows n refl)
+all_up_to (Some w) (Some n) None a few rows e = absurd cc
+all_up_to (Some w) None f a few rows e = absurd cc
+all_up_to None n f a few rows e = absurd cc
 
-few_of_said : (said : Option (List Said)) (a : Asked) → option_and_then asked_by said ≡ Some a → a.workers ≤ 8
-few_of_said (Some said) a e = all_few (number_given 0 8 (texts_of workers said)) (number_given 1 1000000 (texts_of generate said)) _ a (given_few (texts_of workers said)) e
-few_of_said None a e = absurd cc
+up_to_said : (said : Option (List Said)) (a : Asked) → option_and_then asked_by said ≡ Some a → AreUpTo a
+up_to_said (Some said) a e =
+    all_up_to (number_given 0 8 (texts_of workers said)) (number_given 1 1000000 (texts_of generate said)) _ a (given_up_to 0 8 (texts_of workers said)) (given_up_to 1 1000000 (texts_of generate said)) e
+up_to_said None a e = absurd cc
 
 pub asked-workers : (words : List Text) (a : Asked) → asked words ≡ Some a → a.workers ≤ 8
-asked-workers words a e = few_of_said (read None words) a e
+unfolding AreUpTo
+asked-workers words a e = (up_to_said (read None words) a e).0
+
+pub asked-rows : (words : List Text) (a : Asked) → asked words ≡ Some a → IsUpTo 1000000 a.generate
+unfolding AreUpTo
+asked-rows words a e = (up_to_said (read None words) a e).1

@@ -1,8 +1,8 @@
 -- The feeds are opened one after another.
-use Rattle.std.proofs.Common.{◌≡◌, ◌≢◌, ℕ, ◌+◌, ◌&&◌, ◌||◌, not, Bool, true, false, List, [], ◌∷◌, ◌++◌, length, take, Option, Some, None, IsSome, Err, refl, ap, sym, ◌∙◌, subst, arith, inl, inr, append_assoc, append-nil, length-append}
+use Rattle.std.proofs.Common.{◌≡◌, ◌≢◌, ℕ, ◌+◌, ◌&&◌, ◌||◌, not, Bool, true, false, List, [], ◌∷◌, ◌++◌, length, take, None, Err, refl, ap, sym, ◌∙◌, subst, arith, inl, inr, append_assoc, append-nil, length-append}
 use Rattle.std.specs.List.{list_any}
 use Rattle.std.specs.Str.{bytes_eq}
-use Rattle.std.proofs.Math.Seq.{take-append_seam}
+use Rattle.std.proofs.Math.Seq.{take-append_seam, take-length}
 use Rattle.std.proofs.lemmas.List.{length_push}
 use Rattle.std.proofs.lemmas.Slice.Eq.{bytes_eq-Decides}
 use Rattle.kq_world.specs.Outside.{Contents, AsksFor, OpensByCause, Rose}
@@ -79,13 +79,13 @@ Opening-none told first asked count names rest opened all none = subst (λ (l : 
 
 Opening-push : (told now new : List ℕ → Contents) (first first_now first_new : Contents) (asked asked_now asked_new : List (List ℕ)) (count count_now count_new : ℕ) (names done rest : List (List ℕ)) (opened : List OpenedView) (name : List ℕ) (o : OpenedView)
     → are_distinct names ≡ true → Opening told now first first_now asked asked_now count count_now names done (name ∷ rest) opened
-    → o.name ≡ name → o.objects.contents ≡ now name → o.objects.source_faults ≡ 0 → o.objects.sink_faults ≡ 0 → ((other : List ℕ) → other ≢ name → new other ≡ now other) → first_new ≡ first_now → asked_new ≡ asked_now ++ name ∷ [] → count_new ≡ count_now
+    → o.name ≡ name → o.generate ≡ None → o.objects.contents ≡ now name → o.objects.source_faults ≡ 0 → o.objects.sink_faults ≡ 0 → ((other : List ℕ) → other ≢ name → new other ≡ now other) → first_new ≡ first_now → asked_new ≡ asked_now ++ name ∷ [] → count_new ≡ count_now
     → Opening told new first first_new asked asked_new count count_new names (done ++ name ∷ []) rest (opened ++ o ∷ [])
-Opening-push told now new first first_now first_new asked asked_now asked_new count count_now count_new names done rest opened name o distinct so_far named contents source sink others first_told in_order counts =
+Opening-push told now new first first_now first_new asked asked_now asked_new count count_now count_new names done rest opened name o distinct so_far named own contents source sink others first_told in_order counts =
     let alone = differs name done rest (ap are_distinct so_far.all ∙ distinct) in
     record {
       all = append_assoc done (name ∷ []) rest ∙ so_far.all;
-      each = AreOpened-push told done opened name o so_far.each (record { named = named; contents = contents ∙ so_far.later name alone; source = source; sink = sink });
+      each = AreOpened-push told done opened name o so_far.each (record { named = named; own = own; contents = contents ∙ so_far.later name alone; source = source; sink = sink });
       later = λ other differ.
           let split = differs_push other name done differ in
           others other split.1 ∙ so_far.later other split.0;
@@ -98,14 +98,14 @@ Opening-push told now new first first_now first_new asked asked_now asked_new co
 pub Opening-next : (told now new : List ℕ → Contents) (first first_now first_new : Contents) (asked asked_now asked_new : List (List ℕ)) (count count_now count_new : ℕ) (names done before rest : List (List ℕ)) (opened more : List OpenedView) (name text : List ℕ) (o : OpenedView)
     → are_distinct names ≡ true → before ≡ name ∷ rest → more ≡ opened ++ o ∷ [] → text ≡ name → Opening told now first first_now asked asked_now count count_now names done before opened
     → o.objects.contents ≡ now text → o.objects.source_faults ≡ 0 → o.objects.sink_faults ≡ 0 → ((other : List ℕ) → other ≢ text → new other ≡ now other) → first_new ≡ first_now → asked_new ≡ asked_now ++ text ∷ [] → count_new ≡ count_now
-    → o.name ≡ name → Opening told new first first_new asked asked_new count count_new names (done ++ name ∷ []) rest more
-Opening-next told now new first first_now first_new asked asked_now asked_new count count_now count_new names done before rest opened more name text o distinct is_before is_more is_text so_far contents source sink others first_told in_order counts named =
+    → o.name ≡ name → o.generate ≡ None → Opening told new first first_new asked asked_new count count_new names (done ++ name ∷ []) rest more
+Opening-next told now new first first_now first_new asked asked_now asked_new count count_now count_new names done before rest opened more name text o distinct is_before is_more is_text so_far contents source sink others first_told in_order counts named own =
     let were = subst (λ (l : List (List ℕ)). Opening told now first first_now asked asked_now count count_now names done l opened) is_before so_far in
     let told_here = contents ∙ ap now is_text in
     let others_here = subst (λ (t : List ℕ). (other : List ℕ) → other ≢ t → new other ≡ now other) is_text others in
     let asks = in_order ∙ ap (λ (t : List ℕ). asked_now ++ t ∷ []) is_text in
     subst (λ (l : List OpenedView). Opening told new first first_new asked asked_new count count_new names (done ++ name ∷ []) rest l) (sym is_more)
-    (Opening-push told now new first first_now first_new asked asked_now asked_new count count_now count_new names done rest opened name o distinct were named told_here source sink others_here first_told asks counts)
+    (Opening-push told now new first first_now first_new asked asked_now asked_new count count_now count_new names done rest opened name o distinct were named own told_here source sink others_here first_told asks counts)
 
 take_names : (names done rest : List (List ℕ)) (name : List ℕ) → done ++ name ∷ rest ≡ names → take (length done + 1) names ≡ done ++ name ∷ []
 take_names names done rest name all =
@@ -144,17 +144,13 @@ nothing_left (x ∷ xs) e = absurd (omega (arith, e))
 pub AreOpened-all : (told : List ℕ → Contents) (done names : List (List ℕ)) (os : List OpenedView) → done ≡ names → AreOpened told done os → AreOpened told names os
 AreOpened-all told done names os all each = subst (λ (l : List (List ℕ)). AreOpened told l os) all each
 
--- no feed was asked for
-pub OpensFeeds-none : (feeds before : List (List ℕ)) (count : ℕ) (run : RunView) → run.catalog ≡ None → ¬ (run.status ≡ 5) → OpensFeeds feeds before before count count run
-OpensFeeds-none feeds before count run none opened = record {
-  asked = 0;
+-- all feeds were opened
+pub OpensFeeds-all : (feeds before now : List (List ℕ)) (count count_now : ℕ) (run : RunView) → now ≡ before ++ feeds → count_now ≡ count → ¬ (run.status ≡ 5) → OpensFeeds feeds before now count count_now run
+OpensFeeds-all feeds before now count count_now run in_order counts opened = record {
+  asked = length feeds;
   within = omega arith;
-  in_order = sym (append-nil before);
-  all = λ some. absurd (not_some run.catalog none some);
+  in_order = in_order ∙ ap (λ (l : List (List ℕ)). before ++ l) (sym (take-length feeds));
+  all = λ some. refl;
   failed = λ e. absurd (opened e);
-  stays = λ other. refl;
+  stays = λ other. counts;
 }
-  where
-    not_some : {C : Type 0} (catalog : Option C) → catalog ≡ None → IsSome catalog → ⊥
-    not_some None none some = cc
-    not_some (Some c) none some = cc

@@ -7,15 +7,16 @@ use Rattle.kq_turn.proofs.Beginnings.{IsPrefix-trans}
 use Rattle.kq_model.specs.declared.limits.Limits.{Limits}
 use Rattle.kq_model.specs.History.{History}
 use Rattle.kq_engine.specs.Shared.{PassView}
-use Rattle.kq_session.specs.Session.{owns}
+use Rattle.kq_session.specs.Session.{Explained, owns}
 use Rattle.kq_session.proofs.Serving.{Explained-later}
 use Rattle.kq_console.specs.Together.{IsServed, AreServed, Passed, ServedOne, ServedAll, all_owns}
 use Rattle.kq_console.specs.Views.{OpenedView, EndedView}
+use Rattle.kq_console.proofs.Scripting.{ByScript-map}
 
 IsServed-later : (limits : Limits) (h new : History) (actor : ℕ) (o : OpenedView) (s : EndedView) → IsPrefix h new → IsServed limits h actor o s → IsServed limits new actor o s
 IsServed-later limits h new actor o s later served = record {
   named = served.named;
-  explained = Explained-later limits h new actor o.objects.contents s.session later served.explained;
+  explained = ByScript-map (Explained limits h actor) (Explained limits new actor) (λ before t. Explained-later limits h new actor before t later) o.generate o.objects s.session served.explained;
   source = served.source;
   sink = served.sink;
 }

@@ -1,5 +1,5 @@
 -- Sessions whose receipts tell as many commits as the history has tell just its commits.
-use Rattle.std.proofs.Common.{◌≡◌, ◌<◌, ◌≤◌, ◌⊎◌, ℕ, ◌+◌, Bool, true, false, cond, List, [], ◌∷◌, ◌++◌, length, filter, All, nat_eq, nat_le, refl, ap, sym, ◌∙◌, subst, arith, inl, inr, add-zero}
+use Rattle.std.proofs.Common.{◌≡◌, ◌<◌, ◌≤◌, ◌⊎◌, ℕ, ◌+◌, Bool, true, false, cond, List, [], ◌∷◌, ◌++◌, length, filter, Option, Some, None, All, nat_eq, nat_le, refl, ap, sym, ◌∙◌, subst, arith, inl, inr, add-zero}
 use Rattle.std.proofs.lemmas.List.Sums.{sum_by-cons}
 use Rattle.std.proofs.lemmas.List.Elements.{All-cons, All-nil}
 use Rattle.std.proofs.lemmas.Bool.Decides.{nat_tests}
@@ -10,8 +10,10 @@ use Rattle.kq_engine.specs.Shared.{made_by}
 use Rattle.kq_engine.proofs.Counting.{length-commits_at}
 use Rattle.kq_engine.proofs.Owning.{IsIn, IsRising, commits_at-rising}
 use Rattle.kq_session.specs.declared.receipt.Receipt.{Receipt}
-use Rattle.kq_session.specs.Session.{owns, own_commits}
+use Rattle.kq_session.specs.Objects.{Objects, SessionView}
+use Rattle.kq_session.specs.Session.{Explained, owns, own_commits}
 use Rattle.kq_session.proofs.Owned.{Follows, AreIn, AreOwned, Explained-owned}
+use Rattle.kq_console.specs.Scripts.{ByScript}
 use Rattle.kq_console.specs.Together.{AreServed, all_owns}
 use Rattle.kq_console.specs.Views.{OpenedView, EndedView}
 use Rattle.kq_console.specs.Whole.{Whole, AreOwn}
@@ -233,8 +235,13 @@ Whole-owned h ss owned all =
     zero_plus : (n : ℕ) → 0 + n ≡ n
     zero_plus n = omega arith
 
+-- by whatever script
+owned_by : (limits : Limits) (h : History) (n : ℕ) (generate : Option ℕ) (before : Objects) (s : SessionView) → ByScript (Explained limits h n) generate before s → AreOwned 0 0 (commits_at h) (own_commits n s.receipts)
+owned_by limits h n None before s explained = Explained-owned limits h n before.contents s explained
+owned_by limits h n (Some rows) before s scripted = Explained-owned limits h n _ _ scripted.holds
+
 pub AreServed-owned : (limits : Limits) (h : History) (n : ℕ) (os : List OpenedView) (ss : List EndedView) → AreServed limits h n os ss → AllOwned h n ss
 AreServed-owned limits h n [] [] served = tt
 AreServed-owned limits h n [] (s ∷ ss) served = absurd served
 AreServed-owned limits h n (o ∷ os) [] served = absurd served
-AreServed-owned limits h n (o ∷ os) (s ∷ ss) served = (Explained-owned limits h n o.objects.contents s.session served.0.explained, AreServed-owned limits h (n + 1) os ss served.1)
+AreServed-owned limits h n (o ∷ os) (s ∷ ss) served = (owned_by limits h n o.generate o.objects s.session served.0.explained, AreServed-owned limits h (n + 1) os ss served.1)

@@ -1,5 +1,6 @@
 pub mod Headline
 pub mod Opening
+pub mod Scripts
 pub mod Together
 pub mod Views
 pub mod Whole

@@ -1,13 +1,14 @@
 -- What opening the feeds does to the World.
-use Rattle.std.specs.Prelude.{◌≡◌, ◌≢◌, ◌<◌, ◌≤◌, ◌+◌, ℕ, List, [], ◌∷◌, ◌++◌, length, take, IsSome, Result, Ok, Err}
+use Rattle.std.specs.Prelude.{◌≡◌, ◌≢◌, ◌<◌, ◌≤◌, ◌+◌, ℕ, List, [], ◌∷◌, ◌++◌, length, take, None, IsSome, Result, Ok, Err}
 use Rattle.kq_world.specs.Outside.{Contents, Rose}
 use Rattle.kq_world.specs.declared.outside.OpenFault.{OpenFault}
 use Rattle.kq_world.specs.declared.outside.OpenFault.TheVariants.{Failed, Memory}
 use Rattle.kq_console.specs.Views.{OpenedView, RunView}
 
--- the feed of a name was opened: it has the name and what was told of it, and it has not failed yet
+-- the feed of a name was opened: it has the name and what was told of it, its script is its own, and it has not failed yet
 pub record IsOpened (told : List ℕ → Contents) (name : List ℕ) (o : OpenedView) : Type 0 where
   pub named : o.name ≡ name
+  pub own : o.generate ≡ None
   pub contents : o.objects.contents ≡ told name
   pub source : o.objects.source_faults ≡ 0
   pub sink : o.objects.sink_faults ≡ 0

@@ -1,19 +1,29 @@
 -- What sessions that are served together come to.
-use Rattle.std.specs.Prelude.{◌≡◌, ◌+◌, ℕ, List, [], ◌∷◌, sum_by}
+use Rattle.std.specs.Prelude.{◌≡◌, ◌+◌, ℕ, List, [], ◌∷◌, Some, sum_by}
 use mathlib.Core.List.{IsPrefix}
 use Rattle.kq_model.specs.declared.limits.Limits.{Limits}
 use Rattle.kq_model.specs.History.{History}
 use Rattle.kq_engine.specs.Shared.{PassView}
+use Rattle.kq_session.specs.Objects.{Objects}
 use Rattle.kq_session.specs.Session.{Explained, owns}
 use Rattle.kq_session.specs.Exchanges.{Rises}
+use Rattle.kq_console.specs.Scripts.{ByScript}
 use Rattle.kq_console.specs.Views.{OpenedView, EndedView}
 
--- the session of an actor was served: the history explains it, and its faults have their causes
+-- the session of an actor was served: the history explains it by its script, and its faults have their causes
 pub record IsServed (limits : Limits) (h : History) (actor : ℕ) (o : OpenedView) (s : EndedView) : Type 0 where
   pub named : s.name ≡ o.name
-  pub explained : Explained limits h actor o.objects.contents s.session
+  pub explained : ByScript (Explained limits h actor) o.generate o.objects s.session
   pub source : Rises o.objects.source_faults s.session.objects.source_faults (s.session.status ≡ 3)
   pub sink : Rises o.objects.sink_faults s.session.objects.sink_faults (s.session.status ≡ 4)
+
+-- a session that is to be served by the generated script of so many rows
+abbrev pub scripted : List ℕ → ℕ → Objects → OpenedView
+scripted name rows objects = record { name = name; generate = Some rows; objects = objects }
+
+-- a session that ended before its first receipt, for want of memory
+abbrev pub unserved : List ℕ → Objects → EndedView
+unserved name objects = record { name = name; session = record { objects = objects; receipts = []; status = 1 } }
 
 -- from the n-th session on, each was served
 abbrev pub AreServed : Limits → History → ℕ → List OpenedView → List EndedView → Type 0

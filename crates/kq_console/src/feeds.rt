@@ -28,7 +28,11 @@ pub(crate) fn open_feeds<W: World>(
             Ok(parts) => parts,
             Err(fault) => return Err(fault),
         };
-        feeds.push_reserved(OpenedSession { name, parts });
+        feeds.push_reserved(OpenedSession {
+            name,
+            generate: None,
+            parts,
+        });
     }
     Ok(feeds)
 }

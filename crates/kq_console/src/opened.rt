@@ -7,6 +7,8 @@ use std::marker::Model;
 #[derive(Drop)]
 pub(crate) struct OpenedSession<S: Source, K: Sink, C: Clock> {
     pub name: Text,
+    /// The number of rows of its script, where that is generated. Its own source isn't read then.
+    pub generate: Option<u32>,
     pub parts: Parts<S, K, C>,
 }
 
@@ -16,7 +18,7 @@ impl<S: Source, K: Sink, C: Clock> Model for OpenedSession<S, K, C> {
 
     ghost Value = { OpenedView };
 
-    ghost view = { λ o. record { name = o.name; objects = objects S.told S.faults K.accepted K.faults C.readings o.parts } };
+    ghost view = { λ o. record { name = o.name; generate = o.generate; objects = objects S.told S.faults K.accepted K.faults C.readings o.parts } };
 }
 
 /// A session that is to be served, with the objects that the World gave it.

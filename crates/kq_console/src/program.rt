@@ -1,10 +1,10 @@
 // The top call.
-ghost use Rattle.std.specs.Prelude.{◌≡◌, ◌≢◌, ◌≤◌, ◌⊎◌, [], ℕ, IsSome, List, None, false, length, true};
+ghost use Rattle.std.specs.Prelude.{◌≡◌, ◌≢◌, ◌≤◌, [], ℕ, IsSome, List, None, false, length, true};
 ghost use Rattle.kq_world.specs.Outside.{Contents};
-ghost use Rattle.kq_words.specs.Words.{are_distinct, as_asked};
+ghost use Rattle.kq_words.specs.Words.{are_distinct};
 ghost use Rattle.kq_console.specs.Headline.{Completes, Runs, first_status};
 ghost use Rattle.kq_console.specs.Opening.{AreOpened, OpensFeeds};
-ghost use Rattle.kq_console.specs.Words.{AsksMore, AsksNoMore, IsJustWhere, IsOfSession, asked_in, asks_no_more, feeds_of};
+ghost use Rattle.kq_console.specs.Words.{IsJustWhere, asked_in, feeds_of, generate_of};
 
 use crate::ended::{EndedSession, Run};
 use crate::feeds::open_feeds;
@@ -30,11 +30,8 @@ pub const MEMORY: u8 = 1;
 /// A feed couldn't be opened.
 pub const NOT_OPENED: u8 = 5;
 
-/// The words ask for something that isn't built yet.
-pub const UNBUILT: u8 = 7;
-
 /// Runs session 0, the feeds and the workers beside each other on a new catalogue. `words` are the words after the
-/// program's name. It waits for all of them.
+/// program's name. Where they ask for a generated script, session 0 has that in place of its own. It waits for all of them.
 pub fn run<R: Threads + Wait + Sync, W: World, G: Gate + Sync>(
     rt: &R,
     alloc: Global,
@@ -44,59 +41,53 @@ pub fn run<R: Threads + Wait + Sync, W: World, G: Gate + Sync>(
 ) -> Run<W>
     requires { W.begun world.old ≡ false }
     ensures form { IsJustWhere result.status WRONG_WORDS (asked_in words.now ≡ None) }
-    ensures unbuilt { IsJustWhere result.status UNBUILT (AsksMore (asked_in words.now)) }
-    ensures untouched { (result.status ≡ WRONG_WORDS) ⊎ (result.status ≡ UNBUILT) → world.new ≡ world.old }
-    ensures served { IsSome result.catalog → AsksNoMore (asked_in words.now) }
+    ensures untouched { result.status ≡ WRONG_WORDS → world.new ≡ world.old }
+    ensures served { IsSome result.catalog → IsSome (asked_in words.now) }
     ensures opens { OpensFeeds (feeds_of (asked_in words.now)) (W.asked world.old) (W.asked world.new) (W.faults world.old) (W.faults world.new) result }
-    ensures run { Runs (feeds_of (asked_in words.now)) (W.first_contents world.old) (W.feed_contents world.old) result }
+    ensures run { let said = asked_in words.now in Runs (generate_of said) (feeds_of said) (W.first_contents world.old) (W.feed_contents world.old) result }
     ensures complete { Completes (asked_in words.now) (W.faults world.old) (W.faults world.new) (W.first_contents world.old) (W.feed_contents world.old) result }
 {
     match Options::from_words(alloc, words) {
-        Ok(options) if asks_no_more(&options) => {
-            run_sessions(rt, alloc, world, options.feeds, options.workers, gate)
-        }
-        Ok(_) => not_begun(alloc, UNBUILT),
+        Ok(options) => run_sessions(rt, alloc, world, options, gate),
         Err(OptionsError::Form) => not_begun(alloc, WRONG_WORDS),
         Err(OptionsError::Memory) => not_begun(alloc, MEMORY),
     }
 }
 
-// Whether each session has its own script, and none is generated.
-fn asks_no_more(options: &Options) -> bool
-    ensures { result ≡ asks_no_more (as_asked options.now) }
-{
-    options.generate.is_none()
-}
-
-// Opens the feeds of these names, and runs them and the workers beside session 0.
+// Opens the feeds, and runs them and the workers beside session 0.
 fn run_sessions<R: Threads + Wait + Sync, W: World, G: Gate + Sync>(
     rt: &R,
     alloc: Global,
     world: &mut W,
-    names: Vec<Text>,
-    workers: u32,
+    options: Options,
     gate: &G,
 ) -> Run<W>
     requires begun { W.begun world.old ≡ false }
-    requires different { are_distinct names.items ≡ true }
-    requires few { length names.items ≤ 7 }
-    requires few_workers { workers ≤ 8 }
-    ensures status { IsOfSession result.status }
-    ensures opens { OpensFeeds names.items (W.asked world.old) (W.asked world.new) (W.faults world.old) (W.faults world.new) result }
-    ensures run { Runs names.items (W.first_contents world.old) (W.feed_contents world.old) result }
+    requires different { are_distinct options.feeds.items ≡ true }
+    requires few { length options.feeds.items ≤ 7 }
+    requires few_workers { options.workers ≤ 8 }
+    ensures status { result.status ≢ WRONG_WORDS }
+    ensures opens { OpensFeeds options.feeds.items (W.asked world.old) (W.asked world.new) (W.faults world.old) (W.faults world.new) result }
+    ensures run { Runs options.generate options.feeds.items (W.first_contents world.old) (W.feed_contents world.old) result }
 {
-    match open_feeds(alloc, world, names) {
-        Ok(feeds) => run_opened(rt, alloc, world, feeds, workers, gate),
+    let Options {
+        workers,
+        generate,
+        feeds,
+    } = options;
+    match open_feeds(alloc, world, feeds) {
+        Ok(feeds) => run_opened(rt, alloc, world, generate, feeds, workers, gate),
         Err(OpenFault::Failed) => not_begun(alloc, NOT_OPENED),
         Err(OpenFault::Memory) => not_begun(alloc, MEMORY),
     }
 }
 
-// Runs the feeds that were opened, and the workers, beside session 0.
+// Runs the feeds that were opened, and the workers, beside session 0, whose script may be generated.
 fn run_opened<R: Threads + Wait + Sync, W: World, G: Gate + Sync>(
     rt: &R,
     alloc: Global,
     world: &mut W,
+    generate: Option<u32>,
     feeds: Vec<Opened<W>>,
     workers: u32,
     gate: &G,
@@ -104,11 +95,11 @@ fn run_opened<R: Threads + Wait + Sync, W: World, G: Gate + Sync>(
     requires begun { W.begun world.old ≡ false }
     requires few { length feeds.items ≤ 7 }
     requires few_workers { workers ≤ 8 }
-    ensures status { IsOfSession result.status }
+    ensures status { result.status ≢ WRONG_WORDS }
     ensures opened { result.status ≢ NOT_OPENED }
     ensures asked { W.asked world.new ≡ W.asked world.old }
     ensures faults { W.faults world.new ≡ W.faults world.old }
-    ensures run { (told : List ℕ → Contents) (names : List (List ℕ)) → AreOpened told names feeds.items → Runs names (W.first_contents world.old) told result }
+    ensures run { (told : List ℕ → Contents) (names : List (List ℕ)) → AreOpened told names feeds.items → Runs generate names (W.first_contents world.old) told result }
 {
     let sessions = feeds.len() + 1;
     // One pass more than there are sessions and workers.
@@ -124,6 +115,7 @@ fn run_opened<R: Threads + Wait + Sync, W: World, G: Gate + Sync>(
     };
     let first = OpenedSession {
         name,
+        generate,
         parts: world.first(),
     };
     let stop = AtomicBool::new(false);

@@ -1,11 +1,15 @@
 // Sessions beside each other.
 ghost use Rattle.std.specs.Prelude.{◌≡◌, ◌<◌, ◌≤◌, ◌+◌, ◌∷◌, [], length, vec_capacity};
-ghost use Rattle.kq_console.specs.Together.{ServedOne, ServedAll};
+ghost use Rattle.kq_session.specs.Objects.{objects};
+ghost use Rattle.kq_console.specs.Together.{ServedOne, ServedAll, scripted, unserved};
 
 use crate::ended::EndedSession;
 use crate::opened::OpenedSession;
+use crate::program::MEMORY;
 use kq_engine::{Pass, Shared};
-use kq_session::{Served, serve};
+use kq_gen::ScriptSource;
+use kq_session::{Receipts, Served, serve};
+use kq_value::Text;
 use kq_world::{Clock, Gate, Parts, Sink, Source};
 use std::alloc::Global;
 use std::sync::Wait;
@@ -92,7 +96,7 @@ pub(crate) fn serve_all<
     }
 }
 
-// Serves one session.
+// Serves one session, by its own source or by a generated script.
 fn serve_one<R: Wait, S: Source, K: Sink, C: Clock, G: Gate>(
     rt: &R,
     alloc: Global,
@@ -105,7 +109,14 @@ fn serve_one<R: Wait, S: Source, K: Sink, C: Clock, G: Gate>(
     requires { pass.of ≡ shared.now.turn }
     ensures { ServedOne shared.now.limits pass result.pass actor opened result.session }
 {
-    let OpenedSession { name, parts } = opened;
+    let OpenedSession {
+        name,
+        generate,
+        parts,
+    } = opened;
+    if let Some(rows) = generate {
+        return serve_script(rt, alloc, shared, pass, actor, rows, name, parts, gate);
+    }
     let Served {
         pass,
         parts: Parts {
@@ -125,4 +136,81 @@ fn serve_one<R: Wait, S: Source, K: Sink, C: Clock, G: Gate>(
         status,
     };
     One { pass, session }
+}
+
+// Serves one session by the generated script of so many rows. Its own source is handed back as it is.
+fn serve_script<R: Wait, S: Source, K: Sink, C: Clock, G: Gate>(
+    rt: &R,
+    alloc: Global,
+    shared: &Shared,
+    pass: Pass,
+    actor: u32,
+    rows: u32,
+    name: Text,
+    parts: Parts<S, K, C>,
+    gate: &G,
+) -> One<S, K, C>
+    requires { pass.of ≡ shared.now.turn }
+    ensures { ServedOne shared.now.limits pass result.pass actor (scripted name rows (objects S.told S.faults K.accepted K.faults C.readings parts)) result.session }
+{
+    let Ok(script) = ScriptSource::new(alloc, rows) else {
+        return One {
+            pass,
+            session: unserved(alloc, name, parts),
+        };
+    };
+    let Parts {
+        source,
+        sink,
+        clock,
+    } = parts;
+    let parts = Parts {
+        source: script,
+        sink,
+        clock,
+    };
+    let Served {
+        pass,
+        parts: Parts {
+            source: _script,
+            sink,
+            clock,
+        },
+        receipts,
+        status,
+    } = serve(rt, alloc, shared, pass, actor, parts, gate);
+    One {
+        pass,
+        session: EndedSession {
+            name,
+            source,
+            sink,
+            clock,
+            receipts,
+            status,
+        },
+    }
+}
+
+// A session for whose script no room was found, which counts as room for its first receipt.
+fn unserved<S: Source, K: Sink, C: Clock>(
+    alloc: Global,
+    name: Text,
+    parts: Parts<S, K, C>,
+) -> EndedSession<S, K, C>
+    ensures { result ≡ unserved name (objects S.told S.faults K.accepted K.faults C.readings parts) }
+{
+    let Parts {
+        source,
+        sink,
+        clock,
+    } = parts;
+    EndedSession {
+        name,
+        source,
+        sink,
+        clock,
+        receipts: Receipts::from_vec(Vec::new(alloc)),
+        status: MEMORY,
+    }
 }

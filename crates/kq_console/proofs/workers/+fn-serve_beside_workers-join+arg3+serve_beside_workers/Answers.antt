@@ -1,5 +1,5 @@
 use denote.Param.{param}
-use denote.Param.Send.{IsSend, IsSync, sendable}
+use denote.Param.Send.{IsSync, sendable}
 use Rattle.std.proofs.Crossing.{crosses}
 use Rattle.std.proofs.Common.{arith, rules, ◌≤◌}
 use Rattle.kq_engine.proofs.Crossing.{pass_send, shared_sync}
