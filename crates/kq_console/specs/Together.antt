@@ -1,5 +1,5 @@
 -- What sessions that are served together come to.
-use Rattle.std.specs.Prelude.{◌≡◌, ◌+◌, ℕ, List, [], ◌∷◌, Some, sum_by}
+use Rattle.std.specs.Prelude.{◌≡◌, ◌⊎◌, ◌+◌, ℕ, Bool, List, [], ◌∷◌, Some, sum_by}
 use mathlib.Core.List.{IsPrefix}
 use Rattle.kq_model.specs.declared.limits.Limits.{Limits}
 use Rattle.kq_model.specs.History.{History}
@@ -7,6 +7,7 @@ use Rattle.kq_engine.specs.Shared.{PassView}
 use Rattle.kq_session.specs.Objects.{Objects}
 use Rattle.kq_session.specs.Session.{Explained, owns}
 use Rattle.kq_session.specs.Exchanges.{Rises}
+use Rattle.kq_workers.specs.Rounds.{Works}
 use Rattle.kq_console.specs.Scripts.{ByScript}
 use Rattle.kq_console.specs.Views.{OpenedView, EndedView}
 
@@ -43,6 +44,10 @@ pub record Passed (old new : PassView) (sessions : List EndedView) : Type 0 wher
   pub worth : new.worth ≡ old.worth
   pub seen : IsPrefix old.seen new.seen
   pub made : new.made ≡ old.made + all_owns sessions
+
+-- a worker's pass came back as it was, or after rounds of chores under the worker's actor
+abbrev pub RestsOrWorks : Limits → ℕ → PassView → PassView → Type 0
+RestsOrWorks limits actor old new = (new ≡ old) ⊎ ((short : Bool) × Works limits actor old new short)
 
 -- the session of an actor was served through a pass
 pub record ServedOne (limits : Limits) (old new : PassView) (actor : ℕ) (o : OpenedView) (s : EndedView) : Type 0 where

@@ -1,6 +1,6 @@
 // Workers beside the sessions.
 ghost use Rattle.std.specs.Prelude.{◌≡◌, ◌<◌, ◌≤◌, ◌+◌, ◌∷◌, [], length, vec_capacity};
-ghost use Rattle.kq_console.specs.Together.{Passed, ServedAll};
+ghost use Rattle.kq_console.specs.Together.{Passed, RestsOrWorks, ServedAll};
 
 use crate::ended::EndedSession;
 use crate::opened::OpenedSession;
@@ -16,6 +16,14 @@ use std::thread::Threads;
 
 // The workers' actors begin after the sessions'.
 const FIRST_WORKER: u32 = 8;
+
+// The actor of a worker by its number, from 0.
+fn actor_of(worker: u32) -> u32
+    requires { worker < 8 }
+    ensures { result ≡ 8 + worker }
+{
+    FIRST_WORKER + worker
+}
 
 /// Serves the sessions as `serve_all` does. Beside them each worker works in a thread of its own, until all sessions have
 /// ended, when `stop` is set. A worker for which no thread can be made is left out.
@@ -51,13 +59,14 @@ pub(crate) fn serve_beside_workers<
         return together;
     }
     let others = workers - 1;
-    let actor = FIRST_WORKER + others;
+    let actor = actor_of(others);
     let (rest, mine) = shared.split(pass);
     let (worked, together) = thread::join(
         rt,
         move || -> Pass
             requires of { mine.of ≡ shared.now.turn }
             ensures passed { Passed mine result [] }
+            ensures worked { RestsOrWorks shared.entry.now.limits actor mine result }
         { work_until(rt, shared, mine, actor, gate, stop) },
         move || -> Together<S, K, C>
             requires of { rest.of ≡ shared.now.turn }
@@ -93,7 +102,8 @@ fn work_until<R: Wait, G: Gate>(
     stop: &AtomicBool,
 ) -> Pass
     requires { pass.of ≡ shared.now.turn }
-    ensures { Passed pass result [] }
+    ensures passed { Passed pass result [] }
+    ensures worked { RestsOrWorks shared.now.limits actor pass result }
 {
     if stop.load(Ordering::SeqCst) {
         return pass;

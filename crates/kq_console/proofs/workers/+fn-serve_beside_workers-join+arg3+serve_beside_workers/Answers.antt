@@ -26,5 +26,5 @@ pub returns : goal.returns
 returns g t c =
     let some : 2 ≤ c.args.pass.worth = omega (arith, c.requires.worth) in
     record {
-      served = ServedAll-worker c.args.shared.now.limits c.args.shared.now.turn c.args.pass _ _ _ _ c.join.result _ _ c.requires.of some c.split-rest.ensures.first c.split-rest.ensures.second c.join-worked.ensures.second c.join-worked.ensures.first c.join.ensures.of c.join.ensures.first_seen c.join.ensures.worth c.join.ensures.made;
+      served = ServedAll-worker c.args.shared.now.limits c.args.shared.now.turn c.args.pass _ _ _ _ c.join.result _ _ c.requires.of some c.split-rest.ensures.first c.split-rest.ensures.second c.join-worked.ensures.second c.join-worked.ensures.first.0 c.join.ensures.of c.join.ensures.first_seen c.join.ensures.worth c.join.ensures.made;
     }
