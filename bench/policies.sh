@@ -4,8 +4,8 @@
 # be built (.ci/run does it).
 set -eu
 top=$(cd "$(dirname "$0")/.." && pwd)
-python3 - "$top/crates/kq_console/out/kq_console" "${1:-1000}" <<'PY'
-import statistics, subprocess, sys, time
+PYTHONPATH=$top/bench python3 -B - "$top/crates/kq_console/out/kq_console" "${1:-1000}" <<'PY'
+import asked, statistics, sys
 
 program, batches = sys.argv[1], int(sys.argv[2])
 rows = 1000
@@ -17,30 +17,19 @@ policies = {
 
 
 def measured(query):
-    child = subprocess.Popen([program], stdin=subprocess.PIPE, stdout=subprocess.PIPE)
-
-    def ask(text):
-        begin = time.perf_counter()
-        child.stdin.write((text + "\n\nprint end = 424242\n\n").encode())
-        child.stdin.flush()
-        for said in child.stdout:
-            if b"424242\n" in said:
-                return time.perf_counter() - begin
-        sys.exit("the program ended")
-
-    ask(".create table E (k:long, v:long)")
-    ask(".create table D (k:long, w:long)")
-    ask(".create table T (k:long, w:long)")
-    ask(".ingest inline into table D <|\n" + "".join(f"{k},{k * 3}\n" for k in range(rows)))
+    mine = asked.engine(program)
+    mine.ask(".create table E (k:long, v:long)")
+    mine.ask(".create table D (k:long, w:long)")
+    mine.ask(".create table T (k:long, w:long)")
+    mine.ask(".ingest inline into table D <|\n" + "".join(f"{k},{k * 3}\n" for k in range(rows)))
     if query:
-        ask(f""".alter table T policy update '[{{"Source":"E","Query":"{query}","IsTransactional":true}}]'""")
+        mine.ask(f""".alter table T policy update '[{{"Source":"E","Query":"{query}","IsTransactional":true}}]'""")
     texts = [
         ".ingest inline into table E <|\n" + "".join(f"{i},{i * 7919 + at}\n" for i in range(rows))
         for at in range(batches)
     ]
-    took = [ask(text) for text in texts]
-    child.stdin.close()
-    child.wait()
+    took = [mine.ask(text) for text in texts]
+    mine.end()
     return took
 
 

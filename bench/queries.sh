@@ -20,8 +20,8 @@ if command -v initdb >/dev/null && command -v psql >/dev/null; then
   fi
 fi
 
-python3 - "$top/crates/kq_console/out/kq_console" "${1:-1000000}" "$cluster" <<'PY'
-import subprocess, sys, time
+PYTHONPATH=$top/bench python3 -B - "$top/crates/kq_console/out/kq_console" "${1:-1000000}" "$cluster" <<'PY'
+import asked, sys
 
 program, rows, cluster = sys.argv[1], int(sys.argv[2]), sys.argv[3]
 batch = 10_000
@@ -78,33 +78,17 @@ queries = {
 }
 
 
-class Asked:
-    def __init__(self, words, ended):
-        self.child = subprocess.Popen(words, stdin=subprocess.PIPE, stdout=subprocess.PIPE)
-        self.ended = ended
-
-    def ask(self, text):
-        begin = time.perf_counter()
-        self.child.stdin.write(text.encode())
-        self.child.stdin.write(self.ended.encode())
-        self.child.stdin.flush()
-        for said in self.child.stdout:
-            if b"424242\n" in said:
-                return time.perf_counter() - begin
-        sys.exit("the other side ended")
-
-
-mine = Asked([program], "\n\nprint end = 424242\n\n")
-peers = {"sqlite3": Asked(["sqlite3", ":memory:"], "\nselect 424242;\n")}
+mine = asked.engine(program)
+peers = {"sqlite3": asked.sqlite()}
 if cluster:
-    peers["postgres"] = Asked(["psql", "-qAt", "-h", cluster, "-U", "bench", "postgres"], "\nselect 424242;\n")
+    peers["postgres"] = asked.postgres(cluster)
 mine.ask("\n".join(load))
 for name, peer in peers.items():
     peer.ask(inserts.replace("TIME", "text" if name == "sqlite3" else "timestamptz").replace("JSON", "text" if name == "sqlite3" else "jsonb"))
     peer.ask("analyze;")
 print(f"{'query':>32} {'s':>8}" + "".join(f" {name:>10} {'ratio':>6}" for name in peers))
 for name, (kql, *sql) in queries.items():
-    ours = min(mine.ask(kql) for _ in range(3))
-    theirs = [min(peer.ask(sql[min(at, len(sql) - 1)]) for _ in range(3)) for at, peer in enumerate(peers.values())]
+    ours = mine.best(kql, 3)
+    theirs = [peer.best(sql[min(at, len(sql) - 1)], 3) for at, peer in enumerate(peers.values())]
     print(f"{name:>32} {ours:>8.3f}" + "".join(f" {s:>10.3f} {ours / s:>6.2f}" for s in theirs))
 PY

@@ -4,30 +4,12 @@
 # output. The program has to be built (.ci/run does it), and sqlite3 installed.
 set -eu
 top=$(cd "$(dirname "$0")/.." && pwd)
-python3 - "$top/crates/kq_console/out/kq_console" "${1:-1000000}" <<'PY'
-import subprocess, sys, time
+PYTHONPATH=$top/bench python3 -B - "$top/crates/kq_console/out/kq_console" "${1:-1000000}" <<'PY'
+import asked, sys
 
 program, rows = sys.argv[1], int(sys.argv[2])
 batch, more = 10_000, 1_000
 bodies = {"10 groups": ("Few", "k % 10"), "100,000 groups": ("Many", "v % 100000")}
-
-
-class Asked:
-    def __init__(self, words, ended):
-        self.child = subprocess.Popen(words, stdin=subprocess.PIPE, stdout=subprocess.PIPE)
-        self.ended = ended
-
-    def ask(self, text):
-        begin = time.perf_counter()
-        self.child.stdin.write((text + self.ended).encode())
-        self.child.stdin.flush()
-        for said in self.child.stdout:
-            if b"424242\n" in said:
-                return time.perf_counter() - begin
-        sys.exit("the other side ended")
-
-    def best(self, text):
-        return min(self.ask(text) for _ in range(5))
 
 
 def pairs(begin, end):
@@ -43,26 +25,26 @@ def inserted(begin, end):
 
 
 def viewed(records):
-    mine = Asked([program], "\n\nprint end = 424242\n\n")
+    mine = asked.engine(program)
     mine.ask(".create table E (k:long, v:long)\n\n" + "\n".join(ingested(at, at + batch) for at in range(0, records, batch)))
     mine.ask("\n\n".join(
         f".create materialized-view with (backfill=true) {name} on table E {{ E | summarize n = count(), s = sum(v), m = max(v) by g = {key} }}"
         for name, key in bodies.values()))
     first = {groups: mine.ask(f"#fold {name}") for groups, (name, _) in bodies.items()}
     mine.ask(ingested(records, records + more))
-    asked = {groups: mine.best(f"{name} | count") for groups, (name, _) in bodies.items()}
+    later = {groups: mine.best(f"{name} | count", 5) for groups, (name, _) in bodies.items()}
     again = {groups: mine.ask(f"#fold {name}") for groups, (name, _) in bodies.items()}
-    return first, asked, again
+    return first, later, again
 
 
-peer = Asked(["sqlite3", ":memory:"], "\nselect 424242;\n")
+peer = asked.sqlite()
 peer.ask("\n".join(["create table e (k bigint, v bigint);"] + [inserted(at, at + batch) for at in range(0, rows, batch)] + [inserted(rows, rows + more)]))
 peer.ask("analyze;")
 _, fewer, _ = viewed(rows // 10)
-first, asked, again = viewed(rows)
+first, later, again = viewed(rows)
 print(f"{'view':>16} {'s':>9} {'sqlite3':>9} {'ratio':>7} {'growth':>7} {'fold':>9} {'of first':>9}")
 for groups, (_, key) in bodies.items():
-    theirs = peer.best(f"select count(*) from (select {key} as g, count(*) as n, sum(v) as s, max(v) as m from e group by 1) x;")
-    print(f"{groups:>16} {asked[groups]:>9.5f} {theirs:>9.5f} {asked[groups] / theirs:>7.3f} {asked[groups] / fewer[groups]:>7.2f}"
+    theirs = peer.best(f"select count(*) from (select {key} as g, count(*) as n, sum(v) as s, max(v) as m from e group by 1) x;", 5)
+    print(f"{groups:>16} {later[groups]:>9.5f} {theirs:>9.5f} {later[groups] / theirs:>7.3f} {later[groups] / fewer[groups]:>7.2f}"
           f" {again[groups]:>9.5f} {again[groups] / first[groups]:>9.3f}")
 PY
