@@ -1,14 +1,15 @@
 #!/usr/bin/env bash
 # workers.sh [BATCHES]: puts 8 times BATCHES (200) batches of 100 rows into one table with a view, by eight sessions (standard input and seven feeds),
 # without workers and with two, and tells the wall time, the best of five, beside that without workers. Then it looks at the table's extents: when all
-# batches are answered, and half a second later; those of fewer than 4096 rows are what workers merge. The program has to be built (.ci/run does it).
+# n batches are answered, and how long it takes from then until there are fewer than 2 + n/64. The program has to be built (.ci/run does it).
 set -eu
 top=$(cd "$(dirname "$0")/.." && pwd)
 python3 - "$top/crates/kq_console/out/kq_console" "${1:-200}" <<'PY'
 import os, subprocess, sys, tempfile, time
 
 program = os.path.realpath(sys.argv[1])
-sessions, batches, rows, small = 8, int(sys.argv[2]), 100, 4096
+sessions, batches, rows = 8, int(sys.argv[2]), 100
+most = 2 + sessions * batches // 64
 feeds = [f"feed{i}" for i in range(1, sessions)]
 table = ".create table E (k:long, v:long)\n\n"
 view = ".create ifnotexists materialized-view V on table E { E | summarize n = count(), s = sum(v) by g = k % 10 }\n\n"
@@ -23,7 +24,7 @@ def words(workers):
     return [program, "--workers", str(workers), *feeds]
 
 
-def took(workers):
+def timed(workers):
     for feed in feeds:
         if os.path.exists(f"{feed}.out"):
             os.remove(f"{feed}.out")
@@ -39,7 +40,7 @@ def answered(path):
 
 
 def extents(child):
-    """How many extents there are, and how many small ones."""
+    """How many extents there are."""
     child.stdin.write(b".show table E extents\n\n")
     child.stdin.flush()
     while not (line := child.stdout.readline()).startswith(b"rows "):
@@ -47,7 +48,7 @@ def extents(child):
     child.stdout.readline()
     held = [int(child.stdout.readline().split(b"\t")[1]) for _ in range(int(line.split()[1]))]
     assert sum(held) == sessions * batches * rows, sum(held)
-    return len(held), sum(1 for held_by in held if held_by < small)
+    return len(held)
 
 
 def looked(workers):
@@ -61,12 +62,15 @@ def looked(workers):
             pass
     while any(answered(f"{feed}.out") < batches + 2 for feed in feeds):
         time.sleep(0.001)
-    at_once = extents(child)
-    time.sleep(0.5)
-    later = extents(child)
+    begin = time.perf_counter()
+    first = last = extents(child)
+    while last >= most and time.perf_counter() - begin < (30 if workers else 0):
+        time.sleep(0.01)
+        last = extents(child)
+    took = time.perf_counter() - begin
     child.stdin.close()
     assert child.wait() == 0
-    return at_once, later
+    return first, last, took
 
 
 with tempfile.TemporaryDirectory() as folder:
@@ -74,12 +78,11 @@ with tempfile.TemporaryDirectory() as folder:
     for i, name in enumerate(["main", *feeds]):
         with open(name, "w") as file:
             file.write(script(i))
-    runs = [(took(0), took(2)) for _ in range(5)]
+    runs = [(timed(0), timed(2)) for _ in range(5)]
     none, two = min(run[0] for run in runs), min(run[1] for run in runs)
     print(f"{sessions} sessions of {batches} batches: {none:.3f} s without workers, {two:.3f} s with two: {two / none:.2f} times")
-    total = sessions * batches
-    for workers in (0, 2):
-        (all_then, small_then), (all_later, small_later) = looked(workers)
-        print(f"{workers} workers, {total} batches: {all_then} extents, {small_then} of them small, and half a second later {all_later} and {small_later};"
-              f" 2 + n/64 is {2 + total // 64}")
+    first, _, _ = looked(0)
+    print(f"without workers {first} extents when all are answered")
+    first, last, took = looked(2)
+    print(f"with two {first}, and {last} after {took:.3f} s, where 2 + n/64 is {most}")
 PY
