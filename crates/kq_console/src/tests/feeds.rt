@@ -4,6 +4,7 @@ ghost use Rattle.kq_world.specs.World.{IsFresh};
 
 use super::worlds::{cursor_of, ended, feed, parts, served};
 use crate::ended::Run;
+use kq_catalog::Catalog;
 use kq_command::read_command;
 use kq_engine::{Prepared, Ready, Work, begin};
 use kq_model::By;
@@ -117,29 +118,47 @@ fn batches_script(alloc: Global) -> Result<String, Memory> {
     Ok(script)
 }
 
-// What the run's catalogue answers to a query.
-pub(super) fn asked(alloc: Global, run: &Run<MemoryWorld>, query: &[u8]) -> Result<Bytes, Fail> {
+fn prepared(alloc: Global, catalog: &Catalog, query: &[u8]) -> Result<Prepared, Fail> {
     let command = read_command(alloc, query)?;
+    let snapshot = catalog.snapshot()?;
     let by = By {
         actor: 0,
         number: 1,
     };
-    let work = Work {
-        by,
-        command,
-        now: 0,
-    };
-    let catalog = run.catalog.as_ref().ok_or("no catalogue")?;
-    let prepared = begin(&catalog.snapshot()?, work)?;
+    Ok(begin(
+        &snapshot,
+        Work {
+            by,
+            command,
+            now: 0,
+        },
+    )?)
+}
+
+fn rows_of(reply: Reply) -> Option<Bytes> {
+    match reply {
+        Reply::Rows { text } => Some(text),
+        _ => None,
+    }
+}
+
+fn rows_prepared(prepared: Prepared) -> Option<Bytes> {
     let Prepared {
         work: _,
         place: _,
         ready,
     } = prepared;
     match ready {
-        Ready::Answered(Reply::Rows { text }) => Ok(text),
-        _ => Err(Fail::from("no answer")),
+        Ready::Answered(reply) => rows_of(reply),
+        _ => None,
     }
+}
+
+// What the run's catalogue answers to a query.
+pub(super) fn asked(alloc: Global, run: &Run<MemoryWorld>, query: &[u8]) -> Result<Bytes, Fail> {
+    let catalog = run.catalog.as_ref().ok_or("no catalogue")?;
+    let prepared = prepared(alloc, catalog, query)?;
+    Ok(rows_prepared(prepared).ok_or("no answer")?)
 }
 
 #[test]
