@@ -12,6 +12,7 @@
 set -eu
 top=$(cd "$(dirname "$0")/.." && pwd)
 program=${KQ_PROGRAM:-$top/crates/kq_console/out/kq_console}
+[ -x "$program" ] || { echo "faults.sh: there is no $program" >&2; exit 1; }
 folder=$(mktemp -d)
 trap 'rm -rf "$folder"' EXIT
 "${CC:-cc}" -O2 -shared -fPIC -o "$folder/faults.so" "$top/tools/faults.c" -ldl
