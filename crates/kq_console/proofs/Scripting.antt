@@ -18,7 +18,7 @@ use Rattle.kq_gen.specs.Commands.{script}
 use Rattle.kq_gen.specs.Source.{ScriptState, script_read, script_told, script_unread}
 use Rattle.kq_gen.proofs.Reading.{told-since}
 use Rattle.kq_console.specs.Scripts.{ByScript, as_reading, unfailed, with_source}
-use Rattle.kq_console.specs.Together.{ServedOne, all_owns, scripted, unserved}
+use Rattle.kq_console.specs.Together.{ServedOne, all_owns, unserved}
 use Rattle.kq_console.specs.Views.{EndedView, OpenedView}
 
 -- what follows for a session whatever its source, follows for one by its script
@@ -52,11 +52,15 @@ stays_as before now fault same never = record { never_falls = same-later before 
 no_fault : (fault : Type 0) → Rises 0 0 fault → fault → ⊥
 no_fault fault rises f = elim (rises.rose f) [ inl less ↦ omega (arith, less) | inr full ↦ omega (arith, full.0) ]
 
+-- a session that is to be served by it
+abbrev pub by_script : List ℕ → ℕ → Objects → OpenedView
+by_script name n before = record { name = name; generate = Some n; objects = before }
+
 -- it was read in place of the session's own source
 pub ServedOne-script : (limits : Limits) (old new : PassView) (actor n : ℕ) (name : List ℕ) (first now : ScriptState) (before : Objects) (s : SessionView) (end : End)
     → first ≡ record { text = script n; at = 0; ended = false } → Ends limits new.seen actor (with_source (script_told first) before.contents) (with_source (script_told now) s.objects.contents) s.receipts end → s.status ≡ status_of end s.receipts
     → GoesOn old new s.receipts → s.objects.contents.source ≡ before.contents.source → s.objects.source_faults ≡ before.source_faults → Rises 0 0 (s.status ≡ 3) → Rises before.sink_faults s.objects.sink_faults (s.status ≡ 4)
-    → ServedOne limits old new actor (scripted name n before) (record { name = name; session = s })
+    → ServedOne limits old new actor (by_script name n before) (record { name = name; session = s })
 ServedOne-script limits old new actor n name first now before s end is_first so by_end goes_on source faults fault sink =
     let unread = with_source (script_unread n) before.contents in
     let from_first = subst (λ (f : ScriptState). Ends limits new.seen actor (with_source (script_told f) before.contents) (with_source (script_told now) s.objects.contents) s.receipts end) is_first so in
@@ -80,7 +84,7 @@ ServedOne-script limits old new actor n name first now before s end is_first so 
     }
 
 -- there was no room for it
-pub ServedOne-unserved : (limits : Limits) (pass : PassView) (actor n : ℕ) (name : List ℕ) (before : Objects) → ServedOne limits pass pass actor (scripted name n before) (unserved name before)
+pub ServedOne-unserved : (limits : Limits) (pass : PassView) (actor n : ℕ) (name : List ℕ) (before : Objects) → ServedOne limits pass pass actor (by_script name n before) (unserved name before)
 ServedOne-unserved limits pass actor n name before = record {
   passed = record { of = refl; worth = refl; seen = IsPrefix-refl pass.seen; made = sym (add-zero pass.made) };
   served = record {

@@ -1,8 +1,9 @@
 -- What opening the feeds does to the World.
-use Rattle.std.specs.Prelude.{◌≡◌, ◌≢◌, ◌<◌, ◌≤◌, ◌+◌, ℕ, List, [], ◌∷◌, ◌++◌, length, take, None, IsSome, Result, Ok, Err}
+use Rattle.std.specs.Prelude.{◌≡◌, ◌≢◌, ◌<◌, ◌≤◌, ◌+◌, ℕ, List, [], ◌∷◌, ◌++◌, length, take, Option, None, IsSome, Result, Ok, Err}
 use Rattle.kq_world.specs.Outside.{Contents, Rose}
 use Rattle.kq_world.specs.declared.outside.OpenFault.{OpenFault}
 use Rattle.kq_world.specs.declared.outside.OpenFault.TheVariants.{Failed, Memory}
+use Rattle.kq_console.specs.Headline.{Runs}
 use Rattle.kq_console.specs.Views.{OpenedView, RunView}
 
 -- the feed of a name was opened: it has the name and what was told of it, its script is its own, and it has not failed yet
@@ -35,3 +36,7 @@ pub record OpensFeeds (feeds before now : List (List ℕ)) (count_before count_n
   pub all : IsSome run.catalog → asked ≡ length feeds
   pub failed : run.status ≡ 5 → (0 < asked) × Rose count_before count_now
   pub stays : run.status ≢ 5 → count_now ≡ count_before
+
+-- a run of feeds that were opened, whatever their names are and the world told of them
+abbrev pub RunsOpened : Option ℕ → List OpenedView → Contents → RunView → Type 0
+RunsOpened generate opened first run = (told : List ℕ → Contents) (names : List (List ℕ)) → AreOpened told names opened → Runs generate names first told run

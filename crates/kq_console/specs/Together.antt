@@ -1,10 +1,12 @@
 -- What sessions that are served together come to.
-use Rattle.std.specs.Prelude.{◌≡◌, ◌⊎◌, ◌+◌, ℕ, Bool, List, [], ◌∷◌, Some, sum_by}
+use Rattle.std.specs.Prelude.{◌≡◌, ◌⊎◌, ◌+◌, ℕ, ℤ, Bool, List, [], ◌∷◌, Some, sum_by}
 use mathlib.Core.List.{IsPrefix}
+use Rattle.kq_world.specs.Outside.{SourceView}
+use Rattle.kq_world.specs.declared.outside.Parts.{Parts}
 use Rattle.kq_model.specs.declared.limits.Limits.{Limits}
 use Rattle.kq_model.specs.History.{History}
 use Rattle.kq_engine.specs.Shared.{PassView}
-use Rattle.kq_session.specs.Objects.{Objects}
+use Rattle.kq_session.specs.Objects.{Objects, objects}
 use Rattle.kq_session.specs.Session.{Explained, owns}
 use Rattle.kq_session.specs.Exchanges.{Rises}
 use Rattle.kq_workers.specs.Rounds.{Works}
@@ -18,9 +20,9 @@ pub record IsServed (limits : Limits) (h : History) (actor : ℕ) (o : OpenedVie
   pub source : Rises o.objects.source_faults s.session.objects.source_faults (s.session.status ≡ 3)
   pub sink : Rises o.objects.sink_faults s.session.objects.sink_faults (s.session.status ≡ 4)
 
--- a session that is to be served by the generated script of so many rows
-abbrev pub scripted : List ℕ → ℕ → Objects → OpenedView
-scripted name rows objects = record { name = name; generate = Some rows; objects = objects }
+-- a session that is to be served by the generated script of so many rows, its parts each by its own meanings
+abbrev pub scripted : {S K C : Type 0} → (S → SourceView) → (S → ℕ) → (K → List ℕ) → (K → ℕ) → (C → List ℤ) → List ℕ → ℕ → Parts S K C → OpenedView
+scripted told source_faults accepted sink_faults readings name rows parts = record { name = name; generate = Some rows; objects = objects told source_faults accepted sink_faults readings parts }
 
 -- a session that ended before its first receipt, for want of memory
 abbrev pub unserved : List ℕ → Objects → EndedView

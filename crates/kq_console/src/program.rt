@@ -1,9 +1,8 @@
 // The top call.
-ghost use Rattle.std.specs.Prelude.{◌≡◌, ◌≢◌, ◌≤◌, [], ℕ, IsSome, List, None, false, length, true};
-ghost use Rattle.kq_world.specs.Outside.{Contents};
+ghost use Rattle.std.specs.Prelude.{◌≡◌, ◌≢◌, ◌≤◌, [], IsSome, None, false, length, true};
 ghost use Rattle.kq_words.specs.Words.{are_distinct};
 ghost use Rattle.kq_console.specs.Headline.{Completes, Runs, first_status};
-ghost use Rattle.kq_console.specs.Opening.{AreOpened, OpensFeeds};
+ghost use Rattle.kq_console.specs.Opening.{OpensFeeds, RunsOpened};
 ghost use Rattle.kq_console.specs.Words.{IsJustWhere, asked_in, feeds_of, generate_of};
 
 use crate::ended::{EndedSession, Run};
@@ -99,7 +98,7 @@ fn run_opened<R: Threads + Wait + Sync, W: World, G: Gate + Sync>(
     ensures opened { result.status ≢ NOT_OPENED }
     ensures asked { W.asked world.new ≡ W.asked world.old }
     ensures faults { W.faults world.new ≡ W.faults world.old }
-    ensures run { (told : List ℕ → Contents) (names : List (List ℕ)) → AreOpened told names feeds.items → Runs generate names (W.first_contents world.old) told result }
+    ensures run { RunsOpened generate feeds.items (W.first_contents world.old) result }
 {
     let sessions = feeds.len() + 1;
     // One pass more than there are sessions and workers.

@@ -151,7 +151,7 @@ fn serve_script<R: Wait, S: Source, K: Sink, C: Clock, G: Gate>(
     gate: &G,
 ) -> One<S, K, C>
     requires { pass.of ≡ shared.now.turn }
-    ensures { ServedOne shared.now.limits pass result.pass actor (scripted name rows (objects S.told S.faults K.accepted K.faults C.readings parts)) result.session }
+    ensures { ServedOne shared.now.limits pass result.pass actor (scripted S.told S.faults K.accepted K.faults C.readings name rows parts) result.session }
 {
     let Ok(script) = ScriptSource::new(alloc, rows) else {
         return One {
