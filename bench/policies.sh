@@ -1,7 +1,8 @@
 #!/usr/bin/env bash
 # Puts batches of 1000 rows into a table: without a policy, through one of a filter and a projection, and through one that joins each batch with a table of
-# 1000 rows, each batch by three programs in turn, so that the machine's own drift meets all three. Tells the median time a batch, beside that without a
-# policy, and that of the last fifty batches beside that of the fifty behind the tenth. The program has to be built (.ci/run does it).
+# 1000 rows, each batch by three programs in turn, so that the machine's own drift meets all three. A batch without a policy is slower so than where one
+# program runs alone, which makes the ratios smaller. Tells the median time a batch, beside that without a policy, and that of the last fifty batches beside
+# that of the fifty behind the tenth. The program has to be built (.ci/run does it).
 set -eu
 top=$(cd "$(dirname "$0")/.." && pwd)
 PYTHONPATH=$top/bench python3 -B - "$top/crates/kq_console/out/kq_console" "${1:-1000}" <<'PY'
