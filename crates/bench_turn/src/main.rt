@@ -15,13 +15,13 @@ use std::thread::Threads;
 use std::time::Instant;
 use std::{env, io, thread};
 
-/// How often each thread takes and gives where nothing is measured.
+// How often each thread takes and gives where nothing is measured.
 const FEW: u64 = 100;
 
-/// How often all threads together take and give where it is measured.
+// How often all threads together take and give where it is measured.
 const MANY: u64 = 2_000_000;
 
-/// A value whose history stays empty.
+// A value whose history stays empty.
 #[derive(Drop)]
 struct Still;
 

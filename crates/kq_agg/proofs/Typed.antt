@@ -81,13 +81,13 @@ chosen_typed cs rows cmp (Some row) all h = All-contains (HasTypes cs) rows row 
 
 -- ---- all aggregates
 
-abbrev Ends-typed : Aggregating → List Field → Rows → Kept → Type 0
-Ends-typed g cs rows kept = Holds (aggregate_kind g) rows kept → GivesTypes cs (finished (map ty_of cs) kept)
+abbrev Finishes-typed : Aggregating → List Field → Rows → Kept → Type 0
+Finishes-typed g cs rows kept = Holds (aggregate_kind g) rows kept → GivesTypes cs (finished (map ty_of cs) kept)
 
 pub finished-typed : (lets from : List Field) (g : Aggregating) (cs : List Field) (rows : Rows) (kept : Kept) → FitsAggregate lets from g cs
-    → HaveTheTypes g cs rows → Ends-typed g cs rows kept
+    → HaveTheTypes g cs rows → Finishes-typed g cs rows kept
 finished-typed lets from rows_counted cs rows kept fits typed =
-    elim kept as (Ends-typed rows_counted cs rows) [
+    elim kept as (Finishes-typed rows_counted cs rows) [
       | counted n ↦ λ h. one_typed cs ty.Long _ fits (refl, tt)
       | summed z ↦ λ h. absurd h
       | extreme o ↦ λ h. absurd h
@@ -95,7 +95,7 @@ finished-typed lets from rows_counted cs rows kept fits typed =
       | collected vs ↦ λ h. absurd h
     ]
 finished-typed lets from (sum_of e) cs rows kept fits typed =
-    elim kept as (Ends-typed (sum_of e) cs rows) [
+    elim kept as (Finishes-typed (sum_of e) cs rows) [
       | counted n ↦ λ h. absurd h
       | summed z ↦ λ h. sum_typed cs fits.0 z fits.1 fits.3
       | extreme o ↦ λ h. absurd h
@@ -103,7 +103,7 @@ finished-typed lets from (sum_of e) cs rows kept fits typed =
       | collected vs ↦ λ h. absurd h
     ]
 finished-typed lets from (least_of e) cs rows kept fits typed =
-    elim kept as (Ends-typed (least_of e) cs rows) [
+    elim kept as (Finishes-typed (least_of e) cs rows) [
       | counted n ↦ λ h. absurd h
       | summed z ↦ λ h. absurd h
       | extreme o ↦ λ h. extreme_typed cs fits.0 rows (side_cmp side.Least) o fits.1 typed h
@@ -111,7 +111,7 @@ finished-typed lets from (least_of e) cs rows kept fits typed =
       | collected vs ↦ λ h. absurd h
     ]
 finished-typed lets from (greatest_of e) cs rows kept fits typed =
-    elim kept as (Ends-typed (greatest_of e) cs rows) [
+    elim kept as (Finishes-typed (greatest_of e) cs rows) [
       | counted n ↦ λ h. absurd h
       | summed z ↦ λ h. absurd h
       | extreme o ↦ λ h. extreme_typed cs fits.0 rows (side_cmp side.Greatest) o fits.1 typed h
@@ -119,7 +119,7 @@ finished-typed lets from (greatest_of e) cs rows kept fits typed =
       | collected vs ↦ λ h. absurd h
     ]
 finished-typed lets from (at_greatest e is) cs rows kept fits typed =
-    elim kept as (Ends-typed (at_greatest e is) cs rows) [
+    elim kept as (Finishes-typed (at_greatest e is) cs rows) [
       | counted n ↦ λ h. absurd h
       | summed z ↦ λ h. absurd h
       | extreme o ↦ λ h. absurd h
@@ -127,7 +127,7 @@ finished-typed lets from (at_greatest e is) cs rows kept fits typed =
       | collected vs ↦ λ h. absurd h
     ]
 finished-typed lets from (at_least e is) cs rows kept fits typed =
-    elim kept as (Ends-typed (at_least e is) cs rows) [
+    elim kept as (Finishes-typed (at_least e is) cs rows) [
       | counted n ↦ λ h. absurd h
       | summed z ↦ λ h. absurd h
       | extreme o ↦ λ h. absurd h
@@ -135,7 +135,7 @@ finished-typed lets from (at_least e is) cs rows kept fits typed =
       | collected vs ↦ λ h. absurd h
     ]
 finished-typed lets from (any_of is) cs rows kept fits typed =
-    elim kept as (Ends-typed (any_of is) cs rows) [
+    elim kept as (Finishes-typed (any_of is) cs rows) [
       | counted n ↦ λ h. absurd h
       | summed z ↦ λ h. absurd h
       | extreme o ↦ λ h. absurd h
@@ -143,7 +143,7 @@ finished-typed lets from (any_of is) cs rows kept fits typed =
       | collected vs ↦ λ h. absurd h
     ]
 finished-typed lets from (set_of e n) cs rows kept fits typed =
-    elim kept as (Ends-typed (set_of e n) cs rows) [
+    elim kept as (Finishes-typed (set_of e n) cs rows) [
       | counted n ↦ λ h. absurd h
       | summed z ↦ λ h. absurd h
       | extreme o ↦ λ h. absurd h

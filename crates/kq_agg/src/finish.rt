@@ -2,7 +2,7 @@
 ghost use Rattle.std.specs.Prelude.{◌≡◌, ◌++◌, OnOk, map};
 ghost use Rattle.kq_value.specs.Typed.{missing_of};
 ghost use Rattle.kq_agg.specs.Holds.{chosen, extreme, finished, summed};
-ghost use Rattle.kq_agg.specs.Steps.{Ends, Puts};
+ghost use Rattle.kq_agg.specs.Steps.{Finishes, Puts};
 
 use crate::sum::Sum;
 use kq_computed::EvalFault;
@@ -10,7 +10,7 @@ use kq_value::{Memory, Row, Ty, Value};
 use std::alloc::Global;
 
 pub(crate) fn put_sum(sum: &Sum, types: &[Ty], out: &mut Vec<Value>) -> Result<(), EvalFault>
-    ensures { Ends types.now (summed sum.now) out.old.items out.new.items result }
+    ensures { Finishes types.now (summed sum.now) out.old.items out.new.items result }
 {
     let value = sum.finish(types)?;
     out.push(value)?;

@@ -25,14 +25,14 @@ pub enum Kind {
     MakeSet(u64),
 }
 
-/// Which end of an order is taken.
+// Which end of an order is taken.
 #[derive(Clone, Copy)]
 pub(crate) enum Side {
     Least,
     Greatest,
 }
 
-/// Which row of a group is taken: by its first cell, or any.
+// Which row of a group is taken: by its first cell, or any.
 #[derive(Clone, Copy)]
 pub(crate) enum Choice {
     By(Side),

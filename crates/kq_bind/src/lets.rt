@@ -21,7 +21,7 @@ use kq_spelled::{name_place, name_text};
 use kq_value::{Field, Memory, Text};
 use std::alloc::Global;
 
-/// The steps so far, and the lets of both kinds.
+// The steps so far, and the lets of both kinds.
 #[derive(Drop)]
 pub(crate) struct Lets {
     pub progress: Progress,
@@ -214,7 +214,7 @@ fn let_made<N: Names>(
     }
 }
 
-/// These lets behind those, in their order.
+// These lets behind those, in their order.
 pub(crate) fn lets_made<N: Names>(
     alloc: Global,
     text: &str,

@@ -20,7 +20,7 @@ use kq_plan::Names;
 use kq_syntax::Symbol;
 use std::alloc::Global;
 
-/// What a pipe is bound to after these steps, or its first fault.
+// What a pipe is bound to after these steps, or its first fault.
 #[cycle(pipe)]
 pub(crate) fn bind_tabular<N: Names>(
     alloc: Global,

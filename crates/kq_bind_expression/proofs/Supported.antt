@@ -13,7 +13,7 @@ use Rattle.kq_fn.specs.declared.function.Function.{Function}
 use Rattle.kq_fn.specs.declared.function.Function.TheVariants as f
 use Rattle.kq_fn.specs.Names.{function_named}
 use Rattle.kq_fn.specs.Table.{chosen, Chosen}
-use Rattle.kq_grammar.specs.Trees.{Strength, Tree, name, literal, group, call, path, signed, compare, within, between, chain, Trees, no_tree, and_tree, Links, no_link, and_link, OneStep, member, index, Steps, no_step, and_step}
+use Rattle.kq_grammar.specs.Trees.{Precedence, Tree, name, literal, group, call, path, signed, compare, within, between, chain, Trees, no_tree, and_tree, Links, no_link, and_link, OneStep, member, index, Steps, no_step, and_step}
 use Rattle.kq_spelled.specs.Literals.{literal_value}
 use Rattle.kq_spelled.specs.Names.{name_said, name_place}
 use Rattle.kq_spelled.specs.Pieces.{piece}
@@ -105,7 +105,7 @@ mutual
       then_fine (bound s cs a) (λ x. and_then (bounds s cs es) (λ xs. Ok (x ∷ xs))) (bound_supported s cs a q.0)
       (λ x. then_fine (bounds s cs es) (λ xs. Ok (x ∷ xs)) (bounds_supported s cs es q.1) (λ xs. fine (x ∷ xs)))
 
-  chained_supported : (s : Names) (cs : List Field) (l : Strength) (x : Bound) (ls : Links) → unsupported_links s.text ls ≡ None → IsSupported (chained s cs l x ls)
+  chained_supported : (s : Names) (cs : List Field) (l : Precedence) (x : Bound) (ls : Links) → unsupported_links s.text ls ≡ None → IsSupported (chained s cs l x ls)
   chained_supported s cs l x no_link h = fine x
   chained_supported s cs l x (and_link t b ls) h =
       let q = both_none (unsupported_in s.text b) (unsupported_links s.text ls) h in

@@ -16,7 +16,7 @@ use Rattle.kq_spelled.proofs.Proper.{literal_proper}
 use Rattle.kq_value.specs.Typed.{IsProper}
 use Rattle.kq_syntax.specs.declared.kind.Symbol.{Symbol}
 use Rattle.kq_bind_expression.specs.Names.{Names}
-use Rattle.kq_grammar.specs.Trees.{Strength, Tree, name, literal, group, call, path, signed, compare, within, between, chain, Trees, no_tree, and_tree, Links, no_link, and_link, OneStep, member, index, Steps, no_step, and_step}
+use Rattle.kq_grammar.specs.Trees.{Precedence, Tree, name, literal, group, call, path, signed, compare, within, between, chain, Trees, no_tree, and_tree, Links, no_link, and_link, OneStep, member, index, Steps, no_step, and_step}
 use Rattle.kq_expr.specs.Terms.{column, cell, call as called, Terms, terms_of, Bound}
 use Rattle.kq_bind_expression.specs.Verdicts.{Fault, unsupported, unknown, Verdict, and_then, or_fault}
 use Rattle.kq_bind_expression.specs.Lookup.{first_named, made, or_else, meant, named}
@@ -179,7 +179,7 @@ mutual
       let is : (y.0 ∷ ys.0) ≡ xs = ok_is _ _ ys.2 in
       subst (AllGood s cs) is (bound_good s cs a y.0 y.1, bounds_good s cs es ys.0 ys.1)
 
-  chained_good : (s : Names) (cs : List Field) (l : Strength) (y : Bound) (ls : Links) (x : Bound) → Good s cs y → chained s cs l y ls ≡ Ok x → Good s cs x
+  chained_good : (s : Names) (cs : List Field) (l : Precedence) (y : Bound) (ls : Links) (x : Bound) → Good s cs y → chained s cs l y ls ≡ Ok x → Good s cs x
   chained_good s cs l y no_link x h e = ok_good s cs y x h e
   chained_good s cs l y (and_link t b ls) x h e =
       let z = then_ok (apply (operation l t.kind) t.from (Ok y ∷ bound s cs b ∷ [])) (λ z. chained s cs l z ls) x e in

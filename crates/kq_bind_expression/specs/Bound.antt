@@ -10,7 +10,7 @@ use Rattle.kq_fn.specs.declared.function.Function.{Function}
 use Rattle.kq_fn.specs.declared.function.Function.TheVariants as f
 use Rattle.kq_fn.specs.Names.{function_named}
 use Rattle.kq_grammar.specs.declared.expression.Name.{Name}
-use Rattle.kq_grammar.specs.Trees.{Strength, Tree, name, literal, group, call, path, signed, compare, within, between, chain, Trees, no_tree, and_tree, Links, no_link, and_link, OneStep, member, index, Steps, no_step, and_step}
+use Rattle.kq_grammar.specs.Trees.{Precedence, Tree, name, literal, group, call, path, signed, compare, within, between, chain, Trees, no_tree, and_tree, Links, no_link, and_link, OneStep, member, index, Steps, no_step, and_step}
 use Rattle.kq_spelled.specs.Literals.{literal_value}
 use Rattle.kq_spelled.specs.Names.{name_said}
 use Rattle.kq_spelled.specs.Pieces.{piece}
@@ -52,8 +52,8 @@ abbrev mutual
   bounds s cs no_tree = Ok []
   bounds s cs (and_tree e es) = and_then (bound s cs e) (λ x. and_then (bounds s cs es) (λ xs. Ok (x ∷ xs)))
 
-  -- operands of one strength are paired from the left
-  pub chained : Names → List Field → Strength → Bound → Links → Verdict Bound
+  -- operands of one precedence are paired from the left
+  pub chained : Names → List Field → Precedence → Bound → Links → Verdict Bound
   chained s cs l x no_link = Ok x
   chained s cs l x (and_link t e ls) = and_then (apply (operation l t.kind) t.from (Ok x ∷ bound s cs e ∷ [])) (λ y. chained s cs l y ls)
 

@@ -1,7 +1,7 @@
 -- Which function an operator is. Each class of operators has its own; another symbol, which doesn't stand there, counts as the first of them.
 use Rattle.kq_fn.specs.declared.function.Function.{Function}
 use Rattle.kq_fn.specs.declared.function.Function.TheVariants as f
-use Rattle.kq_grammar.specs.Trees.{Strength, disjunction, conjunction, sum, product}
+use Rattle.kq_grammar.specs.Trees.{Precedence, disjunction, conjunction, sum, product}
 use Rattle.kq_strings.specs.declared.find.FindKind.TheVariants as find
 use Rattle.kq_syntax.specs.declared.kind.Kind.{Kind}
 use Rattle.kq_syntax.specs.declared.kind.Kind.TheVariants as kind
@@ -65,7 +65,7 @@ abbrev pub interval : Kind → Function
 interval (kind.WordOperator negated.NotBetween) = f.NotBetween
 interval _ = f.Between
 
-abbrev pub operation : Strength → Kind → Function
+abbrev pub operation : Precedence → Kind → Function
 operation disjunction k = f.Or
 operation conjunction k = f.And
 operation sum (kind.Operator operator.Minus) = f.Subtract

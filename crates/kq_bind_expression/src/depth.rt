@@ -13,7 +13,7 @@ use kq_grammar::{Expression, Interval, Link, Step};
 use kq_value::Field;
 use std::alloc::Global;
 
-/// Calls that nest deeper could be more than the stack of a thread holds: operands of a chain nest to the left, so that each is a level.
+// Calls that nest deeper could be more than the stack of a thread holds: operands of a chain nest to the left, so that each is a level.
 const MOST_DEPTH: usize = 8_192;
 
 #[cycle(depth)]

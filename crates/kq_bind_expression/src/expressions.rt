@@ -7,7 +7,7 @@ ghost use Rattle.kq_bind_expression.specs.Operators as the;
 ghost use Rattle.kq_bind_expression.specs.Seen.{all_typed};
 ghost use Rattle.kq_bind_expression.specs.Verdicts.{Answers};
 ghost use Rattle.kq_expr.specs.Terms.{typed_of};
-ghost use Rattle.kq_grammar.specs.Views.{tree_of, trees_of, link_of, links_of, interval_of, step_of, steps_of, strength_of};
+ghost use Rattle.kq_grammar.specs.Views.{tree_of, trees_of, link_of, links_of, interval_of, step_of, steps_of, precedence_of};
 
 use crate::apply::{apply, apply_to_one, apply_to_three, apply_to_two, with_two_before};
 use crate::fault::BindFault;
@@ -22,7 +22,7 @@ use kq_syntax::Symbol;
 use kq_value::{Field, Ty, Value};
 use std::alloc::Global;
 
-/// What an expression is bound to over these columns, or its first fault.
+// What an expression is bound to over these columns, or its first fault.
 #[cycle(bind)]
 pub(crate) fn bind_tree(
     alloc: Global,
@@ -158,7 +158,7 @@ fn bind_link(
 ) -> Result<Typed, BindFault>
     ensures { let r = link_of link.now in
         let operands = Ok (typed_of left) ∷ bound (names_of scope.now) columns.now r.1 ∷ [] in
-        Answers typed_of (the_apply (the.operation (strength_of level) r.0.kind) r.0.from operands) result }
+        Answers typed_of (the_apply (the.operation (precedence_of level) r.0.kind) r.0.from operands) result }
 {
     let operand = bind_tree(alloc, scope, columns, &link.operand)?;
     apply_to_two(
@@ -179,7 +179,7 @@ fn bind_links(
     first: Typed,
     links: &Vec<Link>,
 ) -> Result<Typed, BindFault>
-    ensures { Answers typed_of (chained (names_of scope.now) columns.now (strength_of level) (typed_of first) (links_of (map link_of links.now.items))) result }
+    ensures { Answers typed_of (chained (names_of scope.now) columns.now (precedence_of level) (typed_of first) (links_of (map link_of links.now.items))) result }
 {
     let mut left = first;
     for link in links {

@@ -1,7 +1,7 @@
 // Which function an operator is.
 ghost use Rattle.std.specs.Prelude.{◌≡◌};
 ghost use Rattle.kq_bind_expression.specs.Operators as the;
-ghost use Rattle.kq_grammar.specs.Views.{strength_of};
+ghost use Rattle.kq_grammar.specs.Views.{precedence_of};
 
 use kq_fn::Function;
 use kq_grammar::Level;
@@ -97,7 +97,7 @@ pub fn interval(kind: Kind) -> Function
 }
 
 pub fn operation(level: Level, kind: Kind) -> Function
-    ensures { result ≡ the.operation (strength_of level) kind }
+    ensures { result ≡ the.operation (precedence_of level) kind }
 {
     match level {
         Level::Disjunction => Function::Or,

@@ -62,7 +62,7 @@ fn some_asks_moment(steps: &[Step]) -> bool
     false
 }
 
-/// Whether the leaves of a plan are tables alone, the source among them, and no step asks for the moment of a command. Takes no memory.
+// Whether the leaves of a plan are tables alone, the source among them, and no step asks for the moment of a command. Takes no memory.
 pub(crate) fn is_policy_body(plan: &Plan, source: &Text) -> bool
     ensures { IsTrue result ↔ IsPolicyBody source.now (planned_of plan.now) }
 {

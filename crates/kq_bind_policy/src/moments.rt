@@ -81,7 +81,7 @@ fn some_aggregate_asks(aggregates: &[Aggregate]) -> bool
     false
 }
 
-/// Whether some expression of a step calls `now` or `ago`.
+// Whether some expression of a step calls `now` or `ago`.
 pub(crate) fn work_asks(work: &Work) -> bool
     ensures { result ≡ the.step_asks (doing_of work.now) }
 {

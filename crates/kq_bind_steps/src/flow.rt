@@ -37,7 +37,7 @@ pub fn next_stage(progress: Progress) -> Result<Progress, BindFault>
     }
 }
 
-/// A step of this stage at the end, whose rows go on.
+// A step of this stage at the end, whose rows go on.
 pub(crate) fn added(
     progress: Progress,
     stage: u32,
@@ -69,7 +69,7 @@ pub fn following(progress: Progress, work: Work, columns: Vec<Field>) -> Result<
     added(progress, stage, work, columns)
 }
 
-/// The rows of an earlier step go on, at one stage more.
+// The rows of an earlier step go on, at one stage more.
 pub(crate) fn again(progress: Progress, input: usize) -> Result<Flow, BindFault>
     ensures { Answers flow_of (Ok (the_again (progress_of progress) input)) result }
 {
@@ -79,7 +79,7 @@ pub(crate) fn again(progress: Progress, input: usize) -> Result<Flow, BindFault>
     })
 }
 
-/// The columns of a step.
+// The columns of a step.
 pub(crate) fn columns_at(steps: &[Step], number: usize) -> &[Field]
     ensures { result.now ≡ the_columns_at (map stepping_of steps.now) number }
 {
@@ -89,14 +89,14 @@ pub(crate) fn columns_at(steps: &[Step], number: usize) -> &[Field]
     }
 }
 
-/// The columns of the rows that go on.
+// The columns of the rows that go on.
 pub(crate) fn columns(flow: &Flow) -> &[Field]
     ensures { result.now ≡ the_columns (flow_of flow.now) }
 {
     columns_at(&flow.progress.steps, flow.input)
 }
 
-/// A second list of the same columns.
+// A second list of the same columns.
 pub(crate) fn copied(alloc: Global, columns: &[Field]) -> Result<Vec<Field>, Memory>
     ensures { IfOk result (λ v. v.items ≡ columns.now) }
 {

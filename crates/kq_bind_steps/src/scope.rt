@@ -33,7 +33,7 @@ pub struct Scope<'a, N> {
     pub names: &'a N,
 }
 
-/// What expressions see of it.
+// What expressions see of it.
 pub(crate) fn expression_scope<'a, N: Names>(scope: &Scope<'a, N>) -> kq_bind_expression::Scope<'a>
     ensures { names_of result ≡ the_names (scoping_of N.known scope.now) }
 {

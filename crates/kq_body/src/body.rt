@@ -89,12 +89,12 @@ fn lets_place(text: &str, lets: &[Let]) -> Option<usize>
 
 // ---- a pipe
 
-/// What an operator may be in a view's body.
+// What an operator may be in a view's body.
 #[derive(Clone, Copy, Debug, PartialEq, Eq)]
 pub(crate) enum Role {
     Row,
     Summarize,
-    /// None that a body has.
+    // None that a body has.
     Foreign,
 }
 

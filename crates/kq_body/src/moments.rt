@@ -24,7 +24,7 @@ fn moment(text: &str, function: Symbol) -> Option<usize>
     }
 }
 
-/// The place of the leftmost call of `now` or `ago` in an expression.
+// The place of the leftmost call of `now` or `ago` in an expression.
 #[cycle(moments)]
 pub(crate) fn moment_in(text: &str, tree: &Expression) -> Option<usize>
     ensures { result ≡ the.moment_in text.now (tree_of tree.now) }
@@ -220,7 +220,7 @@ fn in_grouping(text: &str, keys: &Option<Grouping>) -> Option<usize>
     }
 }
 
-/// The place of the leftmost call of `now` or `ago` in an operator that a view's body may have.
+// The place of the leftmost call of `now` or `ago` in an operator that a view's body may have.
 pub(crate) fn moment_in_body(text: &str, body: &OperatorBody) -> Option<usize>
     ensures { result ≡ the.moment_in_body text.now (body_of body.now) }
 {

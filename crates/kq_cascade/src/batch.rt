@@ -72,7 +72,7 @@ impl BatchRows {
         self.lent.as_ref()
     }
 
-    /// Lays the rows out where they aren't yet.
+    // Lays the rows out where they aren't yet.
     pub(crate) fn lay_out<T: Tables>(&mut self, alloc: Global, tables: &T) -> Result<(), Memory>
         requires { IsTyped (T.rules tables.now).columns self.old }
         ensures { self.new ≡ self.old }

@@ -10,7 +10,7 @@ use kq_model::{Cause, Due, Failure, Failures};
 use kq_value::Memory;
 use std::alloc::Global;
 
-/// What came of a batch so far: batches and failures, the batch whose entries run, and below it those whose entry made the one above.
+// What came of a batch so far: batches and failures, the batch whose entries run, and below it those whose entry made the one above.
 #[derive(Drop)]
 pub(crate) struct Progress {
     batches: Vec<BatchRows>,

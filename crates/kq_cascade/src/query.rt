@@ -18,7 +18,7 @@ use std::alloc::Global;
 // The most rows of a batch that comes of another.
 const MOST_ROWS: u64 = 1048576;
 
-/// The rows that the query of an entry gives over a batch of its source, or the cause by which it fails.
+// The rows that the query of an entry gives over a batch of its source, or the cause by which it fails.
 pub(crate) fn query<T: Tables>(
     alloc: Global,
     tables: &T,
@@ -39,7 +39,7 @@ pub(crate) fn query<T: Tables>(
     }
 }
 
-/// What a query gave, as a batch of the entry's target.
+// What a query gave, as a batch of the entry's target.
 pub(crate) fn next_batch<T: Tables>(
     alloc: Global,
     tables: &T,

@@ -25,7 +25,7 @@ use Rattle.kq_model.specs.Tables.{TableState}
 use Rattle.kq_catalog.specs.declared.edit.Change.{Change}
 use Rattle.kq_catalog.specs.declared.edit.Change.TheVariants.{PutTable, PutExtent, PutColumns}
 use Rattle.kq_catalog.specs.Edits.{edit_of, edits_by, empty_table, with_extent, put_in, put_all, wider_table}
-use Rattle.kq_catalog.specs.Held.{HeldTable, tables_in, item_by, AreItems, IsHeld}
+use Rattle.kq_catalog.specs.Held.{HeldTable, tables_in, extent_item, AreItems, IsHeld}
 use Rattle.kq_model.specs.Changed.{changed}
 use Rattle.kq_model.specs.History.{widened_table}
 
@@ -103,26 +103,26 @@ wide_held-put fields held e = ap by_size (is_small-wide fields e) ∙ by_test (i
     by_test true = ap (λ (es : List ExtentView). let wider : HeldExtents = record { small = es; big = map (wide fields) held.big } in wider) (sym (map_push (wide fields) held.small e))
     by_test false = ap (λ (es : List ExtentView). let wider : HeldExtents = record { small = map (wide fields) held.small; big = es } in wider) (sym (map_push (wide fields) held.big e))
 
-is_small-item : (e : ExtentView) → is_small_item (item_by e) ≡ is_small e
+is_small-item : (e : ExtentView) → is_small_item (extent_item e) ≡ is_small e
 is_small-item e = ap (λ (n : ℕ). nat_lt n 4096) (length-map e.records (λ (r : Record). r.id))
 
 abbrev is_big_item : ExtentItem → Bool
 is_big_item i = not (is_small_item i)
 
 -- and is an item more
-pub items-put : (held : HeldExtents) (e : ExtentView) (items : List ExtentItem) → AreItems items held → AreItems (items ++ item_by e ∷ []) (put held e)
+pub items-put : (held : HeldExtents) (e : ExtentView) (items : List ExtentItem) → AreItems items held → AreItems (items ++ extent_item e ∷ []) (put held e)
 items-put held e items are = by_test (is_small e) refl
   where
-    by_test : (b : Bool) → is_small e ≡ b → AreItems (items ++ item_by e ∷ []) (cond b (record { small = held.small ++ e ∷ []; big = held.big }) (record { small = held.small; big = held.big ++ e ∷ [] }))
+    by_test : (b : Bool) → is_small e ≡ b → AreItems (items ++ extent_item e ∷ []) (cond b (record { small = held.small ++ e ∷ []; big = held.big }) (record { small = held.small; big = held.big ++ e ∷ [] }))
     by_test true is = record {
-      small = map_push item_by held.small e ∙ ap (λ (xs : List ExtentItem). xs ++ item_by e ∷ []) are.small
-          ∙ sym (filter-append is_small_item items (item_by e ∷ []) ∙ ap (λ (b : Bool). filter is_small_item items ++ cond b (item_by e ∷ []) []) (is_small-item e ∙ is));
-      big = are.big ∙ sym (filter-append is_big_item items (item_by e ∷ []) ∙ ap (λ (b : Bool). filter is_big_item items ++ cond (not b) (item_by e ∷ []) []) (is_small-item e ∙ is) ∙ append-nil (filter is_big_item items));
+      small = map_push extent_item held.small e ∙ ap (λ (xs : List ExtentItem). xs ++ extent_item e ∷ []) are.small
+          ∙ sym (filter-append is_small_item items (extent_item e ∷ []) ∙ ap (λ (b : Bool). filter is_small_item items ++ cond b (extent_item e ∷ []) []) (is_small-item e ∙ is));
+      big = are.big ∙ sym (filter-append is_big_item items (extent_item e ∷ []) ∙ ap (λ (b : Bool). filter is_big_item items ++ cond (not b) (extent_item e ∷ []) []) (is_small-item e ∙ is) ∙ append-nil (filter is_big_item items));
     }
     by_test false is = record {
-      small = are.small ∙ sym (filter-append is_small_item items (item_by e ∷ []) ∙ ap (λ (b : Bool). filter is_small_item items ++ cond b (item_by e ∷ []) []) (is_small-item e ∙ is) ∙ append-nil (filter is_small_item items));
-      big = map_push item_by held.big e ∙ ap (λ (xs : List ExtentItem). xs ++ item_by e ∷ []) are.big
-          ∙ sym (filter-append is_big_item items (item_by e ∷ []) ∙ ap (λ (b : Bool). filter is_big_item items ++ cond (not b) (item_by e ∷ []) []) (is_small-item e ∙ is));
+      small = are.small ∙ sym (filter-append is_small_item items (extent_item e ∷ []) ∙ ap (λ (b : Bool). filter is_small_item items ++ cond b (extent_item e ∷ []) []) (is_small-item e ∙ is) ∙ append-nil (filter is_small_item items));
+      big = map_push extent_item held.big e ∙ ap (λ (xs : List ExtentItem). xs ++ extent_item e ∷ []) are.big
+          ∙ sym (filter-append is_big_item items (extent_item e ∷ []) ∙ ap (λ (b : Bool). filter is_big_item items ++ cond (not b) (extent_item e ∷ []) []) (is_small-item e ∙ is));
     }
 
 -- an extent more of a table

@@ -22,19 +22,19 @@ use Rattle.kq_model.specs.Edits.{changed, with_merged as state_merged}
 use Rattle.kq_model.specs.History.{History, Log, log, tables}
 use Rattle.kq_model.specs.Lawful.{AreLawful, IsMerge}
 use Rattle.kq_model.specs.Policies.{noted, policies}
-use Rattle.kq_model.specs.Records.{ExtentItem, extents, has_id_of, ids_of, is_small_item, item_ids, made_in, merged, picked, records, schema_of, small_items, united}
+use Rattle.kq_model.specs.Records.{ExtentItem, extents, has_id_of, ids_of, is_small_item, item_ids, extents_made, merged, picked, records, schema_of, small_items, united}
 use Rattle.kq_model.specs.Tables.{TableState, states_from, table_states}
 use Rattle.kq_model.proofs.Bounded.{no_items}
 use Rattle.kq_model.proofs.Histories.{AreLawful-push, log-append, log-push}
 use Rattle.kq_model.proofs.Merging.{Goes_on, Takes, first_picked, gone_after, lawful_parts, merge-takes, still_first}
-use Rattle.kq_model.proofs.Records.{made_in-push}
+use Rattle.kq_model.proofs.Records.{extents_made-push}
 use Rattle.kq_model.proofs.States.{table_states-merge}
 use Rattle.kq_model.proofs.Growing.{records-go_on, tables-stay}
 use Rattle.kq_model.proofs.Unique.{same_by_ids}
 use Rattle.kq_tagged.specs.declared.entry.Entry.{Entry}
 use Rattle.kq_catalog.specs.declared.merging.Merging.{Merging}
 use Rattle.kq_catalog.specs.Edits.{with_merged}
-use Rattle.kq_catalog.specs.Held.{AreItems, HeldTable, IsHeld, item_by}
+use Rattle.kq_catalog.specs.Held.{AreItems, HeldTable, IsHeld, extent_item}
 use Rattle.kq_catalog.specs.Merges.{IsGone, IsInFront, IsUnion, WasPicked, comes_first, merge_event}
 use Rattle.kq_catalog.specs.Seen.{CatalogView, Holds, Sound, hist}
 use Rattle.kq_catalog.specs.Tagged.{TellsTags}
@@ -64,15 +64,15 @@ records_apart fields k held e is =
     (subst (λ (rs : List Record). IsPermutation rs (map f (held_records held))) (sym same) (IsPermutation-map f (held_records left ++ first) (held_records held) apart))
 
 -- and so it is with the extents
-items_merged : (k : ℕ) (held : HeldExtents) (e : ExtentView) (items : List ExtentItem) (old : List ℕ) (new : ℕ) → AreItems items held → Takes is_small_item k items old → item_by e ≡ united new (filter (has_id_of old) items)
+items_merged : (k : ℕ) (held : HeldExtents) (e : ExtentView) (items : List ExtentItem) (old : List ℕ) (new : ℕ) → AreItems items held → Takes is_small_item k items old → extent_item e ≡ united new (filter (has_id_of old) items)
     → AreItems (merged old new items) (put (without_first k held) e)
 items_merged k held e items old new are takes is =
     let keeps = filter (λ i. not (has_id_of old i)) items in
     subst (λ (i : ExtentItem). AreItems (keeps ++ i ∷ []) (put (without_first k held) e)) is
-    (items-put (without_first k held) e keeps (record { small = sym (drop-map item_by k held.small) ∙ ap (drop k) are.small ∙ sym takes.some; big = are.big ∙ sym takes.others }))
+    (items-put (without_first k held) e keeps (record { small = sym (drop-map extent_item k held.small) ∙ ap (drop k) are.small ∙ sym takes.some; big = are.big ∙ sym takes.others }))
 
 held_merged : (k : ℕ) (e : ExtentView) (h : HeldTable) (s : TableState) (old : List ℕ) (new : ℕ) → IsHeld h s → widened_records h.table.schema e.records ≡ widened_records h.table.schema (records_in (take k h.extents.small)) → Takes is_small_item k s.items old
-    → item_by e ≡ united new (filter (has_id_of old) s.items) → IsHeld (with_merged k e h) (state_merged old new s)
+    → extent_item e ≡ united new (filter (has_id_of old) s.items) → IsHeld (with_merged k e h) (state_merged old new s)
 held_merged k e h s old new held records takes is =
     let fields = h.table.schema in
     let now = put (without_first k h.extents) e in
@@ -100,7 +100,7 @@ first_rows rs held n once =
     all_left P (records_in (take n held.small)) (records_in (drop n held.small)) (subst (All P) parts (all_left P (records_in held.small) (records_in held.big) all))
 
 -- the record ids of extents are those of their items
-pub ids_in_items : (es : List ExtentView) → ids_of (records_in es) ≡ flat_map (λ (i : ExtentItem). i.records) (map item_by es)
+pub ids_in_items : (es : List ExtentView) → ids_of (records_in es) ≡ flat_map (λ (i : ExtentItem). i.records) (map extent_item es)
 ids_in_items [] = refl
 ids_in_items (e ∷ es) = map-append (λ (r : Record). r.id) e.records (records_in es) ∙ ap (λ (ids : List RecordId). ids_of e.records ++ ids) (ids_in_items es)
 
@@ -164,10 +164,10 @@ stands_first c m sound picked_then front = by_small (small_items (hist c) t) ref
 -- what is known of a merge whose old extents still stand first
 pub record IsMergedNow (c : CatalogView) (m : Merging) (x : HeldTable) : Type 0 where
   pub within : length m.old ≤ length x.extents.small
-  pub lawful : IsMerge (hist c) m.table m.old (1 + made_in (hist c))
+  pub lawful : IsMerge (hist c) m.table m.old (1 + extents_made (hist c))
   pub records : widened_records x.table.schema m.extent.records ≡ widened_records x.table.schema (records_in (take (length m.old) x.extents.small))
   pub takes : Takes is_small_item (length m.old) (extents (hist c) m.table) m.old
-  pub item : (new : ℕ) → item_by (record { id = new; records = m.extent.records; tags = m.extent.tags }) ≡ united new (filter (has_id_of m.old) (extents (hist c) m.table))
+  pub item : (new : ℕ) → extent_item (record { id = new; records = m.extent.records; tags = m.extent.tags }) ≡ united new (filter (has_id_of m.old) (extents (hist c) m.table))
 
 pub merged_now : (c : CatalogView) (m : Merging) (x : HeldTable) → Sound c → WasPicked (hist c) m → IsInFront (small_items (hist c) m.table) m.old → slice_get c.held m.table ≡ Some x → IsMergedNow c m x
 merged_now c m x sound picked_then front at = record {
@@ -224,7 +224,7 @@ merged_now c m x sound picked_then front at = record {
 
     small_long : length (small_items h t) ≤ length x.extents.small
     small_long =
-        let same = sym (length-map x.extents.small item_by) ∙ ap length held.in_order.small in
+        let same = sym (length-map x.extents.small extent_item) ∙ ap length held.in_order.small in
         let more = ap length stands.is ∙ length-append (small_items h t) stands.more in
         omega (arith, same, more)
 
@@ -254,7 +254,7 @@ merged_now c m x sound picked_then front at = record {
     same_ids : ids_of m.extent.records ≡ ids_of (records_in (take (length m.old) x.extents.small))
     same_ids =
         let records_of : List ExtentItem → List RecordId = flat_map (λ (i : ExtentItem). i.records) in
-        ap (λ (i : ExtentItem). i.records) union.same ∙ ap records_of (sym taken ∙ ap (take k) (sym held.in_order.small) ∙ take-map item_by k x.extents.small)
+        ap (λ (i : ExtentItem). i.records) union.same ∙ ap records_of (sym taken ∙ ap (take k) (sym held.in_order.small) ∙ take-map extent_item k x.extents.small)
         ∙ sym (ids_in_items (take k x.extents.small)) ∙ ap (λ (n : ℕ). ids_of (records_in (take n x.extents.small))) (sym long)
 
 -- the first of the old extents is gone where it isn't in front
@@ -275,12 +275,12 @@ gone_now c m id others sound picked_then is not_front =
     record { others = others; is = is; gone = ap (λ (n : ℕ). list_any (nat_eq n) (item_ids (extents (hist c) t))) (sym same) ∙ ap (λ (g : History). list_any (nat_eq begins.first.id) (item_ids (extents g t))) (sym whole) ∙ gone }
 
 -- the first of the small extents that are held is the history's first
-pub front_some : (id : ℕ) (small : List ExtentView) (items : List ExtentItem) (e : ExtentView) → map item_by small ≡ items → slice_get small 0 ≡ Some e → nat_eq e.id id ≡ comes_first id items
+pub front_some : (id : ℕ) (small : List ExtentView) (items : List ExtentItem) (e : ExtentView) → map extent_item small ≡ items → slice_get small 0 ≡ Some e → nat_eq e.id id ≡ comes_first id items
 front_some id [] items e are is = cc
 front_some id (x ∷ small) items e are is = let same : e ≡ x = cc in ap (λ (y : ExtentView). nat_eq y.id id) same ∙ ap (comes_first id) are
 
-pub front_none : (id : ℕ) (small : List ExtentView) (items : List ExtentItem) → map item_by small ≡ items → small ≡ [] → false ≡ comes_first id items
-front_none id small items are none = ap (λ (es : List ExtentView). comes_first id (map item_by es)) (sym none) ∙ ap (comes_first id) are
+pub front_none : (id : ℕ) (small : List ExtentView) (items : List ExtentItem) → map extent_item small ≡ items → small ≡ [] → false ≡ comes_first id items
+front_none id small items are none = ap (λ (es : List ExtentView). comes_first id (map extent_item es)) (sym none) ∙ ap (comes_first id) are
 
 -- there is a first old extent
 pub first_id : (c : CatalogView) (m : Merging) → WasPicked (hist c) m → m.old ≡ slice_index_or m.old 0 0 ∷ drop 1 m.old
@@ -318,7 +318,7 @@ some_held n [] within = absurd (omega (arith, within))
 some_held zero (x ∷ xs) within = (x, refl)
 some_held (suc n) (x ∷ xs) within = some_held n xs (omega (arith, within))
 
-pub merge_lawful : (c : CatalogView) (m : Merging) → Sound c → WasPicked (hist c) m → IsInFront (small_items (hist c) m.table) m.old → IsMerge (hist c) m.table m.old (1 + made_in (hist c))
+pub merge_lawful : (c : CatalogView) (m : Merging) → Sound c → WasPicked (hist c) m → IsInFront (small_items (hist c) m.table) m.old → IsMerge (hist c) m.table m.old (1 + extents_made (hist c))
 merge_lawful c m sound picked_then front =
     let stands = table_stands c m sound picked_then in
     let held = some_held m.table c.held (let n = count_held c sound in omega (arith, stands, n)) in
@@ -336,15 +336,15 @@ items_at h n (suc i) k (t ∷ ts) s at is = items_at h (n + 1) i k ts s (omega (
 pub Holds-merge : (c : CatalogView) (cursor made : ℕ) (by : By) (m : Merging) (index : List Entry) → Holds c cursor made index → WasPicked (hist c) m → IsInFront (small_items (hist c) m.table) m.old
     → Holds (record {
       limits = c.limits;
-      history = hist c ++ merge_event by (1 + made_in (hist c)) m ∷ [];
-      held = changed (with_merged (length m.old) (record { id = 1 + made_in (hist c); records = m.extent.records; tags = m.extent.tags })) m.table c.held;
+      history = hist c ++ merge_event by (1 + extents_made (hist c)) m ∷ [];
+      held = changed (with_merged (length m.old) (record { id = 1 + extents_made (hist c); records = m.extent.records; tags = m.extent.tags })) m.table c.held;
       policies = c.policies;
       views = c.views;
       failures = c.failures;
     }) cursor (made + 1) index
 Holds-merge c cursor made by m index holds picked_then front =
     let h = hist c in
-    let new = 1 + made_in h in
+    let new = 1 + extents_made h in
     let event = merge_event by new m in
     let e : ExtentView = record { id = new; records = m.extent.records; tags = m.extent.tags } in
     let logged : log (h ++ event ∷ []) ≡ log h = log-push h event ∙ append-nil (log h) in
@@ -364,6 +364,6 @@ Holds-merge c cursor made by m index holds picked_then front =
         lawful = AreLawful-push c.limits h event holds.sound.lawful (record { operation = merge_lawful c m holds.sound picked_then front });
       };
       count = holds.count ∙ ap length (sym logged);
-      made_count = ap (λ (n : ℕ). n + 1) holds.made_count ∙ sym (made_in-push h event);
+      made_count = ap (λ (n : ℕ). n + 1) holds.made_count ∙ sym (extents_made-push h event);
       tags = subst (TellsTags index) (sym logged) holds.tags;
     }

@@ -17,13 +17,13 @@ use Rattle.kq_model.specs.Edits.{FitAll, edited_by, edits_of}
 use Rattle.kq_model.specs.History.{History, log, cursor as cursor_of, tables, commits_of}
 use Rattle.kq_model.specs.Lawful.{LawfulCommit, LawfulOperation}
 use Rattle.kq_model.specs.Policies.{noted, noted_by, policies, policies_with}
-use Rattle.kq_model.specs.Records.{records, rows_in, extents, made_by, made_in, made_of, records_given, schema_of}
+use Rattle.kq_model.specs.Records.{records, rows_in, extents, commit_extents, extents_made, operation_extents, records_given, schema_of}
 use Rattle.kq_widened.specs.Widened.{widened_record, widened_records}
 use Rattle.kq_model.specs.Tables.{TableState, states_from, table_states}
 use Rattle.kq_model.proofs.Bounded.{IsBounded, IsBounded-lawful, few_made}
 use Rattle.kq_model.proofs.Histories.{log-push, AreLawful-push}
 use Rattle.kq_model.proofs.Policies.{length-policies, noted-push, policies-push}
-use Rattle.kq_model.proofs.Records.{made_in-push}
+use Rattle.kq_model.proofs.Records.{extents_made-push}
 use Rattle.kq_model.proofs.States.{table_states-push, table_states-tables}
 use Rattle.kq_model.proofs.Fitting.{FitAll-lawful}
 use Rattle.kq_model.specs.Tagged.{is_tagged_by}
@@ -96,7 +96,7 @@ pub bounded : (c : CatalogView) → Sound c → IsBounded c.limits (log (hist c)
 bounded c sound = IsBounded-lawful c.limits (hist c) sound.lawful
 
 -- few extents were made beside the events
-pub made_few : (c : CatalogView) → Sound c → made_in (hist c) ≤ length (hist c) + 4398046510080
+pub made_few : (c : CatalogView) → Sound c → extents_made (hist c) ≤ length (hist c) + 4398046510080
 made_few c sound =
     let b = bounded c sound in
     omega (arith, few_made c.limits (hist c) sound.lawful, b.few_commits, c.limits.few_commits)
@@ -130,7 +130,7 @@ changes_fit c cursor id commit cs sound lawful are =
 -- a catalogue with one commit more
 pub Holds-push : (c : CatalogView) (cursor made more : ℕ) (event : Event) (intent : Intent) (cs : List Change) (index tags : List Entry) → Holds c cursor made index → LawfulCommit c.limits (log (hist c)) (commit_of intent) → Begins intent
     → event.operation ≡ operation.Commit (commit_of intent)
-    → edits_by cs ≡ edits_of (cursor_of (hist c) + 1) (1 + made_in (hist c)) (commit_of intent) → more ≡ made_by (commit_of intent)
+    → edits_by cs ≡ edits_of (cursor_of (hist c) + 1) (1 + extents_made (hist c)) (commit_of intent) → more ≡ commit_extents (commit_of intent)
     → Adds index (λ t tag. is_tagged_by t tag (commit_of intent)) (cursor + 1) tags
     → Holds (record { limits = c.limits; history = hist c ++ event ∷ []; held = put_all c.held cs; policies = policies_with (commit_of intent) c.policies; views = with_new c.views (view_by (cursor_of (hist c) + 1) intent); failures = c.failures ++ noted_by (cursor_of (hist c) + 1) (commit_of intent) }) (cursor + 1) (made + more) tags
 Holds-push c cursor made more event intent cs index tags holds lawful begins is are count adds =
@@ -139,7 +139,7 @@ Holds-push c cursor made more event intent cs index tags holds lawful begins is 
     let logged : log (h ++ event ∷ []) ≡ log h ++ commit ∷ [] = log-push h event ∙ ap (λ (o : Operation). log h ++ commits_of o) is in
     let next : table_states (h ++ event ∷ []) ≡ edited_by (table_states h) (edits_by cs) =
     table_states-push c.limits h event commit holds.sound.lawful is ∙ ap (edited_by (table_states h)) (sym are) in
-    let fits = changes_fit c (cursor_of h + 1) (1 + made_in h) commit cs holds.sound lawful are in
+    let fits = changes_fit c (cursor_of h + 1) (1 + extents_made h) commit cs holds.sound lawful are in
     record {
       sound = record {
         tables = subst (AllZip IsHeld (put_all c.held cs)) (sym next) (all_changes cs c.held (table_states h) holds.sound.tables fits);
@@ -149,7 +149,7 @@ Holds-push c cursor made more event intent cs index tags holds lawful begins is 
         lawful = AreLawful-push c.limits h event holds.sound.lawful (record { operation = subst (LawfulOperation c.limits h) (sym is) lawful });
       };
       count = ap (λ (n : ℕ). n + 1) holds.count ∙ sym (ap length logged ∙ length_push (log h) commit);
-      made_count = ap (λ (n : ℕ). n + more) holds.made_count ∙ ap (λ (n : ℕ). made_in h + n) (count ∙ sym (ap made_of is)) ∙ sym (made_in-push h event);
+      made_count = ap (λ (n : ℕ). n + more) holds.made_count ∙ ap (λ (n : ℕ). extents_made h + n) (count ∙ sym (ap operation_extents is)) ∙ sym (extents_made-push h event);
       tags = subst (TellsTags tags) (sym logged)
           (TellsTags-push index tags (log h) commit holds.tags (subst (λ (n : ℕ). Adds index (λ t tag. is_tagged_by t tag commit) (n + 1) tags) holds.count adds));
     }

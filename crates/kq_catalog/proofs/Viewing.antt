@@ -18,7 +18,7 @@ use Rattle.kq_model.specs.declared.event.Event.{Event}
 use Rattle.kq_model.specs.declared.event.Operation.TheVariants as operation
 use Rattle.kq_model.specs.declared.limits.Limits.{Limits}
 use Rattle.kq_model.specs.Edits.{changed}
-use Rattle.kq_model.specs.History.{History, Log, log, commits_of, cursor as cursor_of, Viewed, views, views_by, view_count, mark, mark_after, names_of_views}
+use Rattle.kq_model.specs.History.{History, Log, log, commits_of, cursor as cursor_of, Viewed, views, views_by, view_count, view_cursor, view_cursor_after, names_of_views}
 use Rattle.kq_model.specs.Lawful.{AreLawful, IsFold, LawfulCommit}
 use Rattle.kq_model.specs.Names.{is_among}
 use Rattle.kq_model.specs.Policies.{noted, policies}
@@ -28,9 +28,9 @@ use Rattle.kq_model.proofs.Bounded.{free_view}
 use Rattle.kq_model.proofs.Histories.{AreLawful-push, log-append, log-push, views-push}
 use Rattle.kq_model.proofs.Merging.{lawful_parts}
 use Rattle.kq_model.proofs.Places.{WasAt, get-changed, get-push}
-use Rattle.kq_model.proofs.Records.{made_in-push}
+use Rattle.kq_model.proofs.Records.{extents_made-push}
 use Rattle.kq_model.proofs.States.{table_states-fold}
-use Rattle.kq_model.proofs.Views.{covered-go_on, covered-none, log-commit, mark-new, mark-push, marked, no_fewer_views, over, view-stays}
+use Rattle.kq_model.proofs.Views.{covered-go_on, covered-none, log-commit, view_cursor-new, view_cursor-push, materialized, no_fewer_views, over, view-stays}
 use Rattle.kq_catalog.specs.declared.intent.Intent.{Intent}
 use Rattle.kq_catalog.specs.declared.intent.Intent.TheVariants.{CreateTable, SetPolicy, CreateView, AlterMerge, Ingest}
 use Rattle.kq_catalog.specs.Held.{IsHeld}
@@ -62,12 +62,12 @@ no_views = record { views = refl; each = λ n x at. absurd (let within = slice_g
 
 -- ---- one event more
 
--- what is held of a view stays what the history says, where its mark stays
-still_held : (limits : Limits) (h : History) (e : Event) (n : ℕ) (x : HeldView) → AreLawful limits h → slice_get (views (log h)) n ≡ Some (viewed_of x) → mark (h ++ e ∷ []) n ≡ mark h n → IsHeldView h n x → IsHeldView (h ++ e ∷ []) n x
+-- what is held of a view stays what the history says, where its cursor stays
+still_held : (limits : Limits) (h : History) (e : Event) (n : ℕ) (x : HeldView) → AreLawful limits h → slice_get (views (log h)) n ≡ Some (viewed_of x) → view_cursor (h ++ e ∷ []) n ≡ view_cursor h n → IsHeldView h n x → IsHeldView (h ++ e ∷ []) n x
 still_held limits h e n x lawful at same is =
     let v = x.view in
-    let m = mark h n in
-    let within = (marked limits h lawful n (viewed_of x) at).within in
+    let m = view_cursor h n in
+    let within = (materialized limits h lawful n (viewed_of x) at).within in
     let stays : covered (log (h ++ e ∷ [])) v v.base m ≡ covered (log h) v v.base m =
     ap (λ (l : Log). covered l v v.base m) (log-push h e) ∙ covered-go_on (log h) (commits_of e.operation) v v.base m (over limits h lawful n (viewed_of x) at) within in
     record {
@@ -75,9 +75,9 @@ still_held limits h e n x lawful at same is =
       part = subst (λ (k : ℕ). IsPart (planned_of v.body) (covered (log (h ++ e ∷ [])) v v.base k) x.part) (sym same) (subst (λ (rows : List (List Value)). IsPart (planned_of v.body) rows x.part) (sym stays) is.part);
     }
 
--- a commit leaves the mark of a view that stands
-commit_marks : (h : History) (e : Event) (c : Commit) (n : ℕ) → e.operation ≡ operation.Commit c → n < view_count (log h) → mark (h ++ e ∷ []) n ≡ mark h n
-commit_marks h e c n is within = mark-push h e n within ∙ ap (mark_after n (mark h n)) is
+-- a commit leaves the cursor of a view that stands
+commit_keeps_cursor : (h : History) (e : Event) (c : Commit) (n : ℕ) → e.operation ≡ operation.Commit c → n < view_count (log h) → view_cursor (h ++ e ∷ []) n ≡ view_cursor h n
+commit_keeps_cursor h e c n is within = view_cursor-push h e n within ∙ ap (view_cursor_after n (view_cursor h n)) is
 
 -- a commit that makes no view
 no_new : (limits : Limits) (h : History) (e : Event) (c : Commit) (held : List HeldView) → AreLawful limits h → AreHeldViews h held → e.operation ≡ operation.Commit c → views_by (cursor_of h + 1) c ≡ [] → AreHeldViews (h ++ e ∷ []) held
@@ -85,7 +85,7 @@ no_new limits h e c held lawful are is none = record {
   views = are.views ∙ sym (ap views (log-commit h e c is) ∙ views-push (log h) c ∙ ap (λ (vs : List Viewed). views (log h) ++ vs) none ∙ append-nil (views (log h)));
   each = λ n x at.
       let here = view_held h held n x are at in
-      still_held limits h e n x lawful here (commit_marks h e c n is (slice_get_within (views (log h)) n (viewed_of x) here)) (are.each n x at);
+      still_held limits h e n x lawful here (commit_keeps_cursor h e c n is (slice_get_within (views (log h)) n (viewed_of x) here)) (are.each n x at);
 }
 
 -- a part of no rows is that of a view that covers none
@@ -95,9 +95,9 @@ held_new limits h e (CreateTable name schema) x lawful is new begins = cc
 held_new limits h e (CreateView view part) x lawful is new begins =
     let v = view in
     let made = cursor_of h + 1 in
-    let at : mark (h ++ e ∷ []) (view_count (log h)) ≡ v.base = mark-new limits h e (commit_of (CreateView view part)) (viewed_of (new_view made v part)) lawful is refl in
+    let at : view_cursor (h ++ e ∷ []) (view_count (log h)) ≡ v.base = view_cursor-new limits h e (commit_of (CreateView view part)) (viewed_of (new_view made v part)) lawful is refl in
     let same : new_view made v part ≡ x = cc in
-    let none = covered-none (log (h ++ e ∷ [])) v v.base (mark (h ++ e ∷ []) (view_count (log h))) (omega (arith, at)) in
+    let none = covered-none (log (h ++ e ∷ [])) v v.base (view_cursor (h ++ e ∷ []) (view_count (log h))) (omega (arith, at)) in
     subst (IsHeldView (h ++ e ∷ []) (view_count (log h))) same
     (record { cursor = sym at; part = subst (λ (rows : List (List Value)). IsPart (planned_of v.body) rows part) (sym none) (record { order = []; same = IsPermutation-refl []; stands = begins }) })
 held_new limits h e (SetPolicy table entries) x lawful is new begins = cc
@@ -116,7 +116,7 @@ one_new limits h e intent held x lawful are is new viewed begins = record {
     by_place : (n : ℕ) (y : HeldView) → (slice_get held n ≡ Some y) ⊎ ((n ≡ length held) × (y ≡ x)) → IsHeldView (h ++ e ∷ []) n y
     by_place n y (inl at) =
         let here = view_held h held n y are at in
-        still_held limits h e n y lawful here (commit_marks h e (commit_of intent) n is (slice_get_within (views (log h)) n (viewed_of y) here)) (are.each n y at)
+        still_held limits h e n y lawful here (commit_keeps_cursor h e (commit_of intent) n is (slice_get_within (views (log h)) n (viewed_of y) here)) (are.each n y at)
     by_place n y (inr last) =
         subst (λ (k : ℕ). IsHeldView (h ++ e ∷ []) k y) (sym (last.0 ∙ count_views h held are)) (subst (IsHeldView (h ++ e ∷ []) (view_count (log h))) (sym last.1) (held_new limits h e intent x lawful is new begins))
 
@@ -139,7 +139,7 @@ views-merge limits h e table old new held lawful are is = record {
   each = λ n x at.
       let here = view_held h held n x are at in
       let within = slice_get_within (views (log h)) n (viewed_of x) here in
-      still_held limits h e n x lawful here (mark-push h e n within ∙ ap (mark_after n (mark h n)) is) (are.each n x at);
+      still_held limits h e n x lawful here (view_cursor-push h e n within ∙ ap (view_cursor_after n (view_cursor h n)) is) (are.each n x at);
 }
 
 -- ---- folds
@@ -177,7 +177,7 @@ views-fold limits h e view to part held lawful are is folded = record {
     moved n x same at =
         let here = view_held h held n x are at in
         let within = slice_get_within (views (log h)) n (viewed_of x) here in
-        let next : mark (h ++ e ∷ []) n ≡ to = mark-push h e n within ∙ ap (mark_after n (mark h n)) is ∙ ap (λ (b : Bool). cond b to (mark h n)) (eq-eqb view n (sym same)) in
+        let next : view_cursor (h ++ e ∷ []) n ≡ to = view_cursor-push h e n within ∙ ap (view_cursor_after n (view_cursor h n)) is ∙ ap (λ (b : Bool). cond b to (view_cursor h n)) (eq-eqb view n (sym same)) in
         let there : slice_get (views (log h)) view ≡ Some (viewed_of x) = ap (slice_get (views (log h))) (sym same) ∙ here in
         record {
           cursor = sym next;
@@ -188,7 +188,7 @@ views-fold limits h e view to part held lawful are is folded = record {
     other n x differs at =
         let here = view_held h held n x are at in
         let within = slice_get_within (views (log h)) n (viewed_of x) here in
-        let next : mark (h ++ e ∷ []) n ≡ mark h n = mark-push h e n within ∙ ap (mark_after n (mark h n)) is ∙ ap (λ (b : Bool). cond b to (mark h n)) (ne_eqb view n (λ same. differs (sym same))) in
+        let next : view_cursor (h ++ e ∷ []) n ≡ view_cursor h n = view_cursor-push h e n within ∙ ap (view_cursor_after n (view_cursor h n)) is ∙ ap (λ (b : Bool). cond b to (view_cursor h n)) (ne_eqb view n (λ same. differs (sym same))) in
         still_held limits h e n x lawful here next (are.each n x at)
 
     by_case : (n : ℕ) (y x : HeldView) → slice_get held n ≡ Some x → ((n ≡ view) × (y ≡ folded_view to part x)) ⊎ ((n ≢ view) × (y ≡ x)) → IsHeldView (h ++ e ∷ []) n y
@@ -212,7 +212,7 @@ fold_stands h view to part folded =
     (omega (arith, stood, more, all), omega (arith, within, longer))
 
 -- a catalogue after a fold
-pub Holds-fold : (c : CatalogView) (cursor made : ℕ) (by : By) (view to : ℕ) (part : Grouping) (index : List Entry) → Holds c cursor made index → WasFolded (hist c) view to part → mark (hist c) view < to
+pub Holds-fold : (c : CatalogView) (cursor made : ℕ) (by : By) (view to : ℕ) (part : Grouping) (index : List Entry) → Holds c cursor made index → WasFolded (hist c) view to part → view_cursor (hist c) view < to
     → Holds (record { limits = c.limits; history = hist c ++ fold_event by view to ∷ []; held = c.held; policies = c.policies; views = changed (folded_view to part) view c.views; failures = c.failures }) cursor made index
 Holds-fold c cursor made by view to part index holds folded ahead =
     let h = hist c in
@@ -229,7 +229,7 @@ Holds-fold c cursor made by view to part index holds folded ahead =
         lawful = AreLawful-push c.limits h e holds.sound.lawful (record { operation = lawful });
       };
       count = holds.count ∙ sym (ap length logged);
-      made_count = holds.made_count ∙ sym (let more = made_in-push h e in omega (arith, more));
+      made_count = holds.made_count ∙ sym (let more = extents_made-push h e in omega (arith, more));
       tags = subst (TellsTags index) (sym logged) holds.tags;
     }
 

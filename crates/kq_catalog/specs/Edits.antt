@@ -11,7 +11,7 @@ use Rattle.kq_model.specs.declared.table.Table.{Table}
 use Rattle.kq_model.specs.Edits.{Edit, edits_of, changed}
 use Rattle.kq_model.specs.Edits.Edit.{NewTable, NewColumns, NewExtent}
 use Rattle.kq_model.specs.History.{widened_table}
-use Rattle.kq_model.specs.Records.{made_by}
+use Rattle.kq_model.specs.Records.{commit_extents}
 use Rattle.kq_catalog.specs.declared.edit.Change.{Change}
 use Rattle.kq_catalog.specs.declared.edit.Change.TheVariants.{PutTable, PutColumns, PutExtent}
 use Rattle.kq_catalog.specs.declared.intent.Intent.{Intent}
@@ -62,7 +62,7 @@ pub record IsPlan (cursor id : ℕ) (intent : Intent) (plan : Plan) : Type 0 whe
   pub is : plan.commit ≡ commit_of intent
   pub edits : edits_by plan.changes.items ≡ edits_of cursor id (commit_of intent)
   pub view : plan.view ≡ view_by cursor intent
-  pub made : plan.made ≡ made_by (commit_of intent)
+  pub made : plan.made ≡ commit_extents (commit_of intent)
 
 abbrev pub total_rows : List Batch → ℕ
 total_rows = sum_by (λ (b : Batch). length b.rows)

@@ -20,13 +20,13 @@ abbrev pub tables_in : List HeldTable → List Table
 tables_in = map (λ (h : HeldTable). h.table)
 
 -- an extent by the ids of its records
-abbrev pub item_by : ExtentView → ExtentItem
-item_by e = record { id = e.id; records = ids_of e.records; tags = e.tags }
+abbrev pub extent_item : ExtentView → ExtentItem
+extent_item e = record { id = e.id; records = ids_of e.records; tags = e.tags }
 
 -- the extents of a history are those that are held: the small ones in order, and the others in order
 pub record AreItems (items : List ExtentItem) (held : HeldExtents) : Type 0 where
-  pub small : map item_by held.small ≡ filter is_small_item items
-  pub big : map item_by held.big ≡ filter (λ i. not (is_small_item i)) items
+  pub small : map extent_item held.small ≡ filter is_small_item items
+  pub big : map extent_item held.big ≡ filter (λ i. not (is_small_item i)) items
 
 -- what is held of a table is what the history says of it: each of its records stands once in the extents, widened to the table's columns, and nothing else does, the extents are those of the history, and the rows have the table's types
 pub record IsHeld (held : HeldTable) (state : TableState) : Type 0 where

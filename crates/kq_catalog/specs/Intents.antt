@@ -40,6 +40,6 @@ Begins (CreateView view part) = StandsFor (planned_of view.body) [] part
 Begins (AlterMerge table columns) = Unit {0}
 Begins (Ingest parts failures) = Unit {0}
 
--- the event of a commit with the mark of its command
+-- the event of a commit with the request id of its command
 abbrev pub event_by : By → Intent → Event
 event_by by intent = record { by = by; operation = operation.Commit (commit_of intent) }

@@ -10,7 +10,7 @@ use Rattle.kq_model.specs.Records.{ExtentItem, extents, item_ids, picked, record
 use Rattle.kq_catalog.specs.declared.merging.Merging.{Merging}
 use Rattle.kq_catalog.specs.declared.merging.MergeFault.{MergeFault}
 use Rattle.kq_catalog.specs.declared.merging.MergeFault.TheVariants.{Moved, Memory}
-use Rattle.kq_catalog.specs.Held.{item_by}
+use Rattle.kq_catalog.specs.Held.{extent_item}
 
 -- the old ids are those of the first that are picked in a table, two or more, and the extent has just their records and the union of their tags
 pub record IsUnion (h : History) (t : ℕ) (old : List ℕ) (e : ExtentView) : Type 0 where
@@ -18,7 +18,7 @@ pub record IsUnion (h : History) (t : ℕ) (old : List ℕ) (e : ExtentView) : T
   pub some : 2 ≤ count
   pub within : count ≤ length (picked h t)
   pub first : old ≡ item_ids (take count (picked h t))
-  pub same : item_by e ≡ united e.id (take count (picked h t))
+  pub same : extent_item e ≡ united e.id (take count (picked h t))
   pub rows : All (Contains (records (log h) t)) e.records
 
 -- they were picked at some place of the history

@@ -7,7 +7,7 @@ use Rattle.kq_model.specs.declared.limits.Limits.{Limits}
 use Rattle.kq_model.specs.History.{History, log, cursor as cursor_of}
 use Rattle.kq_model.specs.Lawful.{AreLawful}
 use Rattle.kq_model.specs.Policies.{noted, policies}
-use Rattle.kq_model.specs.Records.{made_in}
+use Rattle.kq_model.specs.Records.{extents_made}
 use Rattle.kq_model.specs.Tables.{table_states}
 use Rattle.kq_model.specs.declared.policy.Entry.{Entry}
 use Rattle.kq_tagged.specs.declared.entry.Entry.{Entry as Tagging}
@@ -49,5 +49,5 @@ pub record Sound (c : CatalogView) : Type 0 where
 pub record Holds (c : CatalogView) (cursor made : ℕ) (index : List Tagging) : Type 0 where
   pub sound : Sound c
   pub count : cursor ≡ cursor_of (hist c)
-  pub made_count : made ≡ made_in (hist c)
+  pub made_count : made ≡ extents_made (hist c)
   pub tags : TellsTags index (log (hist c))

@@ -13,7 +13,7 @@ use Rattle.kq_model.specs.declared.event.By.{By}
 use Rattle.kq_model.specs.declared.event.Event.{Event}
 use Rattle.kq_model.specs.declared.event.Operation.TheVariants as operation
 use Rattle.kq_model.specs.declared.view.View.{View}
-use Rattle.kq_model.specs.History.{History, log, cursor as cursor_of, Viewed, views, mark, names_of_views}
+use Rattle.kq_model.specs.History.{History, log, cursor as cursor_of, Viewed, views, view_cursor, names_of_views}
 use Rattle.kq_model.specs.Views.{covered}
 use Rattle.kq_catalog.specs.declared.folding.FoldFault.{FoldFault}
 use Rattle.kq_catalog.specs.declared.folding.FoldFault.TheVariants.{Behind, Memory}
@@ -39,13 +39,13 @@ pub record IsPart (p : Planned) (rows : List (List Value)) (g : Grouping) : Type
   pub same : IsPermutation rows order
   pub stands : StandsFor p order g
 
--- groups stand for what a view, by its number, covers up to its mark
+-- groups stand for what a view, by its number, covers up to its cursor
 abbrev pub HoldsPart : History → ℕ → View → Grouping → Type 0
-HoldsPart h n v g = IsPart (planned_of v.body) (covered (log h) v v.base (mark h n)) g
+HoldsPart h n v g = IsPart (planned_of v.body) (covered (log h) v v.base (view_cursor h n)) g
 
--- of a view is held what the history says of it: it is materialized up to its mark, and its part stands for what it covers up to there
+-- of a view is held what the history says of it: it is materialized up to its cursor, and its part stands for what it covers up to there
 pub record IsHeldView (h : History) (n : ℕ) (held : HeldView) : Type 0 where
-  pub cursor : held.cursor ≡ mark h n
+  pub cursor : held.cursor ≡ view_cursor h n
   pub part : HoldsPart h n held.view held.part
 
 -- the views are the history's, and of each is held what the history says of it
@@ -78,8 +78,8 @@ pub record WasFolded (h : History) (view to : ℕ) (g : Grouping) : Type 0 where
 
 -- why a fold isn't staged: the view is materialized as far, or it isn't and memory was wanting
 abbrev pub Trails : History → ℕ → ℕ → FoldFault → Type 0
-Trails h view to (Behind cursor) = (cursor ≡ mark h view) × (to ≤ cursor)
-Trails h view to Memory = mark h view < to
+Trails h view to (Behind cursor) = (cursor ≡ view_cursor h view) × (to ≤ cursor)
+Trails h view to Memory = view_cursor h view < to
 
 -- ---- names
 

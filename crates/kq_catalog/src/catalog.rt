@@ -1,8 +1,8 @@
 // The catalogue.
 ghost use Rattle.std.specs.Prelude.{◌≡◌, ◌<◌, ◌+◌, [], IfErr, IfOk, length};
-ghost use Rattle.kq_model.specs.History.{log, cursor as cursor_of, mark};
+ghost use Rattle.kq_model.specs.History.{log, cursor as cursor_of, view_cursor};
 ghost use Rattle.kq_model.specs.Lawful.{LawfulCommit};
-ghost use Rattle.kq_model.specs.Records.{made_in};
+ghost use Rattle.kq_model.specs.Records.{extents_made};
 ghost use Rattle.kq_catalog.specs.Intents.{Begins, commit_of, event_by};
 ghost use Rattle.kq_catalog.specs.Merges.{Moves, WasPicked, merge_event};
 ghost use Rattle.kq_catalog.specs.Seen.{hist, Sound};
@@ -132,7 +132,7 @@ impl Catalog {
     /// Makes the state in which extents of a table became one, unless the first of them is gone. The one gets the next id.
     pub fn stage_merge(&self, by: By, merging: Merging) -> Result<Staged, MergeFault>
         requires { WasPicked (hist self.now) merging }
-        ensures staged { IfOk result (IsStaged self.now (merge_event by (1 + made_in (hist self.now)) merging)) }
+        ensures staged { IfOk result (IsStaged self.now (merge_event by (1 + extents_made (hist self.now)) merging)) }
         ensures moved { IfErr result (Moves (hist self.now) merging) }
     {
         let present = &self.present;
@@ -150,7 +150,7 @@ impl Catalog {
     pub fn stage_fold(&self, by: By, view: u32, to: u64, part: Parted) -> Result<Staged, FoldFault>
         requires { WasFolded (hist self.now) view to part }
         ensures staged { IfOk result (IsStaged self.now (fold_event by view to)) }
-        ensures ahead { IfOk result (λ s. mark (hist self.now) view < to) }
+        ensures ahead { IfOk result (λ s. view_cursor (hist self.now) view < to) }
         ensures behind { IfErr result (Trails (hist self.now) view to) }
     {
         let present = &self.present;

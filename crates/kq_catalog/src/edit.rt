@@ -5,7 +5,7 @@ use kq_value::Schema;
 use std::alloc::Global;
 use std::sync::Arc;
 
-/// One step of a commit. Columns and an extent go with the number of their table.
+// One step of a commit. Columns and an extent go with the number of their table.
 #[derive(Drop)]
 pub(crate) enum Change {
     PutTable(Arc<Table, Global>),

@@ -7,7 +7,7 @@ use kq_shared::SharedList;
 use kq_value::Memory;
 use std::alloc::Global;
 
-/// The enabled entries of all policies: targets in the order of their creation, and entries in array order.
+// The enabled entries of all policies: targets in the order of their creation, and entries in array order.
 pub(crate) fn enabled(alloc: Global, policies: &SharedList<Entries>) -> Result<Vec<Due>, Memory>
     requires { length policies.now < 2 ^ 32 }
     ensures { IfOk result (λ dues. dues.items ≡ enabled policies.now) }

@@ -11,7 +11,7 @@ use std::alloc::Global;
 use std::marker::Model;
 use std::sync::Arc;
 
-/// A table with its extents. Copies share both.
+// A table with its extents. Copies share both.
 #[derive(Drop)]
 pub(crate) struct HeldTable {
     table: Arc<Table, Global>,
@@ -53,7 +53,7 @@ impl HeldTable {
         &self.extents
     }
 
-    /// The table with further columns, set at a cursor. Its extents stay as they are.
+    // The table with further columns, set at a cursor. Its extents stay as they are.
     pub(crate) fn with_columns(
         &self,
         alloc: Global,
@@ -74,7 +74,7 @@ impl HeldTable {
         })
     }
 
-    /// The table with an extent more.
+    // The table with an extent more.
     pub(crate) fn with_extent(&self, extent: Arc<Extent, Global>) -> Result<HeldTable, Memory>
         ensures { IfOk result (λ h. h ≡ with_extent (arc_value extent) self.now) }
     {
@@ -84,7 +84,7 @@ impl HeldTable {
         Ok(HeldTable { table, extents })
     }
 
-    /// The table with so many of its first small extents replaced by one.
+    // The table with so many of its first small extents replaced by one.
     pub(crate) fn with_merged(
         &self,
         count: usize,

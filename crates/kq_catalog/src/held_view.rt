@@ -7,7 +7,7 @@ use kq_parted::Parted;
 use kq_value::Memory;
 use std::marker::Model;
 
-/// A view with the cursor that made it, the cursor up to which it is materialized, and its part.
+// A view with the cursor that made it, the cursor up to which it is materialized, and its part.
 #[derive(Drop)]
 pub(crate) struct HeldView {
     view: SharedView,
@@ -30,7 +30,7 @@ impl Model for HeldView {
 }
 
 impl HeldView {
-    /// A view before any fold: its part is that of no records, and it is materialized up to its base.
+    // A view before any fold: its part is that of no records, and it is materialized up to its base.
     pub(crate) fn new(view: SharedView, made: u64, part: Parted) -> HeldView
         ensures { result ≡ new_view made view part }
     {
@@ -66,7 +66,7 @@ impl HeldView {
         &self.part
     }
 
-    /// The view with the part up to a later cursor.
+    // The view with the part up to a later cursor.
     pub(crate) fn folded(&self, to: u64, part: Parted) -> Result<HeldView, Memory>
         ensures { IfOk result (λ h. h ≡ folded_view to part self.now) }
     {

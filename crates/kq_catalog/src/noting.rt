@@ -8,7 +8,7 @@ use kq_value::Memory;
 use std::alloc::Global;
 use std::sync::Arc;
 
-/// The failures, and behind them those that a commit at a cursor notes.
+// The failures, and behind them those that a commit at a cursor notes.
 pub(crate) fn with_failures(
     alloc: Global,
     failures: &SharedList<Noted>,

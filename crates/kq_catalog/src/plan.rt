@@ -15,7 +15,7 @@ use std::alloc::Global;
 use std::collections::HashMap;
 use std::sync::Arc;
 
-/// A commit, the changes that it makes of tables, the view that it makes, and the number of extents among the changes.
+// A commit, the changes that it makes of tables, the view that it makes, and the number of extents among the changes.
 #[derive(Drop)]
 pub(crate) struct Plan {
     pub commit: Commit,
@@ -24,7 +24,7 @@ pub(crate) struct Plan {
     pub made: u64,
 }
 
-/// The plan of a new table.
+// The plan of a new table.
 pub(crate) fn plan_table(
     alloc: Global,
     cursor: u64,
@@ -49,7 +49,7 @@ pub(crate) fn plan_table(
     })
 }
 
-/// The plan of a table's update policy.
+// The plan of a table's update policy.
 pub(crate) fn plan_policy(alloc: Global, table: u32, entries: Entries) -> Plan
     ensures { (cursor id : ℕ) → IsPlan cursor id (SetPolicy table entries) result }
 {
@@ -61,7 +61,7 @@ pub(crate) fn plan_policy(alloc: Global, table: u32, entries: Entries) -> Plan
     }
 }
 
-/// The plan of a new view.
+// The plan of a new view.
 pub(crate) fn plan_view(
     alloc: Global,
     cursor: u64,
@@ -78,7 +78,7 @@ pub(crate) fn plan_view(
     })
 }
 
-/// The plan of further columns of a table.
+// The plan of further columns of a table.
 pub(crate) fn plan_columns(
     alloc: Global,
     cursor: u64,
@@ -101,7 +101,7 @@ pub(crate) fn plan_columns(
     })
 }
 
-/// The plan of an ingestion: each part becomes an extent, under the ids from `id` on.
+// The plan of an ingestion: each part becomes an extent, under the ids from `id` on.
 pub(crate) fn plan_parts(
     alloc: Global,
     cursor: u64,

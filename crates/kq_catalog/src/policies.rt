@@ -13,7 +13,7 @@ use std::alloc::Global;
 use std::marker::Model;
 use std::sync::Arc;
 
-/// The update policy of each table, in the order of their creation, and the enabled entries of all. Copies share both.
+// The update policy of each table, in the order of their creation, and the enabled entries of all. Copies share both.
 #[derive(Drop)]
 pub(crate) struct Policies {
     held: SharedList<Entries>,
@@ -47,7 +47,7 @@ impl Policies {
         })
     }
 
-    /// The entries of a table's policy.
+    // The entries of a table's policy.
     pub(crate) fn entries(&self, table: u32) -> &[Entry]
         requires { table < length self.now }
         ensures { result.now ≡ policy_at self.now table }
@@ -55,14 +55,14 @@ impl Policies {
         self.held.get(table as usize).as_slice()
     }
 
-    /// The enabled entries of all policies.
+    // The enabled entries of all policies.
     pub(crate) fn dues(&self) -> &[Due]
         ensures { result.now ≡ enabled self.now }
     {
         self.dues.as_slice()
     }
 
-    /// The policies after a commit.
+    // The policies after a commit.
     pub(crate) fn with_commit(&self, alloc: Global, commit: &Commit) -> Result<Policies, Memory>
         requires stands { SetsStanding (length self.now) commit.now }
         requires few { length self.now < 2 ^ 32 }

@@ -7,7 +7,7 @@ ghost use Rattle.kq_shared.specs.Standing.{StandsAt};
 ghost use Rattle.kq_extent.specs.Seen.{held_records};
 ghost use Rattle.kq_extent.specs.Wide.{wide_held};
 ghost use Rattle.kq_model.specs.declared.table.Table.{Table as Described};
-ghost use Rattle.kq_model.specs.History.{log, cursor as cursor_of, tables, Viewed, views, view_count, is_view, mark};
+ghost use Rattle.kq_model.specs.History.{log, cursor as cursor_of, tables, Viewed, views, view_count, is_view, view_cursor};
 ghost use Rattle.kq_model.specs.Force.{policy_at};
 ghost use Rattle.kq_model.specs.Policies.{dues, noted, policies};
 ghost use Rattle.kq_model.specs.Records.{records, rows_in, extents, schema_of};
@@ -170,7 +170,7 @@ impl Snapshot {
     /// The cursor up to which a view, by its number, is materialized.
     pub fn view_cursor(&self, view: u32) -> u64
         requires { view < view_count (log self.now.history) }
-        ensures { result ≡ mark self.now.history view }
+        ensures { result ≡ view_cursor self.now.history view }
     {
         self.state.view_cursor(view)
     }

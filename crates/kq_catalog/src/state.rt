@@ -7,11 +7,11 @@ ghost use Rattle.kq_shared.specs.Standing.{StandsAt};
 ghost use Rattle.kq_extent.specs.Seen.{held_records};
 ghost use Rattle.kq_extent.specs.Wide.{wide_held};
 ghost use Rattle.kq_model.specs.declared.table.Table.{Table as Described};
-ghost use Rattle.kq_model.specs.History.{log, cursor as cursor_of, tables, Viewed, views, view_count, is_view, mark};
+ghost use Rattle.kq_model.specs.History.{log, cursor as cursor_of, tables, Viewed, views, view_count, is_view, view_cursor};
 ghost use Rattle.kq_model.specs.Force.{policy_at};
 ghost use Rattle.kq_model.specs.Lawful.{LawfulCommit};
 ghost use Rattle.kq_model.specs.Policies.{dues, noted, policies};
-ghost use Rattle.kq_model.specs.Records.{records, rows_in, extents, made_in, small_items, schema_of};
+ghost use Rattle.kq_model.specs.Records.{records, rows_in, extents, extents_made, small_items, schema_of};
 ghost use Rattle.kq_model.specs.Tagged.{first_tagged};
 ghost use Rattle.kq_catalog.specs.Edits.{IsPlan};
 ghost use Rattle.kq_catalog.specs.Held.{AreItems, FindsTable};
@@ -38,7 +38,7 @@ use std::alloc::Global;
 use std::marker::Model;
 use std::sync::Arc;
 
-/// What stands after some events. None of it changes.
+// What stands after some events. None of it changes.
 #[derive(Drop)]
 pub(crate) struct State {
     alloc: Global,
@@ -199,7 +199,7 @@ impl State {
 
     pub(crate) fn view_cursor(&self, view: u32) -> u64
         requires { view < view_count (log self.now.history) }
-        ensures { result ≡ mark self.now.history view }
+        ensures { result ≡ view_cursor self.now.history view }
     {
         self.views.get(view).cursor()
     }
@@ -241,7 +241,7 @@ impl State {
     // The commit with its edits, under the next cursor and the next ids of extents.
     fn plan(&self, intent: Intent) -> Result<Plan, Memory>
         requires { LawfulCommit self.now.limits (log self.now.history) (commit_of intent) }
-        ensures { IfOk result (IsPlan (cursor_of self.now.history + 1) (1 + made_in self.now.history) intent) }
+        ensures { IfOk result (IsPlan (cursor_of self.now.history + 1) (1 + extents_made self.now.history) intent) }
     {
         let cursor = self.cursor + 1;
         let _place = self.place();
@@ -258,7 +258,7 @@ impl State {
         }
     }
 
-    /// The state after one event more.
+    // The state after one event more.
     pub(crate) fn with_event(&self, by: By, intent: Intent) -> Result<State, Memory>
         requires lawful { LawfulCommit self.now.limits (log self.now.history) (commit_of intent) }
         requires begins { Begins intent }
@@ -292,7 +292,7 @@ impl State {
         })
     }
 
-    /// The id of the first of a merge's old extents, where it isn't that of the table's first small extent.
+    // The id of the first of a merge's old extents, where it isn't that of the table's first small extent.
     pub(crate) fn gone(&self, merging: &Merging) -> Option<u64>
         requires { WasPicked self.now.history merging.now }
         ensures gone { IfSome result (IsGone self.now.history merging.now) }
@@ -316,12 +316,12 @@ impl State {
         !small.is_empty() && small.get(0).id() == id
     }
 
-    /// The state after a merge whose old extents still come first among the small ones. The new extent has the next id.
+    // The state after a merge whose old extents still come first among the small ones. The new extent has the next id.
     pub(crate) fn with_merge(&self, by: By, merging: Merging) -> Result<State, Memory>
         requires picked { WasPicked self.now.history merging }
         requires front { IsInFront (small_items self.now.history merging.table) merging.old }
         ensures limits { IfOk result (λ s. s.limits ≡ self.now.limits) }
-        ensures history { IfOk result (λ s. s.history ≡ self.now.history ++ merge_event by (1 + made_in self.now.history) merging ∷ []) }
+        ensures history { IfOk result (λ s. s.history ≡ self.now.history ++ merge_event by (1 + extents_made self.now.history) merging ∷ []) }
     {
         let _place = self.place();
         let Merging { table, old, extent } = merging;
@@ -345,7 +345,7 @@ impl State {
         })
     }
 
-    /// The state after a fold that brings a view forward.
+    // The state after a fold that brings a view forward.
     pub(crate) fn with_fold(
         &self,
         by: By,
@@ -354,7 +354,7 @@ impl State {
         part: Parted,
     ) -> Result<State, Memory>
         requires folded { WasFolded self.now.history view to part }
-        requires ahead { mark self.now.history view < to }
+        requires ahead { view_cursor self.now.history view < to }
         ensures limits { IfOk result (λ s. s.limits ≡ self.now.limits) }
         ensures history { IfOk result (λ s. s.history ≡ self.now.history ++ fold_event by view to ∷ []) }
     {

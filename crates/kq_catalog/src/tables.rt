@@ -17,7 +17,7 @@ use std::alloc::Global;
 use std::marker::Model;
 use std::sync::Arc;
 
-/// The tables in the order of their creation. Copies share them.
+// The tables in the order of their creation. Copies share them.
 #[derive(Drop)]
 pub(crate) struct Tables {
     held: SharedList<HeldTable>,
@@ -57,7 +57,7 @@ impl Tables {
         self.held.len()
     }
 
-    /// The table of a number.
+    // The table of a number.
     pub(crate) fn get(&self, number: u32) -> &HeldTable
         requires { number < length self.now }
         ensures { slice_get self.now number ≡ Some result.now }
@@ -65,7 +65,7 @@ impl Tables {
         self.held.get(number as usize)
     }
 
-    /// The table of a name, with its number.
+    // The table of a name, with its number.
     pub(crate) fn find(&self, name: &Text) -> Option<(u32, &Table)>
         ensures { FindsTable name.now (tables_in self.now) result }
     {
@@ -134,7 +134,7 @@ impl Tables {
         Ok(())
     }
 
-    /// The tables after so many of the first small extents of one became another.
+    // The tables after so many of the first small extents of one became another.
     pub(crate) fn with_merged(
         &self,
         alloc: Global,
@@ -151,7 +151,7 @@ impl Tables {
         Ok(tables)
     }
 
-    /// Makes one change.
+    // Makes one change.
     pub(crate) fn put(&mut self, alloc: Global, change: Change) -> Result<(), Memory>
         requires { Fits (tables_in self.old) (edit_of change) }
         ensures { OnOk result (self.new ≡ put_in self.old change) }
@@ -167,7 +167,7 @@ impl Tables {
         }
     }
 
-    /// The tables after some changes.
+    // The tables after some changes.
     pub(crate) fn with_all(&self, alloc: Global, changes: Vec<Change>) -> Result<Tables, Memory>
         requires { FitAll (tables_in self.now) (edits_by changes.items) }
         ensures { IfOk result (λ tables. tables ≡ put_all self.now changes.items) }

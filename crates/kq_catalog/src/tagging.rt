@@ -9,7 +9,7 @@ use kq_model::{Batch, Commit};
 use kq_tagged::TagIndex;
 use kq_value::{Memory, Text};
 
-/// The index in which the tags that a commit gives tables have its cursor, unless they had one.
+// The index in which the tags that a commit gives tables have its cursor, unless they had one.
 pub(crate) fn with_commit(
     index: &TagIndex,
     commit: &Commit,

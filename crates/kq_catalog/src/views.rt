@@ -13,7 +13,7 @@ use std::alloc::Global;
 use std::marker::Model;
 use std::sync::Arc;
 
-/// The views in the order of their creation. Copies share them.
+// The views in the order of their creation. Copies share them.
 #[derive(Drop)]
 pub(crate) struct Views {
     held: SharedList<HeldView>,
@@ -54,7 +54,7 @@ impl Views {
         self.held.len()
     }
 
-    /// The view of a number.
+    // The view of a number.
     pub(crate) fn get(&self, number: u32) -> &HeldView
         requires { number < length self.now }
         ensures { slice_get self.now number ≡ Some result.now }
@@ -62,14 +62,14 @@ impl Views {
         self.held.get(number as usize)
     }
 
-    /// The number of the view of a name.
+    // The number of the view of a name.
     pub(crate) fn find(&self, name: &Text) -> Option<u32>
         ensures { result ≡ place_of name.now (names_held self.now) }
     {
         self.names.find(name)
     }
 
-    /// The views, and the new one where there is one.
+    // The views, and the new one where there is one.
     pub(crate) fn with_new(&self, alloc: Global, view: Option<HeldView>) -> Result<Views, Memory>
         requires new { IfSome view (λ v. place_of v.view.name (names_held self.now) ≡ None) }
         requires few { length self.now < 2 ^ 32 }
@@ -92,7 +92,7 @@ impl Views {
         Ok(Views { held, names })
     }
 
-    /// The views after a fold of one.
+    // The views after a fold of one.
     pub(crate) fn with_fold(
         &self,
         alloc: Global,

@@ -15,7 +15,7 @@ use Rattle.kq_token.specs.declared.kind.Operator.TheVariants as operator
 use Rattle.kq_token.specs.declared.kind.Punctuation.TheVariants as sign
 use Rattle.kq_syntax.specs.Classes as k
 use Rattle.kq_syntax.specs.Classes.{Class, of}
-use Rattle.kq_syntax.specs.Forms.{Alike, Reads, Parser, one, some, ◌⨾◌, Then, Image, Maybe, pure, starts, expect, both, ◌<$>◌, choose, maybe, skip}
+use Rattle.kq_syntax.specs.Forms.{Alike, Parses, Parser, one, some, ◌⨾◌, Then, Image, Maybe, pure, starts, expect, both, ◌<$>◌, choose, maybe, skip}
 use Rattle.kq_syntax.proofs.ClassLemmas.{apart, within, part}
 use Rattle.kq_syntax.proofs.Laws.{Exact, Example, Leads, nothing, stops_nothing, both_exact, image_exact, same_exact, pure_exact, one_exact, choose_exact, maybe_exact, skip_exact, skip_leads, skip_example, starts_stops, stops_starts}
 use Rattle.kq_expression.proofs.NameLaws.{example_of, starts_part, one_leads, name_exact, name_example, name_leads}
@@ -171,7 +171,7 @@ ends_at cs u z ahead (inr s) alike e = (s.0, ap (λ l. l ++ z) (sym s.1) ∙ e)
 ends_at cs u z [] (inl s) alike e = let no : false ≡ true = sym (ap (starts (of k.comma)) e) ∙ comma_leads cs u z s in cc
 ends_at cs u z (t ∷ ahead) (inl s) alike e = absurd alike
 
-more_at_end : (ts : List Symbol) → length ts ≤ 0 → Reads grammar.more_cells (of cells_go_on) ts [] ts
+more_at_end : (ts : List Symbol) → length ts ≤ 0 → Parses grammar.more_cells (of cells_go_on) ts [] ts
 more_at_end [] le = record { front = []; split = refl; spelled = inl refl; only = λ y u z ahead s stops alike e. ends_at y u z ahead (more_cases y u s) alike e }
 more_at_end (t ∷ ts) le = absurd (omega arith)
 

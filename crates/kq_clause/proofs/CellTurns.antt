@@ -8,7 +8,7 @@ use Rattle.kq_syntax.specs.declared.cursor.Stop.TheVariants.{Syntax, Memory}
 use Rattle.kq_syntax.specs.Classes as k
 use Rattle.kq_syntax.specs.Classes.{of}
 use Rattle.kq_syntax.specs.Forms.{Outcome, and_then, pure, starts, expect, with_front}
-use Rattle.kq_syntax.specs.Gives.{Gives}
+use Rattle.kq_syntax.specs.Outcomes.{IsOutcome}
 
 by_outcome : (front : List Cell) (t : Symbol) (x : Cell) (out : Outcome Symbol (List Cell)) → with_front front (and_then {T = Symbol} {A = Symbol × List Cell} {B = List Cell} (and_then {T = Symbol} {A = List Cell} {B = Symbol × List Cell} (and_then {T = Symbol} {A = Cell × List Cell} {B = List Cell} (and_then {T = Symbol} {A = List Cell} {B = Cell × List Cell} out (λ y. pure (x, y))) (λ w. pure (w.0 ∷ w.1))) (λ y. pure (t, y))) (λ w. pure w.1)) ≡ with_front (front ++ x ∷ []) out
 by_outcome front t x (Ok q) = let e : front ++ x ∷ q.0 ≡ (front ++ x ∷ []) ++ q.0 = sym (append_assoc front (x ∷ []) q.0) in cc
@@ -41,7 +41,7 @@ module _ (start : Outcome Symbol (List Cell)) (n at : ℕ) (front : List Cell) (
   pub turn_taken : (mid rest : List Symbol) (t : Symbol) (x : Cell) → at < n → starts (of k.comma) ts ≡ true → expect (of k.comma) ts ≡ Ok (t, mid) → starts (of k.begins_cell) mid ≡ true → cell mid ≡ Ok (x, rest) → start ≡ with_front (front ++ x ∷ []) (more_cells (n - (at + 1)) rest)
   turn_taken mid rest t x below comma took begins e = one_turn below ∙ taken (n - (at + 1)) front ts mid rest t x comma took begins e
 
-  pub turn_stuck : {X : Type 0} (view : X → List Cell) (mid rest : List Symbol) (t : Symbol) (stop : Stop) → at < n → starts (of k.comma) ts ≡ true → expect (of k.comma) ts ≡ Ok (t, mid) → starts (of k.begins_cell) mid ≡ true → Gives (λ (x : Cell). x) (cell mid) (Err stop) rest → Gives view start (Err stop) rest
+  pub turn_stuck : {X : Type 0} (view : X → List Cell) (mid rest : List Symbol) (t : Symbol) (stop : Stop) → at < n → starts (of k.comma) ts ≡ true → expect (of k.comma) ts ≡ Ok (t, mid) → starts (of k.begins_cell) mid ≡ true → IsOutcome (λ (x : Cell). x) (cell mid) (Err stop) rest → IsOutcome view start (Err stop) rest
   turn_stuck view mid rest t Syntax below comma took begins e = one_turn below ∙ stuck (n - (at + 1)) front ts mid rest t comma took begins e
   turn_stuck view mid rest t Memory below comma took begins e = tt
 

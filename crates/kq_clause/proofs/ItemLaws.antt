@@ -5,7 +5,7 @@ use Rattle.kq_clause.specs.Reading as reading
 use Rattle.kq_expression.specs.Reading.{name as read_name, expression}
 use Rattle.kq_grammar.specs.Clauses as grammar
 use Rattle.kq_grammar.specs.Expressions.{Text, name_text, spells}
-use Rattle.kq_grammar.specs.Strengths.{goes_on}
+use Rattle.kq_grammar.specs.Precedences.{goes_on}
 use Rattle.kq_grammar.specs.Trees.{Tree, name, ItemTree, plain, named, KeyTree}
 use Rattle.kq_grammar.specs.Views.{is_bare, item_of}
 use Rattle.kq_syntax.specs.declared.kind.Kind.TheVariants as kind

@@ -2,7 +2,7 @@
 use Rattle.std.specs.Prelude.{◌||◌}
 use Rattle.kq_clause.specs.Reading.{begins_argument}
 use Rattle.kq_grammar.specs.Clauses.{called}
-use Rattle.kq_grammar.specs.Strengths.{goes_on}
+use Rattle.kq_grammar.specs.Precedences.{goes_on}
 use Rattle.kq_syntax.specs.declared.word.ClauseWord.TheVariants as w
 use Rattle.kq_token.specs.declared.kind.Side.TheVariants as side
 use Rattle.kq_syntax.specs.Classes as k

@@ -6,7 +6,7 @@ ghost use Rattle.kq_grammar.specs.Views.{aggregate_view, argument_view};
 ghost use Rattle.kq_syntax.specs.Classes as k;
 ghost use Rattle.kq_syntax.specs.Classes.{of};
 ghost use Rattle.kq_syntax.specs.Forms.{expect, starts};
-ghost use Rattle.kq_syntax.specs.Gives.{Gives};
+ghost use Rattle.kq_syntax.specs.Outcomes.{IsOutcome};
 
 use crate::lists::{COMMA, listed};
 use kq_expression::{read_expression, read_name};
@@ -19,7 +19,7 @@ const ASSIGN: Class = Class::Operator(Operator::Assign);
 
 const STAR: Class = Class::Operator(Operator::Star);
 
-/// One argument.
+// One argument.
 #[derive(Clone, Copy)]
 struct AnArgument {
     alloc: Global,
@@ -57,7 +57,7 @@ fn begins_argument(cursor: &Cursor<'_>) -> bool
 
 #[tactic(auto, unfolding(crate::specs::Reading::arguments))]
 fn arguments(alloc: Global, cursor: &mut Cursor<'_>, budget: usize) -> Result<Vec<Argument>, Stop>
-    ensures { Gives (λ v. map argument_view v.items) (spec.arguments budget cursor.old) result cursor.new }
+    ensures { IsOutcome (λ v. map argument_view v.items) (spec.arguments budget cursor.old) result cursor.new }
 {
     let mut found = Vec::new(alloc);
     if !begins_argument(cursor) {
@@ -78,7 +78,7 @@ fn in_parentheses(
     cursor: &mut Cursor<'_>,
     budget: usize,
 ) -> Result<Vec<Argument>, Stop>
-    ensures { Gives (λ v. map argument_view v.items) (spec.in_parentheses budget cursor.old) result cursor.new }
+    ensures { IsOutcome (λ v. map argument_view v.items) (spec.in_parentheses budget cursor.old) result cursor.new }
 {
     cursor.expect(Class::Sign(Punctuation::OpenParenthesis))?;
     let found = arguments(alloc, cursor, budget)?;
@@ -86,9 +86,9 @@ fn in_parentheses(
     Ok(found)
 }
 
-/// A word that can name an aggregate.
+// A word that can name an aggregate.
 fn function(cursor: &mut Cursor<'_>) -> Result<Symbol, Stop>
-    ensures { Gives (λ t. t) (expect (of called) cursor.old) result cursor.new }
+    ensures { IsOutcome (λ t. t) (expect (of called) cursor.old) result cursor.new }
 {
     if cursor.sees(Class::Reserved(ReservedWord::By)) {
         return Err(Stop::Syntax);
@@ -102,14 +102,14 @@ fn call(
     cursor: &mut Cursor<'_>,
     budget: usize,
 ) -> Result<(Symbol, Vec<Argument>), Stop>
-    ensures { Gives (λ p. (p.0, map argument_view p.1.items)) (spec.call budget cursor.old) result cursor.new }
+    ensures { IsOutcome (λ p. (p.0, map argument_view p.1.items)) (spec.call budget cursor.old) result cursor.new }
 {
     let function = function(cursor)?;
     let arguments = in_parentheses(alloc, cursor, budget)?;
     Ok((function, arguments))
 }
 
-/// An aggregate with a name in brackets.
+// An aggregate with a name in brackets.
 #[tactic(auto, unfolding(crate::specs::Reading::bracketed_aggregate, kq_expression::specs::Reading::name))]
 fn bracketed_aggregate(
     alloc: Global,
@@ -117,7 +117,7 @@ fn bracketed_aggregate(
     budget: usize,
 ) -> Result<Aggregate, Stop>
     requires { starts (of k.open_bracket) cursor.old ≡ true }
-    ensures { Gives aggregate_view (spec.bracketed_aggregate budget cursor.old) result cursor.new }
+    ensures { IsOutcome aggregate_view (spec.bracketed_aggregate budget cursor.old) result cursor.new }
 {
     let name = read_name(cursor)?;
     cursor.expect(ASSIGN)?;
@@ -129,14 +129,14 @@ fn bracketed_aggregate(
     })
 }
 
-/// An aggregate that begins with a word: its name, or its function.
+// An aggregate that begins with a word: its name, or its function.
 #[tactic(auto, unfolding(crate::specs::Reading::worded_aggregate))]
 fn worded_aggregate(
     alloc: Global,
     cursor: &mut Cursor<'_>,
     budget: usize,
 ) -> Result<Aggregate, Stop>
-    ensures { Gives aggregate_view (spec.worded_aggregate budget cursor.old) result cursor.new }
+    ensures { IsOutcome aggregate_view (spec.worded_aggregate budget cursor.old) result cursor.new }
 {
     let word = function(cursor)?;
     if Class::BareName.contains(word.kind) {
@@ -195,7 +195,7 @@ pub fn read_aggregates(
     cursor: &mut Cursor<'_>,
     budget: usize,
 ) -> Result<(Aggregate, Vec<Aggregate>), Stop>
-    ensures { Gives (λ p. (aggregate_view p.0, map aggregate_view p.1.items)) (spec.aggregates budget cursor.old) result cursor.new }
+    ensures { IsOutcome (λ p. (aggregate_view p.0, map aggregate_view p.1.items)) (spec.aggregates budget cursor.old) result cursor.new }
 {
     listed(alloc, cursor, budget, &AnAggregate { alloc, budget })
 }

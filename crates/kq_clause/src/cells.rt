@@ -4,7 +4,7 @@ ghost use Rattle.kq_clause.specs.Reading as spec;
 ghost use Rattle.kq_syntax.specs.Classes as k;
 ghost use Rattle.kq_syntax.specs.Classes.{of};
 ghost use Rattle.kq_syntax.specs.Forms.{expect, maybe, with_front};
-ghost use Rattle.kq_syntax.specs.Gives.{Gives};
+ghost use Rattle.kq_syntax.specs.Outcomes.{IsOutcome};
 
 use crate::lists::{COMMA, listed};
 use kq_expression::read_name;
@@ -13,7 +13,7 @@ use kq_syntax::{Class, Cursor, Part, Stop, Symbol};
 use kq_token::{Operator, Punctuation};
 use std::alloc::Global;
 
-/// One column.
+// One column.
 #[derive(Clone, Copy)]
 struct AColumn;
 
@@ -46,13 +46,13 @@ pub fn read_columns(
     cursor: &mut Cursor<'_>,
     budget: usize,
 ) -> Result<(Column, Vec<Column>), Stop>
-    ensures { Gives (λ p. (p.0, p.1.items)) (spec.columns budget cursor.old) result cursor.new }
+    ensures { IsOutcome (λ p. (p.0, p.1.items)) (spec.columns budget cursor.old) result cursor.new }
 {
     listed(alloc, cursor, budget, &AColumn)
 }
 
 fn minus(cursor: &mut Cursor<'_>) -> Result<Option<Symbol>, Stop>
-    ensures { Gives (λ t. t) (maybe (of k.minus) (expect (of k.minus)) cursor.old) result cursor.new }
+    ensures { IsOutcome (λ t. t) (maybe (of k.minus) (expect (of k.minus)) cursor.old) result cursor.new }
 {
     if !cursor.sees(Class::Operator(Operator::Minus)) {
         return Ok(None);
@@ -62,20 +62,20 @@ fn minus(cursor: &mut Cursor<'_>) -> Result<Option<Symbol>, Stop>
 
 #[tactic(auto, unfolding(crate::specs::Reading::cell))]
 fn cell(cursor: &mut Cursor<'_>) -> Result<Cell, Stop>
-    ensures { Gives (λ c. c) (spec.cell cursor.old) result cursor.new }
+    ensures { IsOutcome (λ c. c) (spec.cell cursor.old) result cursor.new }
 {
     let minus = minus(cursor)?;
     let literal = cursor.expect(Class::Literal)?;
     Ok(Cell { minus, literal })
 }
 
-/// The cells that follow, behind those that were found before.
+// The cells that follow, behind those that were found before.
 fn more_cells(
     turns: usize,
     cursor: &mut Cursor<'_>,
     mut found: Vec<Cell>,
 ) -> Result<Vec<Cell>, Stop>
-    ensures { Gives (λ v. v.items) (with_front found.items (spec.more_cells turns cursor.old)) result cursor.new }
+    ensures { IsOutcome (λ v. v.items) (with_front found.items (spec.more_cells turns cursor.old)) result cursor.new }
 {
     for _turn in 0..turns {
         if !cursor.sees(COMMA) {
@@ -94,7 +94,7 @@ fn more_cells(
 /// number of symbols that are left.
 #[tactic(auto, unfolding(crate::specs::Reading::cells))]
 pub fn read_cells(alloc: Global, cursor: &mut Cursor<'_>, budget: usize) -> Result<Vec<Cell>, Stop>
-    ensures { Gives (λ v. v.items) (spec.cells budget cursor.old) result cursor.new }
+    ensures { IsOutcome (λ v. v.items) (spec.cells budget cursor.old) result cursor.new }
 {
     let mut found = Vec::new(alloc);
     if !cursor.sees(Class::CellStart) {

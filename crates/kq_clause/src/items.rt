@@ -6,7 +6,7 @@ ghost use Rattle.kq_grammar.specs.Views.{item_view, key_view, grouping_view, tre
 ghost use Rattle.kq_syntax.specs.Classes as k;
 ghost use Rattle.kq_syntax.specs.Classes.{of};
 ghost use Rattle.kq_syntax.specs.Forms.{expect, maybe};
-ghost use Rattle.kq_syntax.specs.Gives.{Gives};
+ghost use Rattle.kq_syntax.specs.Outcomes.{IsOutcome};
 ghost use Rattle.kq_syntax.specs.declared.word.ClauseWord.TheVariants as w;
 
 use crate::lists::listed;
@@ -16,9 +16,9 @@ use kq_syntax::{Class, ClauseWord, Cursor, Part, ReservedWord, Stop, Symbol};
 use kq_token::Operator;
 use std::alloc::Global;
 
-/// What stands behind `=`, where it comes next.
+// What stands behind `=`, where it comes next.
 fn given(alloc: Global, cursor: &mut Cursor<'_>, budget: usize) -> Result<Option<Expression>, Stop>
-    ensures { Gives (option_map tree_of) (spec.given true budget cursor.old) result cursor.new }
+    ensures { IsOutcome (option_map tree_of) (spec.given true budget cursor.old) result cursor.new }
 {
     if !cursor.sees(Class::Operator(Operator::Assign)) {
         return Ok(None);
@@ -31,7 +31,7 @@ fn given(alloc: Global, cursor: &mut Cursor<'_>, budget: usize) -> Result<Option
 /// symbols that are left.
 #[tactic(auto, unfolding(crate::specs::Reading::item))]
 pub fn read_item(alloc: Global, cursor: &mut Cursor<'_>, budget: usize) -> Result<Item, Stop>
-    ensures { Gives item_view (spec.item budget cursor.old) result cursor.new }
+    ensures { IsOutcome item_view (spec.item budget cursor.old) result cursor.new }
 {
     let value = read_expression(alloc, cursor, budget)?;
     if !is_bare(&value) {
@@ -74,7 +74,7 @@ pub fn read_items(
     cursor: &mut Cursor<'_>,
     budget: usize,
 ) -> Result<(Item, Vec<Item>), Stop>
-    ensures { Gives (λ p. (item_view p.0, map item_view p.1.items)) (spec.items budget cursor.old) result cursor.new }
+    ensures { IsOutcome (λ p. (item_view p.0, map item_view p.1.items)) (spec.items budget cursor.old) result cursor.new }
 {
     listed(alloc, cursor, budget, &AnItem { alloc, budget })
 }
@@ -86,16 +86,16 @@ pub fn read_grouping(
     cursor: &mut Cursor<'_>,
     budget: usize,
 ) -> Result<Grouping, Stop>
-    ensures { Gives grouping_view (spec.grouping budget cursor.old) result cursor.new }
+    ensures { IsOutcome grouping_view (spec.grouping budget cursor.old) result cursor.new }
 {
     cursor.expect(Class::Reserved(ReservedWord::By))?;
     let (first, others) = read_items(alloc, cursor, budget)?;
     Ok(Grouping { first, others })
 }
 
-/// `asc` or `desc` where it is said.
+// `asc` or `desc` where it is said.
 fn direction(cursor: &mut Cursor<'_>) -> Result<Option<Symbol>, Stop>
-    ensures { Gives (λ t. t) (maybe (of k.direction) (expect (of k.direction)) cursor.old) result cursor.new }
+    ensures { IsOutcome (λ t. t) (maybe (of k.direction) (expect (of k.direction)) cursor.old) result cursor.new }
 {
     if !cursor.sees(Class::Direction) {
         return Ok(None);
@@ -103,10 +103,10 @@ fn direction(cursor: &mut Cursor<'_>) -> Result<Option<Symbol>, Stop>
     Ok(Some(cursor.expect(Class::Direction)?))
 }
 
-/// `first` or `last` behind `nulls` where it is said.
+// `first` or `last` behind `nulls` where it is said.
 #[tactic(auto, unfolding(crate::specs::Reading::nulls))]
 fn nulls(cursor: &mut Cursor<'_>) -> Result<Option<Symbol>, Stop>
-    ensures { Gives (λ t. t) (maybe (of (k.clause w.Nulls)) spec.nulls cursor.old) result cursor.new }
+    ensures { IsOutcome (λ t. t) (maybe (of (k.clause w.Nulls)) spec.nulls cursor.old) result cursor.new }
 {
     if !cursor.sees(Class::Clause(ClauseWord::Nulls)) {
         return Ok(None);
@@ -115,9 +115,9 @@ fn nulls(cursor: &mut Cursor<'_>) -> Result<Option<Symbol>, Stop>
     Ok(Some(cursor.expect(Class::Extreme)?))
 }
 
-/// How a key of a sort orders, as far as it is said.
+// How a key of a sort orders, as far as it is said.
 fn order(cursor: &mut Cursor<'_>) -> Result<(Option<Symbol>, Option<Symbol>), Stop>
-    ensures { Gives (λ p. p) (spec.order cursor.old) result cursor.new }
+    ensures { IsOutcome (λ p. p) (spec.order cursor.old) result cursor.new }
 {
     let direction = direction(cursor)?;
     let nulls = nulls(cursor)?;
@@ -127,7 +127,7 @@ fn order(cursor: &mut Cursor<'_>) -> Result<(Option<Symbol>, Option<Symbol>), St
 /// The key of a sort that comes next.
 #[tactic(auto, unfolding(crate::specs::Reading::key))]
 pub fn read_key(alloc: Global, cursor: &mut Cursor<'_>, budget: usize) -> Result<Key, Stop>
-    ensures { Gives key_view (spec.key budget cursor.old) result cursor.new }
+    ensures { IsOutcome key_view (spec.key budget cursor.old) result cursor.new }
 {
     let value = read_expression(alloc, cursor, budget)?;
     let (direction, nulls) = order(cursor)?;
@@ -171,7 +171,7 @@ pub fn read_keys(
     cursor: &mut Cursor<'_>,
     budget: usize,
 ) -> Result<(Key, Vec<Key>), Stop>
-    ensures { Gives (λ p. (key_view p.0, map key_view p.1.items)) (spec.keys budget cursor.old) result cursor.new }
+    ensures { IsOutcome (λ p. (key_view p.0, map key_view p.1.items)) (spec.keys budget cursor.old) result cursor.new }
 {
     listed(alloc, cursor, budget, &AKey { alloc, budget })
 }
@@ -183,7 +183,7 @@ pub fn read_names(
     cursor: &mut Cursor<'_>,
     budget: usize,
 ) -> Result<(Name, Vec<Name>), Stop>
-    ensures { Gives (λ p. (p.0, p.1.items)) (spec.names budget cursor.old) result cursor.new }
+    ensures { IsOutcome (λ p. (p.0, p.1.items)) (spec.names budget cursor.old) result cursor.new }
 {
     listed(alloc, cursor, budget, &AName)
 }

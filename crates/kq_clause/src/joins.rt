@@ -1,7 +1,7 @@
 // What a join matches on, and renamings.
 ghost use Rattle.std.specs.Prelude.{◌≡◌};
 ghost use Rattle.kq_clause.specs.Reading as spec;
-ghost use Rattle.kq_syntax.specs.Gives.{Gives};
+ghost use Rattle.kq_syntax.specs.Outcomes.{IsOutcome};
 ghost use Rattle.kq_token.specs.declared.kind.Side.TheVariants as side;
 
 use crate::lists::listed;
@@ -14,7 +14,7 @@ use std::alloc::Global;
 /// The kind of a join, as a word or as a string in brackets.
 #[tactic(auto, unfolding(crate::specs::Reading::join_kind))]
 pub fn read_join_kind(cursor: &mut Cursor<'_>) -> Result<Name, Stop>
-    ensures { Gives (λ n. n) (spec.join_kind cursor.old) result cursor.new }
+    ensures { IsOutcome (λ n. n) (spec.join_kind cursor.old) result cursor.new }
 {
     if !cursor.sees(Class::Sign(Punctuation::OpenBracket)) {
         return Ok(Name::Word(cursor.expect(Class::JoinKind)?));
@@ -25,9 +25,9 @@ pub fn read_join_kind(cursor: &mut Cursor<'_>) -> Result<Name, Stop>
     Ok(Name::Bracketed { open: first, text })
 }
 
-/// A name behind its side.
+// A name behind its side.
 fn sided(side: Side, cursor: &mut Cursor<'_>) -> Result<Name, Stop>
-    ensures { Gives (λ n. n) (spec.sided side cursor.old) result cursor.new }
+    ensures { IsOutcome (λ n. n) (spec.sided side cursor.old) result cursor.new }
 {
     cursor.expect(Class::Side(side))?;
     cursor.expect(Class::Sign(Punctuation::Dot))?;
@@ -36,7 +36,7 @@ fn sided(side: Side, cursor: &mut Cursor<'_>) -> Result<Name, Stop>
 
 #[tactic(auto, unfolding(crate::specs::Reading::left_right))]
 fn left_right(cursor: &mut Cursor<'_>) -> Result<JoinKey, Stop>
-    ensures { Gives (λ q. q) (spec.left_right cursor.old) result cursor.new }
+    ensures { IsOutcome (λ q. q) (spec.left_right cursor.old) result cursor.new }
 {
     let left = sided(Side::Left, cursor)?;
     let equals = cursor.expect(Class::Operator(Operator::Equal))?;
@@ -46,7 +46,7 @@ fn left_right(cursor: &mut Cursor<'_>) -> Result<JoinKey, Stop>
 
 #[tactic(auto, unfolding(crate::specs::Reading::right_left))]
 fn right_left(cursor: &mut Cursor<'_>) -> Result<JoinKey, Stop>
-    ensures { Gives (λ q. q) (spec.right_left cursor.old) result cursor.new }
+    ensures { IsOutcome (λ q. q) (spec.right_left cursor.old) result cursor.new }
 {
     let right = sided(Side::Right, cursor)?;
     let equals = cursor.expect(Class::Operator(Operator::Equal))?;
@@ -54,7 +54,7 @@ fn right_left(cursor: &mut Cursor<'_>) -> Result<JoinKey, Stop>
     Ok(JoinKey::RightLeft(right, equals, left))
 }
 
-/// One key of a join.
+// One key of a join.
 #[derive(Clone, Copy)]
 struct AJoinKey;
 
@@ -90,12 +90,12 @@ pub fn read_join_keys(
     cursor: &mut Cursor<'_>,
     budget: usize,
 ) -> Result<(JoinKey, Vec<JoinKey>), Stop>
-    ensures { Gives (λ p. (p.0, p.1.items)) (spec.join_keys budget cursor.old) result cursor.new }
+    ensures { IsOutcome (λ p. (p.0, p.1.items)) (spec.join_keys budget cursor.old) result cursor.new }
 {
     listed(alloc, cursor, budget, &AJoinKey)
 }
 
-/// One new name with the old one.
+// One new name with the old one.
 #[derive(Clone, Copy)]
 struct ARenaming;
 
@@ -128,7 +128,7 @@ pub fn read_renamings(
     cursor: &mut Cursor<'_>,
     budget: usize,
 ) -> Result<((Name, Name), Vec<(Name, Name)>), Stop>
-    ensures { Gives (λ p. (p.0, p.1.items)) (spec.renamings budget cursor.old) result cursor.new }
+    ensures { IsOutcome (λ p. (p.0, p.1.items)) (spec.renamings budget cursor.old) result cursor.new }
 {
     listed(alloc, cursor, budget, &ARenaming)
 }

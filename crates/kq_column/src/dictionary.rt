@@ -9,16 +9,16 @@ use kq_value::{Memory, Value};
 use std::alloc::Global;
 use std::marker::Model;
 
-/// Fewer rows than these keep their values as they are.
+// Fewer rows than these keep their values as they are.
 const FEWEST_ROWS: usize = 64;
 
-/// A dictionary has at most so many words, and one more for each four rows.
+// A dictionary has at most so many words, and one more for each four rows.
 const FEW_WORDS: usize = 64;
 
-/// So many words of a bucket are looked at, so that words whose hashes are made to meet cost no long walks. A word further back is put in again.
+// So many words of a bucket are looked at, so that words whose hashes are made to meet cost no long walks. A word further back is put in again.
 const LONGEST_WALK: usize = 64;
 
-/// Words, and for each row the code of its cell: the place of it among the words. Contracts see the cells.
+// Words, and for each row the code of its cell: the place of it among the words. Contracts see the cells.
 #[derive(Drop)]
 pub(crate) struct Dictionary {
     words: Vec<Value>,
@@ -41,7 +41,7 @@ impl Model for Dictionary {
     ghost invariant = { λ c. All (λ code. code < length c.words.items) c.codes.items };
 }
 
-/// The code of a cell that is among the newest words of its bucket.
+// The code of a cell that is among the newest words of its bucket.
 fn find(words: &[Value], hint: &Hint, cell: &Value, hash: u64) -> Option<u32>
     ensures { IfSome result (λ code. slice_get words.now code ≡ Some cell.now) }
 {
@@ -56,7 +56,7 @@ fn find(words: &[Value], hint: &Hint, cell: &Value, hash: u64) -> Option<u32>
     None
 }
 
-/// The code of a cell, which is put among the words where it isn't found.
+// The code of a cell, which is put among the words where it isn't found.
 fn code_of(words: &mut Vec<Value>, hint: &mut Hint, cell: &Value) -> Result<u32, Memory>
     requires { length words.old.items < 2 ^ 32 }
     ensures code { IfOk result (λ code. slice_get words.new.items code ≡ Some cell.now) }

@@ -13,7 +13,7 @@ use kq_value::{Memory, Ty, Value};
 use std::alloc::Global;
 use std::marker::Model;
 
-/// Numbers of one type, with a mark for each that says whether it is null; the marks are left out where none is. Contracts see the cells.
+// Numbers of one type, with a mark for each that says whether it is null; the marks are left out where none is. Contracts see the cells.
 #[derive(Drop)]
 pub(crate) struct Numbers {
     ty: Ty,
@@ -37,7 +37,7 @@ impl Model for Numbers {
     ghost invariant = { λ c. AreNumbers c.ty c.nulls.items c.numbers.items };
 }
 
-/// The number that stands for a value, none for a null.
+// The number that stands for a value, none for a null.
 fn number_of(ty: Ty, value: &Value) -> Option<i64>
     requires numbers { IsOfNumbers ty }
     requires typed { HasType ty value.now }
@@ -52,7 +52,7 @@ fn number_of(ty: Ty, value: &Value) -> Option<i64>
     }
 }
 
-/// The value that a number stands for.
+// The value that a number stands for.
 fn value_of(ty: Ty, number: i64) -> Value
     requires { ty ≡ Int → FitsSigned w32 number }
     ensures { result ≡ number_cell ty (Some number) }
@@ -67,7 +67,7 @@ fn value_of(ty: Ty, number: i64) -> Value
     }
 }
 
-/// The least and the greatest cell that numbers of a type stand for, nulls aside.
+// The least and the greatest cell that numbers of a type stand for, nulls aside.
 fn numbers_zone(ty: Ty, numbers: &[i64], nulls: &[bool]) -> Option<(Value, Value)>
     requires { AreNumbers ty nulls.now numbers.now }
     ensures { IsTrue (is_zone (map (number_cell ty) (marked nulls.now numbers.now)) result) }

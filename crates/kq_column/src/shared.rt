@@ -8,7 +8,7 @@ use kq_value::{Memory, Value};
 use std::alloc::Global;
 use std::marker::Model;
 
-/// A value for each row. The texts and dynamics in it are shared with the rows. Contracts see the cells.
+// A value for each row. The texts and dynamics in it are shared with the rows. Contracts see the cells.
 #[derive(Drop)]
 pub(crate) struct Shared {
     cells: Vec<Value>,

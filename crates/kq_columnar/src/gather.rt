@@ -9,7 +9,7 @@ use crate::vector::Vector;
 use kq_value::{Memory, Ty, Value};
 use std::alloc::Global;
 
-// The cells of one column.
+/// The cells of one column.
 #[tactic(auto, using(crate::proofs::Rows::column_of_rows, crate::proofs::Rows::beyond_of_rows))]
 pub fn column_over(
     alloc: Global,
@@ -28,7 +28,7 @@ pub fn column_over(
     }
 }
 
-// One value for each row.
+/// One value for each row.
 #[tactic(auto, using(crate::proofs::Rows::filled_over))]
 pub fn value_over(
     alloc: Global,

@@ -2,7 +2,7 @@
 use crate::vector::Vector;
 use kq_value::Value;
 
-// The columns of a piece of rows, the cells of the scalar lets, and the ticks of the command's moment.
+/// The columns of a piece of rows, the cells of the scalar lets, and the ticks of the command's moment.
 #[derive(Clone, Copy)]
 pub struct Piece<'a> {
     pub columns: &'a [Vector],

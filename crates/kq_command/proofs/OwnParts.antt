@@ -20,7 +20,7 @@ use Rattle.kq_syntax.specs.declared.kind.Symbol.{Symbol}
 use Rattle.kq_syntax.specs.Classes as k
 use Rattle.kq_syntax.specs.Classes.{of}
 use Rattle.kq_syntax.specs.Forms.{one, some, ◌⨾◌, Many, Maybe}
-use Rattle.kq_syntax.specs.Spans.{Spanned}
+use Rattle.kq_syntax.specs.Located.{SpellsLocated}
 use Rattle.kq_token.specs.declared.kind.DashedWord.TheVariants as d
 use Rattle.kq_token.specs.declared.kind.Punctuation.TheVariants as p
 
@@ -97,7 +97,7 @@ module _ (text : List ℕ) where
   table_columns_in : (m : Name) (cs : ColumnsTree) → Holds (table_columns_text m cs) (NameIn text m × ColumnsIn text cs)
   table_columns_in m cs = behind (both (name_in m) (behind (before (columns_in cs))))
 
-  spanned_in : (b : BodyTree) → Holds (Spanned tabular_text b) (BodyIn text b)
+  spanned_in : (b : BodyTree) → Holds (SpellsLocated tabular_text b) (BodyIn text b)
   spanned_in b ts s own =
       let first = (element (SymbolIn text) ts 0 b.first own.0 s.1).is_piece in
       let last = (element (SymbolIn text) ts (length ts - 1) b.last own.0 s.2).is_piece in

@@ -86,7 +86,7 @@ ReadsText text (Err (fault.Unsupported place)) = IsUnsupported text place
 ReadsText text (Err fault.Memory) = ⊤
 
 -- another text reads as its first byte that isn't UTF-8
-abbrev pub Reads : List ℕ → Result Command CommandFault → Type 0
-Reads text (Err (fault.NotText place)) = ¬ (IsUtf8 text) × (place ≡ utf8_valid_len text)
-Reads text (Err fault.Memory) = ⊤
-Reads text result = IsUtf8 text × ReadsText text result
+abbrev pub ReadsAs : List ℕ → Result Command CommandFault → Type 0
+ReadsAs text (Err (fault.NotText place)) = ¬ (IsUtf8 text) × (place ≡ utf8_valid_len text)
+ReadsAs text (Err fault.Memory) = ⊤
+ReadsAs text result = IsUtf8 text × ReadsText text result

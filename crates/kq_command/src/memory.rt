@@ -13,7 +13,7 @@ use kq_token::TokenKind;
 use kq_value::{Memory, Text};
 use std::alloc::Global;
 
-/// Requests for memory, and whether one was refused: only then may a reader answer want of memory.
+// Requests for memory, and whether one was refused: only then may a reader answer want of memory.
 #[derive(Drop)]
 pub(crate) struct Requests {
     alloc: Global,
@@ -47,7 +47,7 @@ impl Requests {
         }
     }
 
-    /// The text that a string stands for.
+    // The text that a string stands for.
     pub(crate) fn string(&mut self, kind: TokenKind, bytes: &[u8]) -> Result<Text, Memory>
         requires form { is_string_token kind bytes.now ≡ true }
         requires utf8 { IsUtf8 bytes.now }
@@ -60,7 +60,7 @@ impl Requests {
         }
     }
 
-    /// A list of nothing, which takes no memory.
+    // A list of nothing, which takes no memory.
     pub(crate) fn empty<T: Drop>(&self) -> Vec<T>
         ensures { result.items ≡ [] }
     {
@@ -77,7 +77,7 @@ impl Requests {
         }
     }
 
-    /// The command that a text is, before it is looked through for what isn't supported.
+    // The command that a text is, before it is looked through for what isn't supported.
     pub(crate) fn statement(&mut self, text: &str) -> Result<Statement, ParseFault>
         ensures answer { MatchResult result (λ s. IsStatement text.now (statement_of s)) (IsRefused text.now) }
         ensures refused { IfErr result (λ f. f ≡ ParseFault.Memory → self.new.refused ≡ true) }

@@ -45,7 +45,7 @@ fn named(text: &str, first: Property, others: &[Property], name: &[u8]) -> Optio
     first_named(text, others, name)
 }
 
-/// The place of the first of the others whose name stands before it.
+// The place of the first of the others whose name stands before it.
 fn repeated(text: &str, first: Property, others: &[Property]) -> Option<usize>
     requires { PropertyIn text.now first × All (PropertyIn text.now) others.now }
     ensures { result ≡ repeated_of text.now (first ∷ others.now) }
@@ -86,7 +86,7 @@ fn quoted(
     }))
 }
 
-/// The properties that are given, all of which are supported.
+// The properties that are given, all of which are supported.
 fn given(memory: &mut Requests, text: &str, list: &PropertyList) -> Result<Properties, Memory>
     requires stand { PropertiesIn text.now (Some (properties_view list.now)) }
     requires supported { properties_fault (ingest_fault text.now) (Some (properties_view list.now)) ≡ None }
@@ -106,7 +106,7 @@ fn given(memory: &mut Requests, text: &str, list: &PropertyList) -> Result<Prope
     })
 }
 
-/// Whether `backfill` is given `true`.
+// Whether `backfill` is given `true`.
 pub(crate) fn is_backfilled(text: &str, list: &Option<PropertyList>) -> bool
     requires { PropertiesIn text.now (option_map properties_view list.now) }
     ensures { result ≡ is_backfilled_by text.now (option_map properties_view list.now) }
@@ -117,7 +117,7 @@ pub(crate) fn is_backfilled(text: &str, list: &Option<PropertyList>) -> bool
     }
 }
 
-/// The place of the first property whose name stands before it.
+// The place of the first property whose name stands before it.
 pub(crate) fn repeated_in(text: &str, list: &Option<PropertyList>) -> Option<usize>
     requires { PropertiesIn text.now (option_map properties_view list.now) }
     ensures { result ≡ repeated_of text.now (given_of (option_map properties_view list.now)) }
@@ -128,7 +128,7 @@ pub(crate) fn repeated_in(text: &str, list: &Option<PropertyList>) -> Option<usi
     }
 }
 
-/// What the properties say, all of which are supported.
+// What the properties say, all of which are supported.
 pub(crate) fn read_properties(
     memory: &mut Requests,
     text: &str,

@@ -3,7 +3,7 @@ ghost use Rattle.std.specs.Prelude.{◌≡◌, ◌≤◌, ◌∷◌, None, true,
 ghost use Rattle.std.specs.Option.{option_map};
 ghost use Rattle.kq_command.specs.InText.{ColumnIn, ColumnsIn, ControlIn};
 ghost use Rattle.kq_command.specs.Meanings.{behind, column_of, columns_of};
-ghost use Rattle.kq_command.specs.Reads.{IsCommandOf, IsControlOf, Reads, ReadsText};
+ghost use Rattle.kq_command.specs.Reads.{IsCommandOf, IsControlOf, ReadsAs, ReadsText};
 ghost use Rattle.kq_command.specs.Unsupported.{control_fault};
 ghost use Rattle.kq_control.specs.ControlTrees.{control as command, query};
 ghost use Rattle.kq_control.specs.ControlViews.{columns_of as columns_view, control_of};
@@ -27,7 +27,7 @@ use std::alloc::Global;
 
 /// The command that a block of text is.
 pub fn read_command(alloc: Global, text: &[u8]) -> Result<Command, CommandFault>
-    ensures { Reads text.now result }
+    ensures { ReadsAs text.now result }
 {
     match std::str::from_utf8(text) {
         Ok(text) => read_text(alloc, text),
@@ -54,7 +54,7 @@ fn read_in(memory: &mut Requests, text: &str) -> Result<Command, CommandFault>
     }
 }
 
-/// The query of the text, whose tree it is.
+// The query of the text, whose tree it is.
 fn asked(memory: &mut Requests, text: &str, tree: Box<WrittenQuery>) -> Result<Command, Memory>
     ensures value { IfOk result (IsCommandOf text.now (query (query_of tree.value))) }
     ensures refused { OnErr result (memory.new.refused ≡ true) }
@@ -66,7 +66,7 @@ fn asked(memory: &mut Requests, text: &str, tree: Box<WrittenQuery>) -> Result<C
     }))
 }
 
-/// The command, unless a symbol of it isn't supported.
+// The command, unless a symbol of it isn't supported.
 fn supported(memory: &mut Requests, text: &str, control: Control) -> Result<Command, CommandFault>
     requires { IsStatement text.now (command (control_of control)) }
     ensures answer { ReadsText text.now result }
@@ -78,7 +78,7 @@ fn supported(memory: &mut Requests, text: &str, control: Control) -> Result<Comm
     }
 }
 
-/// The command of a form that is built.
+// The command of a form that is built.
 fn built(memory: &mut Requests, text: &str, control: Control) -> Result<Command, Memory>
     requires stands { ControlIn text.now (control_of control) }
     requires supported { control_fault text.now (control_of control) ≡ None }
@@ -141,7 +141,7 @@ fn column_in(
     }
 }
 
-/// The columns behind those that were found, where each has a known type.
+// The columns behind those that were found, where each has a known type.
 fn more_columns(
     memory: &mut Requests,
     text: &str,
@@ -162,7 +162,7 @@ fn more_columns(
     Ok(Some(found))
 }
 
-/// The columns, where each has a known type.
+// The columns, where each has a known type.
 fn columns_in(
     memory: &mut Requests,
     text: &str,

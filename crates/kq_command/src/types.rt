@@ -5,7 +5,7 @@ ghost use Rattle.kq_command.specs.Types.{same, ty_of as type_of};
 
 use kq_value::Ty;
 
-/// The type of a type word or of its alias.
+// The type of a type word or of its alias.
 pub(crate) fn ty_of(word: &[u8]) -> Option<Ty>
     ensures { result ≡ type_of word.now }
 {

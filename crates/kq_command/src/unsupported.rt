@@ -51,7 +51,7 @@ fn unless(fine: bool, at: usize) -> Option<usize>
     if fine { None } else { Some(at) }
 }
 
-/// The fault of a property of an ingestion.
+// The fault of a property of an ingestion.
 fn ingest_fault(
     memory: &mut Requests,
     text: &str,
@@ -83,7 +83,7 @@ fn ingest_fault(
     Ok(Some(property.name.from))
 }
 
-/// The fault of a property of a view.
+// The fault of a property of a view.
 fn view_fault(text: &str, property: Property) -> Option<usize>
     requires { PropertyIn text.now property }
     ensures { result ≡ view_fault_of text.now property }
@@ -158,7 +158,7 @@ fn definition_fault(text: &str, list: &Option<PropertyList>) -> Option<usize>
     first_view_fault(text, list.others.as_slice())
 }
 
-/// The place of the first symbol of the command that isn't supported.
+// The place of the first symbol of the command that isn't supported.
 pub(crate) fn unsupported(
     memory: &mut Requests,
     text: &str,

@@ -13,7 +13,7 @@ use kq_control::{Body, ViewDefinition};
 use kq_grammar::Query as WrittenQuery;
 use kq_value::Memory;
 
-/// What stands in the text from the query's first to its last token.
+// What stands in the text from the query's first to its last token.
 fn query_text<'a>(text: &'a str, body: &Body) -> &'a str
     requires { BodyIn text.now (body_of body.now) }
     ensures { result.now ≡ query_bytes text.now (body_of body.now) }
@@ -21,7 +21,7 @@ fn query_text<'a>(text: &'a str, body: &Body) -> &'a str
     &text[body.first.from..body.last.to]
 }
 
-/// The view that is to be made.
+// The view that is to be made.
 pub(crate) fn new_view(
     memory: &mut Requests,
     text: &str,

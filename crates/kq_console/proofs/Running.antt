@@ -13,7 +13,7 @@ use Rattle.kq_session.specs.declared.end.End.TheVariants.{Finished, Short, Sourc
 use Rattle.kq_session.specs.declared.receipt.Receipt.{Receipt}
 use Rattle.kq_session.specs.Ends.{status_of, wants_memory}
 use Rattle.kq_session.specs.Session.{Explained}
-use Rattle.kq_console.specs.Headline.{Ran, AreExplained, IsCaused, first_status, given_by}
+use Rattle.kq_console.specs.Headline.{Ran, AreExplained, IsCaused, first_status, given_to_sessions}
 use Rattle.kq_console.specs.Opening.{AreOpened}
 use Rattle.kq_console.specs.Together.{IsServed, AreServed, ServedAll}
 use Rattle.kq_console.specs.Views.{EndedView, Given, OpenedView}
@@ -67,12 +67,12 @@ caused_all limits h n told (name ∷ names) (o ∷ os) (s ∷ ss) opened served 
 
 pub Ran-all : (c : CatalogView) (limits : Limits) (old new : PassView) (o : OpenedView) (os : List OpenedView) (ss : List EndedView) (generate : Option ℕ) (first : Contents) (told : List ℕ → Contents) (names : List (List ℕ)) (status : ℕ)
     → o.name ≡ [] → o.generate ≡ generate → o.objects.contents ≡ first → o.objects.source_faults ≡ 0 → o.objects.sink_faults ≡ 0 → AreOpened told names os → ServedAll limits old new (o ∷ os) ss → old.made ≡ 0
-    → Sound c → AreFull limits → c.limits ≡ limits → IsPrefix new.seen (hist c) → cursor (hist c) ≡ new.made → status ≡ first_status ss → Ran names (given_by generate first told names) status c ss
+    → Sound c → AreFull limits → c.limits ≡ limits → IsPrefix new.seen (hist c) → cursor (hist c) ≡ new.made → status ≡ first_status ss → Ran names (given_to_sessions generate first told names) status c ss
 Ran-all c limits old new o os [] generate first told names status name script contents source sink opened all none sound full same seen made is_status = absurd all.served
 Ran-all c limits old new o os (s ∷ ss) generate first told names status name script contents source sink opened all none sound full same seen made is_status =
     let h = hist c in
     let served = AreServed-later limits new.seen h 0 (o ∷ os) (s ∷ ss) seen all.served in
-    let given = given_by generate first told names in
+    let given = given_to_sessions generate first told names in
     let explained : AreExplained limits h 0 given (s ∷ ss) = (ByScript-given (Explained limits h 0) o generate first s.session script contents source sink served.0.explained, explained_all limits h 1 told names os ss opened served.1) in
     let here = served.0.named ∙ name in
     let others = named_all limits h 1 told names os ss opened served.1 in

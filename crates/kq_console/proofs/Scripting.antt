@@ -11,9 +11,9 @@ use Rattle.kq_session.specs.declared.end.End.{End}
 use Rattle.kq_session.specs.declared.end.End.TheVariants as ends
 use Rattle.kq_session.specs.Ends.{status_of}
 use Rattle.kq_session.specs.Objects.{Objects, SessionView}
-use Rattle.kq_session.specs.Session.{Ends, Explained, GoesOn, owns}
+use Rattle.kq_session.specs.Session.{SessionEnds, Explained, GoesOn, owns}
 use Rattle.kq_session.specs.Exchanges.{Rises}
-use Rattle.kq_session.proofs.Serving.{Ends-none}
+use Rattle.kq_session.proofs.Serving.{SessionEnds-none}
 use Rattle.kq_gen.specs.Commands.{script}
 use Rattle.kq_gen.specs.Source.{ScriptState, script_read, script_told, script_unread}
 use Rattle.kq_gen.proofs.Reading.{told-since}
@@ -58,12 +58,12 @@ by_script name n before = record { name = name; generate = Some n; objects = bef
 
 -- it was read in place of the session's own source
 pub ServedOne-script : (limits : Limits) (old new : PassView) (actor n : ℕ) (name : List ℕ) (first now : ScriptState) (before : Objects) (s : SessionView) (end : End)
-    → first ≡ record { text = script n; at = 0; ended = false } → Ends limits new.seen actor (with_source (script_told first) before.contents) (with_source (script_told now) s.objects.contents) s.receipts end → s.status ≡ status_of end s.receipts
+    → first ≡ record { text = script n; at = 0; ended = false } → SessionEnds limits new.seen actor (with_source (script_told first) before.contents) (with_source (script_told now) s.objects.contents) s.receipts end → s.status ≡ status_of end s.receipts
     → GoesOn old new s.receipts → s.objects.contents.source ≡ before.contents.source → s.objects.source_faults ≡ before.source_faults → Rises 0 0 (s.status ≡ 3) → Rises before.sink_faults s.objects.sink_faults (s.status ≡ 4)
     → ServedOne limits old new actor (by_script name n before) (record { name = name; session = s })
 ServedOne-script limits old new actor n name first now before s end is_first so by_end goes_on source faults fault sink =
     let unread = with_source (script_unread n) before.contents in
-    let from_first = subst (λ (f : ScriptState). Ends limits new.seen actor (with_source (script_told f) before.contents) (with_source (script_told now) s.objects.contents) s.receipts end) is_first so in
+    let from_first = subst (λ (f : ScriptState). SessionEnds limits new.seen actor (with_source (script_told f) before.contents) (with_source (script_told now) s.objects.contents) s.receipts end) is_first so in
     let total = sum_by-cons (λ (x : EndedView). owns x.session.receipts) (record { name = name; session = s }) [] in
     let none : all_owns [] ≡ 0 = refl in
     let told = told-since n now from_first.bytes from_first.gave in
@@ -76,7 +76,7 @@ ServedOne-script limits old new actor n name first now before s end is_first so 
           source_faults = faults;
           at = now.at;
           ended = now.ended;
-          holds = record { end = end; ends = subst (λ (v : SourceView). Ends limits new.seen actor unread (with_source v s.objects.contents) s.receipts end) told from_first; by_end = by_end };
+          holds = record { end = end; ends = subst (λ (v : SourceView). SessionEnds limits new.seen actor unread (with_source v s.objects.contents) s.receipts end) told from_first; by_end = by_end };
         };
         source = stays_as before.source_faults s.objects.source_faults (s.status ≡ 3) faults (no_fault (s.status ≡ 3) fault);
         sink = sink;
@@ -96,7 +96,7 @@ ServedOne-unserved limits pass actor n name before = record {
       ended = false;
       holds = record {
         end = ends.Short;
-        ends = Ends-none limits actor pass.seen (with_source (script_unread n) before.contents);
+        ends = SessionEnds-none limits actor pass.seen (with_source (script_unread n) before.contents);
         by_end = refl;
       };
     };

@@ -6,7 +6,7 @@ use Rattle.std.proofs.lemmas.Bool.Decides.{nat_tests}
 use Rattle.kq_model.specs.declared.limits.Limits.{Limits}
 use Rattle.kq_model.specs.History.{History, CommitAt, cursor, commits_at}
 use Rattle.kq_engine.specs.Fits.{own_commit}
-use Rattle.kq_engine.specs.Shared.{made_by}
+use Rattle.kq_engine.specs.Shared.{commit_count}
 use Rattle.kq_engine.proofs.Counting.{length-commits_at}
 use Rattle.kq_engine.proofs.Owning.{IsIn, IsRising, commits_at-rising}
 use Rattle.kq_session.specs.declared.receipt.Receipt.{Receipt}
@@ -135,7 +135,7 @@ of_receipts : (actor : ℕ) (receipts : List Receipt) → AreOf actor (own_commi
 of_receipts actor [] = tt
 of_receipts actor (r ∷ receipts) = of_more r.own r.place actor r.number (own_commits actor receipts) (of_receipts actor receipts)
 
-length_more : (own : Bool) (place actor number : ℕ) (more : List CommitAt) → length (own_commit own place (record { actor = actor; number = number }) ++ more) ≡ made_by own + length more
+length_more : (own : Bool) (place actor number : ℕ) (more : List CommitAt) → length (own_commit own place (record { actor = actor; number = number }) ++ more) ≡ commit_count own + length more
 length_more true place actor number more = omega arith
 length_more false place actor number more = omega arith
 
@@ -143,8 +143,8 @@ length-own_commits : (actor : ℕ) (receipts : List Receipt) → length (own_com
 length-own_commits actor [] = refl
 length-own_commits actor (r ∷ receipts) =
     length_more r.own r.place actor r.number (own_commits actor receipts)
-    ∙ ap (λ (n : ℕ). made_by r.own + n) (length-own_commits actor receipts)
-    ∙ sym (sum_by-cons (λ (x : Receipt). made_by x.own) r receipts)
+    ∙ ap (λ (n : ℕ). commit_count r.own + n) (length-own_commits actor receipts)
+    ∙ sym (sum_by-cons (λ (x : Receipt). commit_count x.own) r receipts)
 
 -- the commits of an actor's receipts are within the actor's commits
 own_within : (h : History) (actor : ℕ) (receipts : List Receipt) → AreOwned 0 0 (commits_at h) (own_commits actor receipts) → Within (filter (is_of actor) (commits_at h)) (own_commits actor receipts)
@@ -156,11 +156,11 @@ own_within h actor receipts owned = within (filter (is_of actor) (commits_at h))
 abbrev is_from : ℕ → CommitAt → Bool
 is_from n m = nat_le n m.by.actor
 
-length_if : (b : Bool) (m : CommitAt) (ms : List CommitAt) → length (cond b (m ∷ ms) ms) ≡ made_by b + length ms
+length_if : (b : Bool) (m : CommitAt) (ms : List CommitAt) → length (cond b (m ∷ ms) ms) ≡ commit_count b + length ms
 length_if true m ms = omega arith
 length_if false m ms = omega arith
 
-one_of : (n a : ℕ) → made_by (nat_eq a n) + made_by (nat_le (n + 1) a) ≡ made_by (nat_le n a)
+one_of : (n a : ℕ) → commit_count (nat_eq a n) + commit_count (nat_le (n + 1) a) ≡ commit_count (nat_le n a)
 one_of n a = grind (arith, nat_tests)
 
 split_from : (n : ℕ) (ms : List CommitAt) → length (filter (is_of n) ms) + length (filter (is_from (n + 1)) ms) ≡ length (filter (is_from n) ms)
@@ -191,7 +191,7 @@ none_from n (m ∷ ms) e =
     let here = length_if (is_from n m) m (filter (is_from n) ms) in
     All-cons (λ (x : CommitAt). x.by.actor < n) m ms (below (nat_le n m.by.actor) refl (omega (arith, here, e))) (none_from n ms (omega (arith, here, e)))
   where
-    below : (b : Bool) → nat_le n m.by.actor ≡ b → made_by b ≡ 0 → m.by.actor < n
+    below : (b : Bool) → nat_le n m.by.actor ≡ b → commit_count b ≡ 0 → m.by.actor < n
     below true is zero = absurd (omega (arith, zero))
     below false is zero = grind (arith, nat_tests, is)
 

@@ -53,12 +53,12 @@ RanBy feeds given status None sessions = (sessions ≡ []) × ((status ≡ 2) �
 RanBy feeds given status (Some c) sessions = Ran feeds given status c sessions
 
 -- what the sessions are given: session 0, whose script may be generated, and then the feeds, whose scripts are their own
-abbrev pub given_by : Option ℕ → Contents → (List ℕ → Contents) → List (List ℕ) → List Given
-given_by generate first of_feed feeds = record { generate = generate; contents = first } ∷ map (λ (name : List ℕ). record { generate = None; contents = of_feed name }) feeds
+abbrev pub given_to_sessions : Option ℕ → Contents → (List ℕ → Contents) → List (List ℕ) → List Given
+given_to_sessions generate first of_feed feeds = record { generate = generate; contents = first } ∷ map (λ (name : List ℕ). record { generate = None; contents = of_feed name }) feeds
 
 -- a run, which has a catalogue exactly where it began its sessions
 abbrev pub Runs : Option ℕ → List (List ℕ) → Contents → (List ℕ → Contents) → RunView → Type 0
-Runs generate feeds first of_feed run = RanBy feeds (given_by generate first of_feed feeds) run.status run.catalog run.sessions
+Runs generate feeds first of_feed run = RanBy feeds (given_to_sessions generate first of_feed feeds) run.status run.catalog run.sessions
 
 -- ---- completeness
 
@@ -95,5 +95,5 @@ pub record IsCompleteRun (given : List Given) (run : RunView) : Type 0 where
 -- where the words have the form, the World failed in no opening and nothing troubled a session, the run is complete
 abbrev pub Completes : Option Asked → ℕ → ℕ → Contents → (List ℕ → Contents) → RunView → Type 0
 Completes said count_before count_now first of_feed run =
-    let given = given_by (generate_of said) first of_feed (feeds_of said) in
+    let given = given_to_sessions (generate_of said) first of_feed (feeds_of said) in
     IsSome said → ¬ Rose count_before count_now → (IsSome run.catalog → AreUntroubled given run.sessions) → IsCompleteRun given run

@@ -9,7 +9,7 @@ use kq_value::Text;
 use kq_world::{OpenFault, World};
 use std::alloc::Global;
 
-/// Opens the feeds of these names in order, up to the first that is refused.
+// Opens the feeds of these names in order, up to the first that is refused.
 pub(crate) fn open_feeds<W: World>(
     alloc: Global,
     world: &mut W,

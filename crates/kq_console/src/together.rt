@@ -16,22 +16,22 @@ use std::sync::Wait;
 use std::thread;
 use std::thread::Threads;
 
-/// Sessions that have ended, in order, and the one pass that is left of theirs.
+// Sessions that have ended, in order, and the one pass that is left of theirs.
 #[derive(Drop)]
 pub(crate) struct Together<S: Source, K: Sink, C: Clock> {
     pub pass: Pass,
     pub sessions: Vec<EndedSession<S, K, C>>,
 }
 
-/// A session that has ended, with its pass.
+// A session that has ended, with its pass.
 #[derive(Drop)]
 pub(crate) struct One<S: Source, K: Sink, C: Clock> {
     pub pass: Pass,
     pub session: EndedSession<S, K, C>,
 }
 
-/// Serves session 0 in this thread and each feed in a thread of its own. Where none can be made for a feed, it is served
-/// here after session 0. There is room for all of them in `sessions`.
+// Serves session 0 in this thread and each feed in a thread of its own. Where none can be made for a feed, it is served
+// here after session 0. There is room for all of them in `sessions`.
 pub(crate) fn serve_all<
     R: Threads + Wait + Sync,
     S: Source + Send,

@@ -25,8 +25,8 @@ fn actor_of(worker: u32) -> u32
     FIRST_WORKER + worker
 }
 
-/// Serves the sessions as `serve_all` does. Beside them each worker works in a thread of its own, until all sessions have
-/// ended, when `stop` is set. A worker for which no thread can be made is left out.
+// Serves the sessions as `serve_all` does. Beside them each worker works in a thread of its own, until all sessions have
+// ended, when `stop` is set. A worker for which no thread can be made is left out.
 pub(crate) fn serve_beside_workers<
     R: Threads + Wait + Sync,
     S: Source + Send,

@@ -24,11 +24,11 @@ use Rattle.kq_token.specs.declared.kind.Punctuation.TheVariants as p
 use Rattle.kq_syntax.specs.Classes as k
 use Rattle.kq_syntax.specs.Classes.{Class, of}
 use Rattle.kq_syntax.specs.Forms.{one, some, ◌⨾◌, Bind, Then, Image, Maybe, starts, pure, expect, bind, both, ◌<$>◌, skip, closed}
-use Rattle.kq_syntax.specs.Spans.{Spanned}
+use Rattle.kq_syntax.specs.Located.{SpellsLocated}
 use Rattle.kq_syntax.proofs.ClassLemmas.{apart, within, part}
 use Rattle.kq_syntax.proofs.Laws.{Exact, Example, nothing, stops_starts, starts_stops, bind_exact, both_exact, image_exact, same_exact, pure_exact, one_exact, choose_exact, maybe_exact, closed_exact, closed_example}
 use Rattle.kq_syntax.proofs.OtherwiseLaws.{otherwise, choose_otherwise}
-use Rattle.kq_syntax.proofs.SpanLaws.{spanned_exact, spanned_example}
+use Rattle.kq_syntax.proofs.LocatedLaws.{spanned_exact, spanned_example}
 
 -- ---- a view's properties and name
 
@@ -154,24 +154,24 @@ abbrev a_close : Symbol
 a_close = example_of (kind.Punctuation p.CloseBrace)
 
 abbrev closed_body : BodyTree → Text
-closed_body b = Spanned tabular_text b ⨾ some (of k.close_brace)
+closed_body b = SpellsLocated tabular_text b ⨾ some (of k.close_brace)
 
-spanned_tabular_exact : (n : ℕ) → Exact (Spanned tabular_text) (of tabular_goes_on) (reading.spanned_tabular n) n
+spanned_tabular_exact : (n : ℕ) → Exact (SpellsLocated tabular_text) (of tabular_goes_on) (reading.spanned_tabular n) n
 unfolding reading.spanned_tabular
 spanned_tabular_exact n = spanned_exact tabular_text (of k.begins_tabular) (of tabular_goes_on) tabular_begins n (tabular n) (tabular_exact n)
 
-span_example : Example (Spanned tabular_text)
+span_example : Example (SpellsLocated tabular_text)
 span_example = spanned_example tabular_text (of k.begins_tabular) (of tabular_goes_on) tabular_begins tabular_example
 
 pub body_exact : (more : Symbol → Bool) (n : ℕ) → Exact grammar.braced_text more (reading.body n) n
 unfolding reading.body
 body_exact more n =
     behind k.open_brace an_open refl closed_body more n (closed (reading.spanned_tabular n) (of k.close_brace))
-    (closed_exact (of k.close_brace) a_close refl (Spanned tabular_text) (of tabular_goes_on) more (apart k.close_brace tabular_goes_on refl) n (reading.spanned_tabular n) (spanned_tabular_exact n))
-    (closed_example (of k.close_brace) a_close refl (Spanned tabular_text) (of tabular_goes_on) span_example)
+    (closed_exact (of k.close_brace) a_close refl (SpellsLocated tabular_text) (of tabular_goes_on) more (apart k.close_brace tabular_goes_on refl) n (reading.spanned_tabular n) (spanned_tabular_exact n))
+    (closed_example (of k.close_brace) a_close refl (SpellsLocated tabular_text) (of tabular_goes_on) span_example)
 
 pub body_example : Example grammar.braced_text
-body_example = behind_example k.open_brace an_open refl closed_body (closed_example (of k.close_brace) a_close refl (Spanned tabular_text) (of tabular_goes_on) span_example)
+body_example = behind_example k.open_brace an_open refl closed_body (closed_example (of k.close_brace) a_close refl (SpellsLocated tabular_text) (of tabular_goes_on) span_example)
 
 -- ---- exports
 

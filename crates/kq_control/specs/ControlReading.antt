@@ -16,7 +16,7 @@ use Rattle.kq_token.specs.declared.kind.Punctuation.TheVariants as p
 use Rattle.kq_syntax.specs.Classes as k
 use Rattle.kq_syntax.specs.Classes.{Class, of}
 use Rattle.kq_syntax.specs.Forms.{Parser, pure, expect, bind, both, ◌<$>◌, choose, maybe, skip, closed}
-use Rattle.kq_syntax.specs.Spans.{spanned}
+use Rattle.kq_syntax.specs.Located.{located}
 
 -- ---- parts
 
@@ -33,7 +33,7 @@ unfoldable pub properties : ℕ → Parser Symbol PropertiesTree
 properties n = skip (of (k.control w.With)) (property_list n)
 
 unfoldable pub spanned_tabular : ℕ → Parser Symbol BodyTree
-spanned_tabular n = spanned (tabular n)
+spanned_tabular n = located (tabular n)
 
 abbrev pub maybe_properties : ℕ → Parser Symbol (Option PropertiesTree)
 maybe_properties n = maybe (of (k.control w.With)) (properties n)

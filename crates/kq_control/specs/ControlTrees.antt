@@ -5,7 +5,7 @@ use Rattle.kq_grammar.specs.declared.clause.Column.{Column}
 use Rattle.kq_grammar.specs.declared.expression.Name.{Name}
 use Rattle.kq_grammar.specs.Trees.{TabularTree, QueryTree}
 use Rattle.kq_syntax.specs.declared.kind.Symbol.{Symbol}
-use Rattle.kq_syntax.specs.Spans.{Span}
+use Rattle.kq_syntax.specs.Located.{Located}
 
 -- one column or more
 abbrev pub ColumnsTree : Type 0
@@ -16,7 +16,7 @@ PropertiesTree = Property × List Property
 
 -- a query in braces, with its first and its last symbol
 abbrev pub BodyTree : Type 0
-BodyTree = Span Symbol TabularTree
+BodyTree = Located Symbol TabularTree
 
 pub record ViewTree : Type 0 where
   pub at_leisure : Option Symbol

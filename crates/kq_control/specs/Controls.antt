@@ -12,7 +12,7 @@ use Rattle.kq_token.specs.declared.kind.Punctuation.TheVariants as p
 use Rattle.kq_syntax.specs.Classes as k
 use Rattle.kq_syntax.specs.Classes.{Class, of}
 use Rattle.kq_syntax.specs.Forms.{one, some, ◌⨾◌, Maybe}
-use Rattle.kq_syntax.specs.Spans.{Spanned}
+use Rattle.kq_syntax.specs.Located.{SpellsLocated}
 
 -- ---- parts
 
@@ -26,7 +26,7 @@ abbrev pub properties_text : PropertiesTree → Text
 properties_text ps = some (of (k.control w.With)) ⨾ in_parentheses (listed property_text ps)
 
 abbrev pub braced_text : BodyTree → Text
-braced_text b = some (of k.open_brace) ⨾ Spanned tabular_text b ⨾ some (of k.close_brace)
+braced_text b = some (of k.open_brace) ⨾ SpellsLocated tabular_text b ⨾ some (of k.close_brace)
 
 abbrev pub table_columns_text : Name → ColumnsTree → Text
 table_columns_text n cs = some (of (k.control w.Table)) ⨾ name_text n ⨾ in_parentheses (columns_text cs)

@@ -2,7 +2,7 @@
 ghost use Rattle.std.specs.Prelude.{◌≡◌};
 ghost use Rattle.kq_control.specs.ControlReading as spec;
 ghost use Rattle.kq_control.specs.ControlViews.{control_of, statement_of};
-ghost use Rattle.kq_syntax.specs.Gives.{Gives};
+ghost use Rattle.kq_syntax.specs.Outcomes.{IsOutcome};
 
 use crate::parts::{maybe_properties, table_columns, table_name};
 use crate::tree::{Control, Statement};
@@ -15,7 +15,7 @@ use std::alloc::Global;
 
 #[tactic(auto, unfolding(crate::specs::ControlReading::creation))]
 fn creation(alloc: Global, cursor: &mut Cursor<'_>, budget: usize) -> Result<Control, Stop>
-    ensures { Gives control_of (spec.creation budget cursor.old) result cursor.new }
+    ensures { IsOutcome control_of (spec.creation budget cursor.old) result cursor.new }
 {
     if cursor.sees(Class::Control(ControlWord::Table)) {
         let (name, columns) = table_columns(alloc, cursor, budget)?;
@@ -27,7 +27,7 @@ fn creation(alloc: Global, cursor: &mut Cursor<'_>, budget: usize) -> Result<Con
 
 #[tactic(auto, unfolding(crate::specs::ControlReading::ingestion))]
 fn ingestion(alloc: Global, cursor: &mut Cursor<'_>, budget: usize) -> Result<Control, Stop>
-    ensures { Gives control_of (spec.ingestion budget cursor.old) result cursor.new }
+    ensures { IsOutcome control_of (spec.ingestion budget cursor.old) result cursor.new }
 {
     cursor.expect(Class::Control(ControlWord::Inline))?;
     cursor.expect(Class::Control(ControlWord::Into))?;
@@ -39,7 +39,7 @@ fn ingestion(alloc: Global, cursor: &mut Cursor<'_>, budget: usize) -> Result<Co
 
 #[tactic(auto, unfolding(crate::specs::ControlReading::policy))]
 fn policy(cursor: &mut Cursor<'_>) -> Result<Control, Stop>
-    ensures { Gives control_of (spec.policy cursor.old) result cursor.new }
+    ensures { IsOutcome control_of (spec.policy cursor.old) result cursor.new }
 {
     let table = table_name(cursor)?;
     cursor.expect(Class::Control(ControlWord::Policy))?;
@@ -50,7 +50,7 @@ fn policy(cursor: &mut Cursor<'_>) -> Result<Control, Stop>
 
 #[tactic(auto, unfolding(crate::specs::ControlReading::showing, crate::specs::ControlReading::shown_view, crate::specs::ControlReading::shown_failures, crate::specs::ControlReading::shown_extents, crate::specs::ControlReading::shown_journal))]
 fn showing(cursor: &mut Cursor<'_>) -> Result<Control, Stop>
-    ensures { Gives control_of (spec.showing cursor.old) result cursor.new }
+    ensures { IsOutcome control_of (spec.showing cursor.old) result cursor.new }
 {
     if cursor.sees(Class::Dashed(DashedWord::MaterializedView)) {
         cursor.expect(Class::Dashed(DashedWord::MaterializedView))?;
@@ -72,7 +72,7 @@ fn showing(cursor: &mut Cursor<'_>) -> Result<Control, Stop>
 
 #[tactic(auto, unfolding(crate::specs::ControlReading::exporting))]
 fn exporting(alloc: Global, cursor: &mut Cursor<'_>, budget: usize) -> Result<Control, Stop>
-    ensures { Gives control_of (spec.exporting budget cursor.old) result cursor.new }
+    ensures { IsOutcome control_of (spec.exporting budget cursor.old) result cursor.new }
 {
     let name = cursor.expect(Class::Word)?;
     if !cursor.sees(Class::Control(ControlWord::Over)) {
@@ -82,10 +82,10 @@ fn exporting(alloc: Global, cursor: &mut Cursor<'_>, budget: usize) -> Result<Co
     Ok(Control::Export(name, Some(definition)))
 }
 
-/// What stands behind `.`.
+// What stands behind `.`.
 #[tactic(auto, unfolding(crate::specs::ControlReading::dotted))]
 fn dotted(alloc: Global, cursor: &mut Cursor<'_>, budget: usize) -> Result<Control, Stop>
-    ensures { Gives control_of (spec.dotted budget cursor.old) result cursor.new }
+    ensures { IsOutcome control_of (spec.dotted budget cursor.old) result cursor.new }
 {
     if cursor.sees(Class::Control(ControlWord::Create)) {
         cursor.expect(Class::Control(ControlWord::Create))?;
@@ -108,10 +108,10 @@ fn dotted(alloc: Global, cursor: &mut Cursor<'_>, budget: usize) -> Result<Contr
     showing(cursor)
 }
 
-/// What stands behind `#`.
+// What stands behind `#`.
 #[tactic(auto, unfolding(crate::specs::ControlReading::hashed))]
 fn hashed(alloc: Global, cursor: &mut Cursor<'_>, budget: usize) -> Result<Control, Stop>
-    ensures { Gives control_of (spec.hashed budget cursor.old) result cursor.new }
+    ensures { IsOutcome control_of (spec.hashed budget cursor.old) result cursor.new }
 {
     if cursor.sees(Class::Control(ControlWord::Fold)) {
         cursor.expect(Class::Control(ControlWord::Fold))?;
@@ -125,14 +125,14 @@ fn hashed(alloc: Global, cursor: &mut Cursor<'_>, budget: usize) -> Result<Contr
     exporting(alloc, cursor, budget)
 }
 
-/// The command that comes next. The budget is at least the number of symbols that are left.
+// The command that comes next. The budget is at least the number of symbols that are left.
 #[tactic(auto, unfolding(crate::specs::ControlReading::statement))]
 pub(crate) fn read_statement(
     alloc: Global,
     cursor: &mut Cursor<'_>,
     budget: usize,
 ) -> Result<Statement, Stop>
-    ensures { Gives statement_of (spec.statement budget cursor.old) result cursor.new }
+    ensures { IsOutcome statement_of (spec.statement budget cursor.old) result cursor.new }
 {
     if cursor.sees(Class::Sign(Punctuation::Dot)) {
         cursor.expect(Class::Sign(Punctuation::Dot))?;

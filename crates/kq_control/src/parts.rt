@@ -4,7 +4,7 @@ ghost use Rattle.std.specs.Option.{option_map};
 ghost use Rattle.kq_control.specs.ControlReading as spec;
 ghost use Rattle.kq_control.specs.ControlViews.{body_of, columns_of, properties_of};
 ghost use Rattle.kq_control.specs.declared.tree.Property.{Property as Shown};
-ghost use Rattle.kq_syntax.specs.Gives.{Gives};
+ghost use Rattle.kq_syntax.specs.Outcomes.{IsOutcome};
 
 use crate::tree::{Body, ColumnList, Property, PropertyList};
 use kq_clause::read_columns;
@@ -15,7 +15,7 @@ use kq_syntax::{Behind, Class, ControlWord, Cursor, Part, Stop, more};
 use kq_token::{Operator, Punctuation};
 use std::alloc::Global;
 
-/// One property.
+// One property.
 #[derive(Clone, Copy)]
 struct AProperty;
 
@@ -39,14 +39,14 @@ impl Part for AProperty {
     }
 }
 
-/// Properties in parentheses.
+// Properties in parentheses.
 #[tactic(auto, unfolding(crate::specs::ControlReading::property_list))]
 pub(crate) fn property_list(
     alloc: Global,
     cursor: &mut Cursor<'_>,
     budget: usize,
 ) -> Result<PropertyList, Stop>
-    ensures { Gives properties_of (spec.property_list budget cursor.old) result cursor.new }
+    ensures { IsOutcome properties_of (spec.property_list budget cursor.old) result cursor.new }
 {
     cursor.expect(Class::Sign(Punctuation::OpenParenthesis))?;
     let first = AProperty.read(cursor)?;
@@ -65,22 +65,22 @@ pub(crate) fn property_list(
     Ok(PropertyList { first, others })
 }
 
-/// `with` and properties.
+// `with` and properties.
 #[tactic(auto, unfolding(crate::specs::ControlReading::properties))]
 fn properties(alloc: Global, cursor: &mut Cursor<'_>, budget: usize) -> Result<PropertyList, Stop>
-    ensures { Gives properties_of (spec.properties budget cursor.old) result cursor.new }
+    ensures { IsOutcome properties_of (spec.properties budget cursor.old) result cursor.new }
 {
     cursor.expect(Class::Control(ControlWord::With))?;
     property_list(alloc, cursor, budget)
 }
 
-/// `with` and properties, where they are there.
+// `with` and properties, where they are there.
 pub(crate) fn maybe_properties(
     alloc: Global,
     cursor: &mut Cursor<'_>,
     budget: usize,
 ) -> Result<Option<PropertyList>, Stop>
-    ensures { Gives (option_map properties_of) (spec.maybe_properties budget cursor.old) result cursor.new }
+    ensures { IsOutcome (option_map properties_of) (spec.maybe_properties budget cursor.old) result cursor.new }
 {
     if !cursor.sees(Class::Control(ControlWord::With)) {
         return Ok(None);
@@ -89,14 +89,14 @@ pub(crate) fn maybe_properties(
     Ok(Some(list))
 }
 
-/// `table`, a name, and columns in parentheses.
+// `table`, a name, and columns in parentheses.
 #[tactic(auto, unfolding(crate::specs::ControlReading::table_columns))]
 pub(crate) fn table_columns(
     alloc: Global,
     cursor: &mut Cursor<'_>,
     budget: usize,
 ) -> Result<(Name, ColumnList), Stop>
-    ensures { Gives (λ p. (p.0, columns_of p.1)) (spec.table_columns budget cursor.old) result cursor.new }
+    ensures { IsOutcome (λ p. (p.0, columns_of p.1)) (spec.table_columns budget cursor.old) result cursor.new }
 {
     cursor.expect(Class::Control(ControlWord::Table))?;
     let name = read_name(cursor)?;
@@ -106,19 +106,19 @@ pub(crate) fn table_columns(
     Ok((name, ColumnList { first, others }))
 }
 
-/// `table` and a name.
+// `table` and a name.
 #[tactic(auto, unfolding(crate::specs::ControlReading::table_name))]
 pub(crate) fn table_name(cursor: &mut Cursor<'_>) -> Result<Name, Stop>
-    ensures { Gives (λ n. n) (spec.table_name cursor.old) result cursor.new }
+    ensures { IsOutcome (λ n. n) (spec.table_name cursor.old) result cursor.new }
 {
     cursor.expect(Class::Control(ControlWord::Table))?;
     read_name(cursor)
 }
 
-/// A query in braces.
+// A query in braces.
 #[tactic(auto, unfolding(crate::specs::ControlReading::body))]
 pub(crate) fn body(alloc: Global, cursor: &mut Cursor<'_>, budget: usize) -> Result<Body, Stop>
-    ensures { Gives body_of (spec.body budget cursor.old) result cursor.new }
+    ensures { IsOutcome body_of (spec.body budget cursor.old) result cursor.new }
 {
     cursor.expect(Class::Sign(Punctuation::OpenBrace))?;
     let body = spanned(alloc, cursor, budget)?;
@@ -126,10 +126,10 @@ pub(crate) fn body(alloc: Global, cursor: &mut Cursor<'_>, budget: usize) -> Res
     Ok(body)
 }
 
-/// A query with its first and its last symbol.
+// A query with its first and its last symbol.
 #[tactic(auto, unfolding(crate::specs::ControlReading::spanned_tabular))]
 fn spanned(alloc: Global, cursor: &mut Cursor<'_>, budget: usize) -> Result<Body, Stop>
-    ensures { Gives body_of (spec.spanned_tabular budget cursor.old) result cursor.new }
+    ensures { IsOutcome body_of (spec.spanned_tabular budget cursor.old) result cursor.new }
 {
     let start = cursor.rest();
     let query = read_tabular(alloc, cursor, budget)?;

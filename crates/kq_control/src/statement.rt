@@ -13,7 +13,7 @@ use kq_syntax::{Cursor, Symbol};
 use kq_token::{LexFault, tokens};
 use std::alloc::Global;
 
-/// The command that has exactly these symbols of a text that ends at `end`.
+// The command that has exactly these symbols of a text that ends at `end`.
 fn statement_in(alloc: Global, symbols: &[Symbol], end: usize) -> Result<Statement, ParseFault>
     ensures { MatchResult result (λ s. Answers statement_text symbols.now (statement_of s)) (RefusesAt statement_text symbols.now end) }
 {

@@ -22,7 +22,7 @@ fn quoted_as(word: Word) -> Quoted
     }
 }
 
-/// What the text of a string says.
+// What the text of a string says.
 fn quoted(alloc: Global, kind: TokenKind, bytes: &[u8]) -> Result<Quoted, Memory>
     requires form { is_string_token kind bytes.now ≡ true }
     requires utf8 { IsUtf8 bytes.now }
@@ -32,7 +32,7 @@ fn quoted(alloc: Global, kind: TokenKind, bytes: &[u8]) -> Result<Quoted, Memory
     Ok(quoted_as(word_of(text.as_str().as_bytes())))
 }
 
-/// The kind of the symbol that a token is.
+// The kind of the symbol that a token is.
 fn kind_of(alloc: Global, token: TokenKind, bytes: &[u8]) -> Result<Kind, Memory>
     requires form { is_form token bytes.now ≡ true }
     requires utf8 { is_string_token token bytes.now ≡ true → IsUtf8 bytes.now }
@@ -55,7 +55,7 @@ fn kind_of(alloc: Global, token: TokenKind, bytes: &[u8]) -> Result<Kind, Memory
     }
 }
 
-/// The symbol that the token at the index is.
+// The symbol that the token at the index is.
 fn symbol_at(alloc: Global, tokens: &Tokens, index: usize) -> Result<Symbol, Memory>
     requires read { AreTokens tokens.now.text tokens.now.tokens }
     requires utf8 { IsUtf8 tokens.now.text }
@@ -71,7 +71,7 @@ fn symbol_at(alloc: Global, tokens: &Tokens, index: usize) -> Result<Symbol, Mem
     })
 }
 
-/// The symbols of a text, one for each token.
+// The symbols of a text, one for each token.
 pub(crate) fn read_symbols(alloc: Global, tokens: &Tokens) -> Result<Vec<Symbol>, Memory>
     requires read { AreTokens tokens.now.text tokens.now.tokens }
     requires utf8 { IsUtf8 tokens.now.text }

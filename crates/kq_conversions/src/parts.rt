@@ -79,7 +79,7 @@ fn sorted(list: &DynList) -> Result<DynList, Memory>
     Ok(DynList::from_vec(items))
 }
 
-/// Numbers, then strings, then other items but nulls, then nulls.
+// Numbers, then strings, then other items but nulls, then nulls.
 fn compare(a: &Dyn, b: &Dyn) -> Ordering
     ensures { result ≡ members.sorting_cmp (tree_of a.now) (tree_of b.now) }
 {

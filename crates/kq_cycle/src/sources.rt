@@ -5,7 +5,7 @@ ghost use Rattle.kq_cycle.specs.Search.{Adds, HasSource, marked_with, open_with}
 use kq_model::Entry;
 use kq_value::Memory;
 
-/// Adds the sources of a policy that weren't found before to those that are still to be gone through. It stops where one is the target.
+// Adds the sources of a policy that weren't found before to those that are still to be gone through. It stops where one is the target.
 pub(crate) fn add_sources(
     policy: &[Entry],
     target: u32,

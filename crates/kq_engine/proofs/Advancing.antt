@@ -14,29 +14,29 @@ use Rattle.kq_engine.specs.declared.work.Outcome.{Outcome}
 use Rattle.kq_reply.specs.declared.reply.Reply.{Reply}
 use Rattle.kq_engine.specs.declared.work.Work.{Work}
 use Rattle.kq_engine.specs.Fits.{Answers, FitsNow, Fits, Tends, Tended, Acts, Appends, Advances, own_commit}
-use Rattle.kq_engine.specs.Merges.{IsMarked, IsSettled, NamesAll}
+use Rattle.kq_engine.specs.Merges.{IsMergedBy, IsSettled, NamesAll}
 use Rattle.kq_engine.proofs.Acting.{Acts-since}
-use Rattle.kq_engine.proofs.Telling.{Makes-still, settled_marked, settled_names, still_marked, still_names}
+use Rattle.kq_engine.proofs.Telling.{Makes-still, settled_requested, settled_names, still_requested, still_names}
 
 -- what fits a history fits each that begins with it
-pub Fits-append : (limits : Limits) (h more : History) (mark : By) (command : Command) (now : ℤ) (place : ℕ) (own : Bool) (reply : Reply) → Fits limits h mark command now place own reply → Fits limits (h ++ more) mark command now place own reply
-Fits-append limits h more mark command now place own reply fits = record {
+pub Fits-append : (limits : Limits) (h more : History) (request : By) (command : Command) (now : ℤ) (place : ℕ) (own : Bool) (reply : Reply) → Fits limits h request command now place own reply → Fits limits (h ++ more) request command now place own reply
+Fits-append limits h more request command now place own reply fits = record {
   within = omega (arith, fits.within, length-append h more);
-  at = subst (λ (t : History). FitsNow limits t mark command now own reply) (sym (take-append-le place h more fits.within)) fits.at;
-  marked = subst (λ (t : History). IsMarked t mark reply) (sym (take-append-le place h more fits.within)) fits.marked;
+  at = subst (λ (t : History). FitsNow limits t request command now own reply) (sym (take-append-le place h more fits.within)) fits.at;
+  requested = subst (λ (t : History). IsMergedBy t request reply) (sym (take-append-le place h more fits.within)) fits.requested;
 }
 
 -- at the end of the history
-pub Fits-end : (limits : Limits) (h : History) (mark : By) (command : Command) (now : ℤ) (place : ℕ) (own : Bool) (reply : Reply) → place ≡ length h → FitsNow limits h mark command now own reply → IsMarked h mark reply → Fits limits h mark command now place own reply
-Fits-end limits h mark command now place own reply at_end fits marked = record {
+pub Fits-end : (limits : Limits) (h : History) (request : By) (command : Command) (now : ℤ) (place : ℕ) (own : Bool) (reply : Reply) → place ≡ length h → FitsNow limits h request command now own reply → IsMergedBy h request reply → Fits limits h request command now place own reply
+Fits-end limits h request command now place own reply at_end fits requested = record {
   within = omega arith;
-  at = subst (λ (t : History). FitsNow limits t mark command now own reply) (sym (take_all place h (omega arith))) fits;
-  marked = subst (λ (t : History). IsMarked t mark reply) (sym (take_all place h (omega arith))) marked;
+  at = subst (λ (t : History). FitsNow limits t request command now own reply) (sym (take_all place h (omega arith))) fits;
+  requested = subst (λ (t : History). IsMergedBy t request reply) (sym (take_all place h (omega arith))) requested;
 }
 
 -- nothing is appended
-pub Appends-none : (limits : Limits) (h : History) (mark : By) (command : Command) (place : ℕ) (reply : Reply) → Appends limits h h mark command (record { place = place; own = false; reply = reply })
-Appends-none limits h mark command place reply = record {
+pub Appends-none : (limits : Limits) (h : History) (request : By) (command : Command) (place : ℕ) (reply : Reply) → Appends limits h h request command (record { place = place; own = false; reply = reply })
+Appends-none limits h request command place reply = record {
   made = None;
   may_make = tt;
   appended = sym (append-nil h);
@@ -76,7 +76,7 @@ acts_at limits old new work began place true reply since acts =
         appended = is;
         commits = ap commits_at is ∙ commits_at-push old _ ∙ ap (λ (n : ℕ). commits_at old ++ own_commit true n work.by) (sym longer ∙ sym acts.0);
       };
-      fits = Fits-end limits new work.by work.command work.now place true reply acts.0 (old, c, is, acts.1.2) (still_marked new work.by reply still);
+      fits = Fits-end limits new work.by work.command work.now place true reply acts.0 (old, c, is, acts.1.2) (still_requested new work.by reply still);
       since = omega arith;
       names_all = still_names (take place new) began reply still;
     }
@@ -85,7 +85,7 @@ acts_at limits old new work began place false reply since acts = by_case acts.1
     by_case : ((new ≡ old) × Answers limits old work.now work.command reply × IsSettled (cursor (take began old)) reply) ⊎ Tended limits old new work began reply → Advances limits old new work began (record { place = place; own = false; reply = reply })
     by_case (inl stays) = record {
       appends = subst (λ (h : History). Appends limits old h work.by work.command (record { place = place; own = false; reply = reply })) (sym stays.0) (Appends-none limits old work.by work.command place reply);
-      fits = Fits-end limits new work.by work.command work.now place false reply acts.0 (subst (λ (h : History). Answers limits h work.now work.command reply) (sym stays.0) stays.1) (settled_marked (cursor (take began old)) new work.by reply stays.2);
+      fits = Fits-end limits new work.by work.command work.now place false reply acts.0 (subst (λ (h : History). Answers limits h work.now work.command reply) (sym stays.0) stays.1) (settled_requested (cursor (take began old)) new work.by reply stays.2);
       since = omega (arith, ap length stays.0);
       names_all = settled_names (cursor (take began old)) (take place new) began reply (same_cursor old new began place stays.0 (omega (arith, acts.0))) stays.2;
     }

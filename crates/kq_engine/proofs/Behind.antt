@@ -11,7 +11,7 @@ use Rattle.kq_fold.specs.Folds.{IsPartOf}
 use Rattle.kq_group.specs.Groups.{Grouping}
 use Rattle.kq_grouping.specs.Bodies.{IsViewBody, OverflowsAt, StandsFor, columns_read}
 use Rattle.kq_model.specs.declared.view.View.{View}
-use Rattle.kq_model.specs.History.{Log, Viewed, cursor, log, mark, views}
+use Rattle.kq_model.specs.History.{Log, Viewed, cursor, log, view_cursor, views}
 use Rattle.kq_model.specs.Records.{records, schema_of}
 use Rattle.kq_model.specs.Views.{covered, row_for}
 use Rattle.kq_model.proofs.Views.{IsOver}
@@ -53,7 +53,7 @@ both_covered l v base at to order rows low high had new =
 -- a view that stands, with its part and the rows behind that in some order
 module _ (c : CatalogView) (n : ℕ) (v : View) (part : Grouping) (rows : List Row) (sound : Sound c) (stands : view_numbered (hist c) n ≡ Some v)
     (holds : (w : Viewed) → slice_get (views (log (hist c))) n ≡ Some w → HoldsPart (hist c) n w.view part)
-    (new : IsPermutation (covered (log (hist c)) v (mark (hist c) n) (cursor (hist c))) rows) where
+    (new : IsPermutation (covered (log (hist c)) v (view_cursor (hist c) n) (cursor (hist c))) rows) where
   held : HoldsPart (hist c) n v part
   held = view_part (hist c) n v part stands holds
 
@@ -65,7 +65,7 @@ module _ (c : CatalogView) (n : ℕ) (v : View) (part : Grouping) (rows : List R
 
   all_held : IsPermutation (covered (log (hist c)) v v.base (cursor (hist c))) (held.order ++ rows)
   all_held =
-      both_covered (log (hist c)) v v.base (mark (hist c) n) (cursor (hist c)) held.order rows (view_from c n v sound stands) (view_up c n v kind.View sound stands) held.same new
+      both_covered (log (hist c)) v v.base (view_cursor (hist c) n) (cursor (hist c)) held.order rows (view_from c n v sound stands) (view_up c n v kind.View sound stands) held.same new
 
   pub folding_in : (f : Folding) → f.view ≡ n → f.to ≡ cursor (hist c) → ((had : List Row) → StandsFor (planned_of v.body) had part → StandsFor (planned_of v.body) (had ++ rows) f.part) → IsFoldingIn (hist c) n f
   folding_in f same to folds = record {
@@ -81,6 +81,6 @@ module _ (c : CatalogView) (n : ℕ) (v : View) (part : Grouping) (rows : List R
     viewed = one.viewed;
     stands = one.at;
     order = rows;
-    same = subst (λ (w : View). IsPermutation (covered (log (hist c)) w (mark (hist c) n) (cursor (hist c))) rows) (sym one.is) new;
+    same = subst (λ (w : View). IsPermutation (covered (log (hist c)) w (view_cursor (hist c) n) (cursor (hist c))) rows) (sym one.is) new;
     overflows = subst (λ (w : View). OverflowsAt (planned_of w.body) rows stage) (sym one.is) overflows;
   }

@@ -11,10 +11,10 @@ use Rattle.kq_command.specs.declared.command.Command.TheVariants as commands
 use Rattle.kq_model.specs.declared.event.By.{By}
 use Rattle.kq_model.specs.declared.event.Operation.TheVariants as operation
 use Rattle.kq_model.specs.declared.limits.Limits.{Limits}
-use Rattle.kq_model.specs.History.{History, Log, Viewed, cursor, log, mark, names_of_views, view_count, views, views_from}
+use Rattle.kq_model.specs.History.{History, Log, Viewed, cursor, log, view_cursor, names_of_views, view_count, views, views_from}
 use Rattle.kq_model.specs.Views.{covered}
 use Rattle.kq_model.proofs.Histories.{log-append, log-push, views-append}
-use Rattle.kq_model.proofs.Views.{mark-push, no_fewer_views}
+use Rattle.kq_model.proofs.Views.{view_cursor-push, no_fewer_views}
 use Rattle.kq_names.proofs.Places.{place_of-go_on}
 use Rattle.kq_names.specs.Places.{place_of}
 use Rattle.kq_plan.specs.Plans.{planned_of}
@@ -84,7 +84,7 @@ still_within h at number within =
     omega (arith, within, more, whole)
 
 -- the cursor that is told is the view's
-told_cursor : (h : History) (name : Identifier) (number to : ℕ) → view_number h name ≡ Some number → to ≡ mark h number → FoldsNamed h name (view_number h name) (replies.Folded to)
+told_cursor : (h : History) (name : Identifier) (number to : ℕ) → view_number h name ≡ Some number → to ≡ view_cursor h number → FoldsNamed h name (view_number h name) (replies.Folded to)
 told_cursor h name number to named is = subst (λ (o : Option ℕ). FoldsNamed h name o (replies.Folded to)) (sym named) is
 
 no_merge : (to extents : ℕ) → replies.Folded to ≡ replies.Merged extents → ⊥
@@ -110,18 +110,18 @@ Acts-fold limits old new work at f outcome within is puts = by_puts puts
     stands : f.view < view_count (log old)
     stands = still_within old at f.view (subst (λ (n : ℕ). n < view_count (log (take at old))) (sym folding.of) (slice_get_within (views (log (take at old))) folds.of.number folding.viewed folding.stands))
 
-    due : (h : History) (to : ℕ) → view_number h folds.name ≡ Some f.view → to ≡ mark h f.view → IsDue limits h work.now work.command (replies.Folded to)
+    due : (h : History) (to : ℕ) → view_number h folds.name ≡ Some f.view → to ≡ view_cursor h f.view → IsDue limits h work.now work.command (replies.Folded to)
     due h to there is = subst (λ (c : Command). IsDue limits h work.now c (replies.Folded to)) (sym folds.is) (told_cursor h folds.name f.view to there is)
 
     same_log : new ≡ old ++ fold_event work.by f.view f.to ∷ [] → log new ≡ log old
     same_log appended = ap log appended ∙ log-push old (fold_event work.by f.view f.to) ∙ append-nil (log old)
 
-    same_view : (n m : ℕ) (to : ℕ) → n ≡ m → cond (nat_eq n m) to (mark old m) ≡ to
-    same_view n m to same = ap (λ (b : Bool). cond b to (mark old m)) (eq-eqb n m same)
+    same_view : (n m : ℕ) (to : ℕ) → n ≡ m → cond (nat_eq n m) to (view_cursor old m) ≡ to
+    same_view n m to same = ap (λ (b : Bool). cond b to (view_cursor old m)) (eq-eqb n m same)
 
-    -- its new mark is the cursor up to which it was folded
-    marked : new ≡ old ++ fold_event work.by f.view f.to ∷ [] → mark new f.view ≡ f.to
-    marked appended = ap (λ (h : History). mark h f.view) appended ∙ mark-push old (fold_event work.by f.view f.to) f.view stands ∙ same_view f.view f.view f.to refl
+    -- its new cursor is the cursor up to which it was folded
+    materialized : new ≡ old ++ fold_event work.by f.view f.to ∷ [] → view_cursor new f.view ≡ f.to
+    materialized appended = ap (λ (h : History). view_cursor h f.view) appended ∙ view_cursor-push old (fold_event work.by f.view f.to) f.view stands ∙ same_view f.view f.view f.to refl
 
     reaches : new ≡ old ++ fold_event work.by f.view f.to ∷ [] → cursor (take at new) ≤ f.to
     reaches appended =
@@ -134,7 +134,7 @@ Acts-fold limits old new work at f outcome within is puts = by_puts puts
       made = operation.Fold f.view f.to;
       tends = subst (λ (c : Command). TendsFold old c (replies.Folded f.to) f.view f.to) (sym folds.is) (record { named = named; told = refl });
       granted = λ r e. cc;
-      answers = inr (due new f.to (ap (λ (l : Log). place_of folds.name.text (names_of_views (views l))) (same_log forward.appended) ∙ named) (sym (marked forward.appended)));
+      answers = inr (due new f.to (ap (λ (l : Log). place_of folds.name.text (names_of_views (views l))) (same_log forward.appended) ∙ named) (sym (materialized forward.appended)));
       names_all = record {
         merged = λ extents e. absurd (no_merge f.to extents e);
         folded = λ to e. let same = same_to f.to to e in let far = reaches forward.appended in omega (arith, same, far);
@@ -145,7 +145,7 @@ Acts-fold limits old new work at f outcome within is puts = by_puts puts
     by_puts : BringsForward old new work.by f outcome ⊎ LeavesView old new f outcome → Acts limits old new work at outcome
     by_puts (inl forward) = subst (Acts limits old new work at) (sym forward.is) (refl, inr (tended forward))
     by_puts (inr leaves) = subst (Acts limits old new work at) (sym leaves.is)
-        (sym (ap length leaves.stays), inl (leaves.stays, inr (due old (mark old f.view) named refl), inr (mark old f.view, refl, let to = folding.to in let ahead = leaves.ahead in omega (arith, to, ahead))))
+        (sym (ap length leaves.stays), inl (leaves.stays, inr (due old (view_cursor old f.view) named refl), inr (view_cursor old f.view, refl, let to = folding.to in let ahead = leaves.ahead in omega (arith, to, ahead))))
 
 -- the cursor of a fold is no refusal
 apart : (at : ℕ) → replies.Folded at ≡ replies.Refused refusals.Memory → ⊥
@@ -154,4 +154,4 @@ apart at same = cc
 -- a fold that was put in, or passed over, isn't told as want of memory
 pub told_fold : (old new : History) (by : By) (f : Folding) (outcome : Outcome) → PutsFold old new by f outcome → outcome.reply ≡ replies.Refused refusals.Memory → ⊥
 told_fold old new by f outcome (inl forward) wants = apart f.to (sym (ap (λ (o : Outcome). o.reply) forward.is) ∙ wants)
-told_fold old new by f outcome (inr stays) wants = apart (mark old f.view) (sym (ap (λ (o : Outcome). o.reply) stays.is) ∙ wants)
+told_fold old new by f outcome (inr stays) wants = apart (view_cursor old f.view) (sym (ap (λ (o : Outcome). o.reply) stays.is) ∙ wants)

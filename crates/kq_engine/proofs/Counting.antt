@@ -9,7 +9,7 @@ use Rattle.kq_model.specs.declared.event.Commit.{Commit}
 use Rattle.kq_model.specs.History.{History, CommitAt, log, cursor, commits_of, commit_at, commits_from, commits_at}
 use Rattle.kq_model.proofs.Histories.{log-append}
 use Rattle.kq_engine.specs.Fits.{own_commit}
-use Rattle.kq_engine.specs.Shared.{made_by}
+use Rattle.kq_engine.specs.Shared.{commit_count}
 
 length-commits_from : (n : ℕ) (h : History) → length (commits_from n h) ≡ cursor h
 length-commits_from n [] = refl
@@ -23,7 +23,7 @@ length-commits_from n (e ∷ h) =
 pub length-commits_at : (h : History) → length (commits_at h) ≡ cursor h
 length-commits_at h = length-commits_from 0 h
 
-pub length-own_commit : (own : Bool) (place : ℕ) (by : By) → length (own_commit own place by) ≡ made_by own
+pub length-own_commit : (own : Bool) (place : ℕ) (by : By) → length (own_commit own place by) ≡ commit_count own
 length-own_commit true place by = refl
 length-own_commit false place by = refl
 
@@ -31,9 +31,9 @@ cursor-append : (h more : History) → cursor (h ++ more) ≡ cursor h + cursor 
 cursor-append h more = ap length (log-append h more) ∙ length-append (log h) (log more)
 
 -- what a history gained has just the commits of the outcome that it gained them by
-pub cursor-gained : (old new : History) (own : Bool) (place : ℕ) (by : By) → IsPrefix old new → commits_at new ≡ commits_at old ++ own_commit own place by → cursor (gained old new) ≡ made_by own
+pub cursor-gained : (old new : History) (own : Bool) (place : ℕ) (by : By) → IsPrefix old new → commits_at new ≡ commits_at old ++ own_commit own place by → cursor (gained old new) ≡ commit_count own
 cursor-gained old new own place by begins commits =
     let whole : cursor old + cursor (gained old new) ≡ cursor new = sym (cursor-append old (gained old new)) ∙ ap cursor (append-gained old new begins) in
-    let more : cursor new ≡ length (commits_at old) + made_by own = sym (length-commits_at new) ∙ ap length commits ∙ length-append (commits_at old) (own_commit own place by) ∙ ap (λ (k : ℕ). length (commits_at old) + k) (length-own_commit own place by) in
+    let more : cursor new ≡ length (commits_at old) + commit_count own = sym (length-commits_at new) ∙ ap length commits ∙ length-append (commits_at old) (own_commit own place by) ∙ ap (λ (k : ℕ). length (commits_at old) + k) (length-own_commit own place by) in
     let before : length (commits_at old) ≡ cursor old = length-commits_at old in
     omega (arith, whole, more, before)

@@ -24,7 +24,7 @@ use Rattle.kq_model.specs.declared.table.Table.{Table}
 use Rattle.kq_model.specs.History.{Log, Numbered, Viewed, names_of_views, tables, table_named, table_numbered, is_view, view_count, views}
 use Rattle.kq_model.specs.Beside.{DueGives}
 use Rattle.kq_model.specs.Derived.{Cascade, Failed, IsDerived, Made, TooMany}
-use Rattle.kq_model.specs.Lawful.{IsIngestion, IsNewView, bar_to_batch, bar_to_table, bar_to_view, own_rows}
+use Rattle.kq_model.specs.Lawful.{IsIngestion, IsNewView, batch_violation, table_violation, view_violation, own_rows}
 use Rattle.kq_model.specs.Names.{names_of, repeat_of}
 use Rattle.kq_model.specs.Policies.{rules}
 use Rattle.kq_model.specs.Tagged.{least_tagged}
@@ -64,7 +64,7 @@ kept-none c name schema t e = by_test (same_fields t.schema schema) e
 -- a table that is made is barred by nothing
 record IsFree (limits : Limits) (l : Log) (name : List ℕ) (schema : List Field) (c : Commit) : Type 0 where
   room : length l < limits.commits
-  bar : bar_to_table limits l name schema ≡ None
+  violation : table_violation limits l name schema ≡ None
   unnamed : table_named name (tables l) ≡ None
   is : commits.CreateTable name schema ≡ c
 
@@ -75,7 +75,7 @@ free limits l name schema c due = by_width (nat_lt limits.columns (length schema
         → Commits c ≡ cond b (counted limits l (commits.CreateTable name.text schema)) (refused (refusals.Full limits.tables)) → IsFree limits l name.text schema c
     by_tables true wide named unviewed few e =
         let (room, is) = counted-commit limits l (commits.CreateTable name.text schema) c e in
-        record { room = ltb-true (length l) limits.commits room; bar = rw (wide, named, unviewed, few, room) refl; unnamed = named; is = is }
+        record { room = ltb-true (length l) limits.commits room; violation = rw (wide, named, unviewed, few, room) refl; unnamed = named; is = is }
     by_tables false wide named unviewed few e = absurd (no_commit c (refusals.Full limits.tables) e)
 
     by_view : (b : Bool) → nat_lt limits.columns (length schema) ≡ false → table_named name.text (tables l) ≡ None → is_view name.text l ≡ b → Commits c ≡ unnamed_due limits l name schema b → IsFree limits l name.text schema c
@@ -98,7 +98,7 @@ table-fit : (limits : Limits) (l : Log) (name : Identifier) (columns : List Colu
 table-fit limits l name columns c some once due =
     let made = free limits l name (schema_of columns) c due in
     let long = length-map columns (λ (x : Column). let f : Field = record { name = x.name.text; ty = x.ty } in f) in
-    subst (IsFit limits l) made.is (record { room = made.room; lawful = (omega (arith, long, some), once, made.bar) })
+    subst (IsFit limits l) made.is (record { room = made.room; lawful = (omega (arith, long, some), once, made.violation) })
 
 -- a table that is made is no view
 pub table-no_view : (limits : Limits) (l : Log) (name : Identifier) (columns : List Column) (c : Commit) → IsDueByLog limits l (CreateTable name columns) (Commits c) → MakesNoView c
@@ -158,7 +158,7 @@ own_ingestion limits l i found c named put = record {
   derived = put.derived;
 }
 
-free_batch : (limits : Limits) (l : Log) (rows : ℕ) → nat_lt limits.batch rows ≡ false → nat_lt (length l) limits.commits ≡ true → bar_to_batch limits l rows ≡ None
+free_batch : (limits : Limits) (l : Log) (rows : ℕ) → nat_lt limits.batch rows ≡ false → nat_lt (length l) limits.commits ≡ true → batch_violation limits l rows ≡ None
 free_batch limits l rows few room = rw (few, room) refl
 
 rows-fit : (limits : Limits) (l : Log) (i : Ingestion) (found : Numbered) (c : Commit) → table_numbered i.table.text (tables l) ≡ Some found → IsRowsDue limits l i found (Commits c) → IsFit limits l c
@@ -166,8 +166,8 @@ rows-fit limits l i found c named due =
     let (sound, put) = rows_put limits l i found c due in
     let led = IsDerived-led limits.cascade (rules l) (DueGives l) (own_batch found i) put.batches put.failures put.derived in
     let few = few_rows found.table.schema i.properties.ignore_first limits.batch i.body sound in
-    let bar = ap (bar_to_batch limits l) (ap own_rows led.is) ∙ free_batch limits l (length (own_batch found i).rows) few put.room in
-    subst (IsFit limits l) put.is (record { room = ltb-true (length l) limits.commits put.room; lawful = (own_ingestion limits l i found c named put, bar) })
+    let violation = ap (batch_violation limits l) (ap own_rows led.is) ∙ free_batch limits l (length (own_batch found i).rows) few put.room in
+    subst (IsFit limits l) put.is (record { room = ltb-true (length l) limits.commits put.room; lawful = (own_ingestion limits l i found c named put, violation) })
 
 ingest-fit : (limits : Limits) (l : Log) (i : Ingestion) (o : Option Numbered) (c : Commit) → table_numbered i.table.text (tables l) ≡ o → IsIngestDue limits l i o (Commits c) → IsFit limits l c
 ingest-fit limits l i None c named due = absurd (no_commit c (refusals.Unknown i.table.at) due)
@@ -183,14 +183,14 @@ ingest-no_view limits l i (Some found) c due = subst MakesNoView (rows_put limit
 -- the commit makes the view of a bound body
 record IsMaking (limits : Limits) (l : Log) (view : NewView) (number : ℕ) (p : Planned) (c : Commit) : Type 0 where
   room : length l < limits.commits
-  bar : bar_to_view limits l view.name.text ≡ None
+  violation : view_violation limits l view.name.text ≡ None
   makes : MakesView l view number p (Commits c)
 
 counts : (limits : Limits) (l : Log) (view : NewView) (number : ℕ) (p : Planned) (c : Commit) (few room : Bool) → nat_lt (view_count l) limits.views ≡ few → nat_lt (length l) limits.commits ≡ room → table_named view.name.text (tables l) ≡ None → is_view view.name.text l ≡ false
     → IsCounted limits l view number p few room (Commits c) → IsMaking limits l view number p c
 counts limits l view number p c false room is has unnamed unviewed e = absurd (no_commit c (refusals.Full limits.views) e)
 counts limits l view number p c true false is has unnamed unviewed e = absurd (no_commit c (refusals.Full limits.commits) e)
-counts limits l view number p c true true is has unnamed unviewed e = record { room = ltb-true (length l) limits.commits has; bar = rw (unnamed, unviewed, is, has) refl; makes = e }
+counts limits l view number p c true true is has unnamed unviewed e = record { room = ltb-true (length l) limits.commits has; violation = rw (unnamed, unviewed, is, has) refl; makes = e }
 
 place_within : (n : ℕ) (name : List ℕ) (xs : List (List ℕ)) (k : ℕ) → place_from n name xs ≡ Some k → k < n + length xs
 place_within n name [] k is = cc
@@ -235,20 +235,20 @@ base_of_new : (backfill : Bool) (at base : ℕ) → base ≡ base_for backfill a
 base_of_new true at base is = inl is
 base_of_new false at base is = inr is
 
-made_new : (limits : Limits) (l : Log) (view : NewView) (table : Numbered) (p : Planned) (v : View) → table_numbered view.table.text (tables l) ≡ Some table → IsBody table.table.name table.table.schema p → bar_to_view limits l view.name.text ≡ None
+made_new : (limits : Limits) (l : Log) (view : NewView) (table : Numbered) (p : Planned) (v : View) → table_numbered view.table.text (tables l) ≡ Some table → IsBody table.table.name table.table.schema p → view_violation limits l view.name.text ≡ None
     → IsViewMade l view table.number p v → IsNewView limits l v
-made_new limits l view table p v named body bar made = record {
+made_new limits l view table p v named body violation made = record {
   table = table.table;
   stands = ap (slice_get (tables l)) made.source ∙ (table_numbered-at view.table.text (tables l) table named).1;
   body = subst (IsBody table.table.name table.table.schema) (sym made.body) body;
   base = base_of_new view.backfill (length l + 1) v.base made.base;
-  within = ap (bar_to_view limits l) made.name ∙ bar;
+  within = ap (view_violation limits l) made.name ∙ violation;
 }
 
 view_lawful : (limits : Limits) (l : Log) (view : NewView) (table : Numbered) (p : Planned) (c : Commit) → table_numbered view.table.text (tables l) ≡ Some table → IsBody table.table.name table.table.schema p → IsMaking limits l view table.number p c → IsFit limits l c
 view_lawful limits l view table p (commits.CreateTable name schema) named body making = absurd making.makes
 view_lawful limits l view table p (commits.CreateView v) named body making =
-    record { room = making.room; lawful = made_new limits l view table p v named body making.bar making.makes }
+    record { room = making.room; lawful = made_new limits l view table p v named body making.violation making.makes }
 view_lawful limits l view table p (commits.SetPolicy target entries) named body making = absurd making.makes
 view_lawful limits l view table p (commits.AlterMerge more columns) named body making = absurd making.makes
 view_lawful limits l view table p (commits.Ingest batches failures) named body making = absurd making.makes

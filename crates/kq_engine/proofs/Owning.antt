@@ -59,14 +59,14 @@ IsIn-last : (m : CommitAt) (ms : List CommitAt) → IsIn m (ms ++ m ∷ [])
 IsIn-last m [] = inl refl
 IsIn-last m (x ∷ ms) = inr (IsIn-last m ms)
 
--- the commit of a reply with `own` stands at its place, under its mark
-pub Fits-own : (limits : Limits) (h : History) (mark : By) (command : Command) (now : ℤ) (place : ℕ) (reply : Reply) → Fits limits h mark command now place true reply → IsIn (record { place = place; by = mark }) (commits_at h)
-Fits-own limits h mark command now place reply fits =
+-- the commit of a reply with `own` stands at its place, under its request id
+pub Fits-own : (limits : Limits) (h : History) (request : By) (command : Command) (now : ℤ) (place : ℕ) (reply : Reply) → Fits limits h request command now place true reply → IsIn (record { place = place; by = request }) (commits_at h)
+Fits-own limits h request command now place reply fits =
     let before = fits.at.0 in
-    let e : Event = record { by = mark; operation = operation.Commit fits.at.1 } in
+    let e : Event = record { by = request; operation = operation.Commit fits.at.1 } in
     let front : take place h ≡ before ++ e ∷ [] = fits.at.2 in
     let long : length (take place h) ≡ length before + 1 = ap length front ∙ length_push before e in
     let at : length before + 1 ≡ place = omega (arith, long, length-take place h, fits.within) in
     let whole : commits_at (take place h) ++ commits_from (0 + length (take place h)) (drop place h) ≡ commits_at h = sym (commits_from-append 0 (take place h) (drop place h)) ∙ ap commits_at (take-append-drop place h) in
-    let last : commits_at (take place h) ≡ commits_at before ++ record { place = place; by = mark } ∷ [] = ap commits_at front ∙ commits_at-push before e ∙ ap (λ (n : ℕ). commits_at before ++ commit_at e n) at in
-    subst (IsIn (record { place = place; by = mark })) whole (IsIn-front _ (commits_at (take place h)) _ (subst (IsIn (record { place = place; by = mark })) (sym last) (IsIn-last _ (commits_at before))))
+    let last : commits_at (take place h) ≡ commits_at before ++ record { place = place; by = request } ∷ [] = ap commits_at front ∙ commits_at-push before e ∙ ap (λ (n : ℕ). commits_at before ++ commit_at e n) at in
+    subst (IsIn (record { place = place; by = request })) whole (IsIn-front _ (commits_at (take place h)) _ (subst (IsIn (record { place = place; by = request })) (sym last) (IsIn-last _ (commits_at before))))

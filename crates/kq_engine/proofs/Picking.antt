@@ -19,7 +19,7 @@ use Rattle.kq_model.specs.declared.table.Table.{Table}
 use Rattle.kq_model.specs.History.{History, log, tables}
 use Rattle.kq_model.specs.Records.{ExtentItem, each_once, extents, item_ids, picked, records, rows_in, schema_of, united}
 use Rattle.kq_catalog.specs.declared.merging.Merging.{Merging}
-use Rattle.kq_catalog.specs.Held.{AreItems, item_by}
+use Rattle.kq_catalog.specs.Held.{AreItems, extent_item}
 use Rattle.kq_catalog.specs.Merges.{IsUnion}
 use Rattle.kq_catalog.proofs.Merged.{first_rows, ids_in_items}
 use Rattle.kq_engine.specs.Merges.{IsMergingIn}
@@ -27,31 +27,31 @@ use Rattle.kq_engine.specs.Merges.{IsMergingIn}
 -- ---- the extents
 
 -- an extent is the same item under more columns
-item_wide : (fields : List Field) (e : ExtentView) → item_by (wide fields e) ≡ item_by e
+item_wide : (fields : List Field) (e : ExtentView) → extent_item (wide fields e) ≡ extent_item e
 item_wide fields e = ap (λ (ids : List RecordId). let i : ExtentItem = record { id = e.id; records = ids; tags = e.tags } in i) (widened_records-ids fields e.records)
 
-items_wide : (fields : List Field) (es : List ExtentView) → map item_by (map (wide fields) es) ≡ map item_by es
+items_wide : (fields : List Field) (es : List ExtentView) → map extent_item (map (wide fields) es) ≡ map extent_item es
 items_wide fields [] = refl
-items_wide fields (e ∷ es) = ap (λ (i : ExtentItem). i ∷ map item_by (map (wide fields) es)) (item_wide fields e) ∙ ap (λ (is : List ExtentItem). item_by e ∷ is) (items_wide fields es)
+items_wide fields (e ∷ es) = ap (λ (i : ExtentItem). i ∷ map extent_item (map (wide fields) es)) (item_wide fields e) ∙ ap (λ (is : List ExtentItem). extent_item e ∷ is) (items_wide fields es)
 
-tags_in_items : (es : List ExtentView) → tags_in es ≡ flat_map (λ (i : ExtentItem). i.tags) (map item_by es)
+tags_in_items : (es : List ExtentView) → tags_in es ≡ flat_map (λ (i : ExtentItem). i.tags) (map extent_item es)
 tags_in_items [] = refl
 tags_in_items (e ∷ es) = ap (λ (tags : List (List ℕ)). e.tags ++ tags) (tags_in_items es)
 
-ids_of_items : (es : List ExtentView) → map (λ (e : ExtentView). e.id) es ≡ item_ids (map item_by es)
+ids_of_items : (es : List ExtentView) → map (λ (e : ExtentView). e.id) es ≡ item_ids (map extent_item es)
 ids_of_items [] = refl
 ids_of_items (e ∷ es) = ap (λ (ids : List ℕ). e.id ∷ ids) (ids_of_items es)
 
 -- what extents become is the union of their items
-item_merge : (id : ℕ) (es : List ExtentView) → item_by (merge_of id es) ≡ united id (map item_by es)
+item_merge : (id : ℕ) (es : List ExtentView) → extent_item (merge_of id es) ≡ united id (map extent_item es)
 item_merge id es = λ i. record { id = id; records = ids_in_items es i; tags = ap each_once (tags_in_items es) i }
 
 -- the first of the small extents that are held are those that are picked
-picked_held : (h : History) (t : ℕ) (held : HeldExtents) → AreItems (extents h t) held → picked h t ≡ map item_by (take 64 held.small)
-picked_held h t held are = ap (take 64) (sym are.small) ∙ take-map item_by 64 held.small
+picked_held : (h : History) (t : ℕ) (held : HeldExtents) → AreItems (extents h t) held → picked h t ≡ map extent_item (take 64 held.small)
+picked_held h t held are = ap (take 64) (sym are.small) ∙ take-map extent_item 64 held.small
 
 long_picked : (h : History) (t : ℕ) (held : HeldExtents) → AreItems (extents h t) held → length (picked h t) ≡ min 64 (length held.small)
-long_picked h t held are = ap length (picked_held h t held are) ∙ length-map (take 64 held.small) item_by ∙ length-take 64 held.small
+long_picked h t held are = ap length (picked_held h t held are) ∙ length-map (take 64 held.small) extent_item ∙ length-take 64 held.small
 
 -- ---- what is picked
 

@@ -10,7 +10,7 @@ use Rattle.kq_catalog.specs.Seen.{CatalogView}
 use Rattle.kq_engine.specs.declared.run.Step.{Step}
 use Rattle.kq_engine.specs.declared.run.Told.{Told}
 use Rattle.kq_engine.specs.Fits.{event_by}
-use Rattle.kq_engine.specs.Steps.{mark_of, Moment, start, Tells, Accounts, Runs, IsTrace}
+use Rattle.kq_engine.specs.Steps.{request_of, Moment, start, Tells, Accounts, Runs, IsTrace}
 
 Runs-split : (limits : Limits) (old new : Moment) (xs ys : List Step) → Runs limits old (xs ++ ys) new → (m : Moment) × Runs limits old xs m × Runs limits m ys new
 Runs-split limits old new [] ys runs = (old, refl, runs)
@@ -35,7 +35,7 @@ Runs-grows limits old new (x ∷ xs) runs =
     let rest = Runs-grows limits next new xs runs.3 in
     record {
       steps = rest.steps ∙ ap (λ (l : List Step). l ++ xs) runs.1.steps ∙ append_assoc old.steps (x ∷ []) xs;
-      history = IsPrefix-trans old.history next.history new.history (event_by (mark_of x) runs.1.made, sym runs.1.history) rest.history;
+      history = IsPrefix-trans old.history next.history new.history (event_by (request_of x) runs.1.made, sym runs.1.history) rest.history;
       outcomes = IsPrefix-trans old.outcomes next.outcomes new.outcomes (runs.1.gave, sym runs.1.outcomes) rest.outcomes;
     }
 

@@ -8,7 +8,7 @@ use Rattle.kq_model.specs.declared.event.By.{By}
 use Rattle.kq_model.specs.declared.event.Operation.{Operation}
 use Rattle.kq_model.specs.declared.limits.Limits.{Limits}
 use Rattle.kq_model.specs.History.{History, commits_at}
-use Rattle.kq_model.specs.Marks.{same_by}
+use Rattle.kq_model.specs.Requests.{same_by}
 use Rattle.kq_catalog.specs.Seen.{CatalogView, Sound}
 use Rattle.kq_engine.specs.declared.run.Step.{Step}
 use Rattle.kq_engine.specs.declared.run.Step.TheVariants.{Begin, Finish}
@@ -22,14 +22,14 @@ use Rattle.kq_engine.specs.declared.work.Ready.TheVariants as readies
 use Rattle.kq_engine.specs.Fits.{Fits, FitsNow, Advances, event_by, own_commit}
 use Rattle.kq_engine.specs.Found.{IsPrepared, IsReady, MayWantMemory, TakesMemory, TakesToFinish, WantsToFinish}
 use Rattle.kq_engine.specs.Merges.{IsStill, NamesAll}
-use Rattle.kq_engine.proofs.Telling.{still_marked, still_names}
+use Rattle.kq_engine.proofs.Telling.{still_requested, still_names}
 use Rattle.kq_engine.proofs.Wanting.{commit_finds, found_wants, merging_finds, merging_outside}
 use Rattle.kq_catalog.specs.Intents.{commit_of}
 use Rattle.kq_command.specs.declared.command.Command.{Command}
 use Rattle.kq_reply.specs.declared.refusal.Refusal.{Refusal}
 use Rattle.kq_reply.specs.declared.refusal.Refusal.TheVariants as refusals
 use Rattle.kq_reply.specs.declared.reply.Reply.TheVariants as replies
-use Rattle.kq_engine.specs.Steps.{work_of, place_of, is_finished, mark_of, opens, tells, commits_told, Moment, start, IsBare, Tells, Accounts, ByStep, Leads, Runs, IsOpen, IsRun, IsTrace, IsAt, one_if_some, AreWaiting}
+use Rattle.kq_engine.specs.Steps.{work_of, place_of, is_finished, request_of, opens, tells, commits_told, Moment, start, IsBare, Tells, Accounts, ByStep, Leads, Runs, IsOpen, IsRun, IsTrace, IsAt, one_if_some, AreWaiting}
 use Rattle.kq_engine.proofs.Bringing.{folding_finds, folding_outside}
 use Rattle.kq_engine.proofs.Advancing.{Fits-append, Fits-end}
 use Rattle.kq_engine.proofs.Stepping.{same_by-true, same_by-itself, work_of-append, work_of-new, place_of-append, place_of-new, one-begin, one-finish, is_finished-begin, is_finished-finish, is_finished-begun, is_finished-append, is_finished-now}
@@ -79,18 +79,18 @@ all_told : (o t k : ℕ) → o + t ≡ k → o ≡ 0 → k ≡ 1 → t ≡ 1
 all_told o t k e z one = omega arith
 
 -- one more step
-go_on : (limits : Limits) (xs : List Step) (s : Step) (old new : CatalogView) (open_ones left : List Prepared) (outcomes all : List Told) (made : Option Operation) (gave : List Told) (run : IsRun limits xs old open_ones outcomes) → new.limits ≡ old.limits → new.history ≡ old.history ++ event_by (mark_of s) made → all ≡ outcomes ++ gave
-    → length gave ≤ 1 → All (λ (t : Told). t.by ≡ mark_of s) gave → (gave ≡ [] → made ≡ None) → ByStep xs s made gave
+go_on : (limits : Limits) (xs : List Step) (s : Step) (old new : CatalogView) (open_ones left : List Prepared) (outcomes all : List Told) (made : Option Operation) (gave : List Told) (run : IsRun limits xs old open_ones outcomes) → new.limits ≡ old.limits → new.history ≡ old.history ++ event_by (request_of s) made → all ≡ outcomes ++ gave
+    → length gave ≤ 1 → All (λ (t : Told). t.by ≡ request_of s) gave → (gave ≡ [] → made ≡ None) → ByStep xs s made gave
     → All (IsOpen limits (moment (xs ++ s ∷ []) (run.found ++ length old.history ∷ []) new.history all)) left
     → All (Tells limits (moment (xs ++ s ∷ []) (run.found ++ length old.history ∷ []) new.history all)) all
     → commits_at new.history ≡ commits_told all
     → ((b : By) → count_by (opens b) left + count_by (tells b) all ≡ one_if_some (work_of b (xs ++ s ∷ [])))
     → ((b : By) → is_finished b (xs ++ s ∷ []) ≡ true → count_by (opens b) left ≡ 0)
     → IsRun limits (xs ++ s ∷ []) new left all
-go_on limits xs s old new open_ones left outcomes all made gave run kept more told one marked no_more by_step waiting each commits once gone =
+go_on limits xs s old new open_ones left outcomes all made gave run kept more told one requested no_more by_step waiting each commits once gone =
     let m : Moment = moment xs run.found old.history outcomes in
     let next : Moment = moment (xs ++ s ∷ []) (run.found ++ length old.history ∷ []) new.history all in
-    let leads : Leads m s next = record { steps = refl; found = refl; made = made; history = more; gave = gave; outcomes = told; one = one; marked = marked; no_more = no_more; by_step = by_step } in
+    let leads : Leads m s next = record { steps = refl; found = refl; made = made; history = more; gave = gave; outcomes = told; one = one; requested = requested; no_more = no_more; by_step = by_step } in
     let accounts : Accounts limits next = record {
       each = each;
       commits = commits;
@@ -118,7 +118,7 @@ skip : (limits : Limits) (xs : List Step) (s : Step) (catalog : CatalogView) (op
 skip limits xs s catalog open_ones outcomes run by_step same none =
     let stays : catalog.history ≡ catalog.history ++ [] = sym (append-nil catalog.history) in
     go_on limits xs s catalog catalog open_ones open_ones outcomes outcomes None [] run refl stays (sym (append-nil outcomes))
-    (omega arith) (All-nil (λ (t : Told). t.by ≡ mark_of s)) (λ e. refl) by_step
+    (omega arith) (All-nil (λ (t : Told). t.by ≡ request_of s)) (λ e. refl) by_step
     (All-weaker _ _ (IsOpen-later limits xs (s ∷ []) run.found (length catalog.history ∷ []) catalog.history catalog.history [] outcomes outcomes stays) open_ones run.waiting)
     (All-weaker _ _ (Tells-later limits xs (s ∷ []) run.found (length catalog.history ∷ []) catalog.history catalog.history [] outcomes outcomes stays) outcomes run.each)
     run.commits (λ b. run.once b ∙ sym (same b)) none
@@ -127,7 +127,7 @@ begun_one : (s : Bool) (k n : ℕ) → n ≡ max k (cond s 1 0) → (s ≡ true 
 begun_one true k n is one = let k1 : k ≡ 1 = one refl in omega arith
 begun_one false k n is one = omega arith
 
--- a mark that was begun before
+-- a request id that was begun before
 pub skip_begin : (limits : Limits) (xs : List Step) (w : Work) (catalog : CatalogView) (open_ones : List Prepared) (outcomes : List Told) → 0 < count_by (opens w.by) open_ones + count_by (tells w.by) outcomes → IsRun limits xs catalog open_ones outcomes → IsRun limits (xs ++ Begin w ∷ []) catalog open_ones outcomes
 skip_begin limits xs w catalog open_ones outcomes some run =
     skip limits xs (Begin w) catalog open_ones outcomes run (refl, λ first asked. refl)
@@ -138,7 +138,7 @@ skip_begin limits xs w catalog open_ones outcomes some run =
     just_one None l = absurd (omega arith)
     just_one (Some v) l = refl
 
--- a mark that is not open
+-- a request id that is not open
 pub skip_finish : (limits : Limits) (xs : List Step) (c : By) (catalog : CatalogView) (open_ones : List Prepared) (outcomes : List Told) → count_by (opens c) open_ones ≡ 0 → IsRun limits xs catalog open_ones outcomes → IsRun limits (xs ++ Finish c ∷ []) catalog open_ones outcomes
 skip_finish limits xs c catalog open_ones outcomes none run =
     skip limits xs (Finish c) catalog open_ones outcomes run tt
@@ -217,7 +217,7 @@ begin_refused limits xs w catalog open_ones outcomes place reply none_open none_
       work = w;
       asked = work_new w.by xs w zero (same_by-itself w.by);
       found = subst (λ (n : ℕ). place_of w.by (xs ++ Begin w ∷ []) found ≡ Some n) (sym at_end) (place_of-new w.by xs run.found w (length catalog.history) run.counted (nothing_yet (work_of w.by xs) zero) (same_by-itself w.by));
-      fits = Fits-end limits catalog.history w.by w.command w.now place false reply at_end (subst (λ (l : Limits). FitsNow l catalog.history w.by w.command w.now false reply) run.same_limits fits) (still_marked catalog.history w.by reply still);
+      fits = Fits-end limits catalog.history w.by w.command w.now place false reply at_end (subst (λ (l : Limits). FitsNow l catalog.history w.by w.command w.now false reply) run.same_limits fits) (still_requested catalog.history w.by reply still);
       since = omega arith;
       names_all = still_names (take place catalog.history) place reply still;
       memory = λ wants. inl (subst (λ (n : History). TakesMemory n w.command) (sym (take_all place catalog.history (omega (arith, at_end)))) (takes wants));
@@ -250,20 +250,20 @@ ready_wants limits h place later now command readies.Pending is takes = inr take
 pub finish_open : (limits : Limits) (xs : List Step) (c : By) (old new : CatalogView) (open_ones : List Prepared) (outcomes : List Told) (i : ℕ) (p : Prepared) (outcome : Outcome) → IsAt (opens c) open_ones i → p ≡ slice_index_or open_ones i p → new.limits ≡ old.limits → Advances old.limits old.history new.history p.work p.place outcome → WantsToFinish p.place new.history p.work.command p.ready outcome → IsRun limits xs old open_ones outcomes → IsRun limits (xs ++ Finish c ∷ []) new (remove open_ones i) (outcomes ++ record { by = c; began = p.place; outcome = outcome } ∷ [])
 finish_open limits xs c old new open_ones outcomes i p outcome is_at value kept step takes run =
     let t : Told = record { by = c; began = p.place; outcome = outcome } in
-    let mark : p.work.by ≡ c = same_by-true p.work.by c (ap (opens c) value ∙ is_at.1 p) in
+    let request : p.work.by ≡ c = same_by-true p.work.by c (ap (opens c) value ∙ is_at.1 p) in
     let open_one : IsOpen limits (moment xs run.found old.history outcomes) p = subst (IsOpen limits (moment xs run.found old.history outcomes)) (sym value) (run.waiting i p is_at.0) in
-    let asked : work_of c xs ≡ Some p.work = subst (λ (m : By). work_of m xs ≡ Some p.work) mark open_one.asked in
+    let asked : work_of c xs ≡ Some p.work = subst (λ (m : By). work_of m xs ≡ Some p.work) request open_one.asked in
     let made = event_by p.work.by step.appends.made in
     let is = step.appends.appended in
-    let marked_is : new.history ≡ old.history ++ event_by c step.appends.made = subst (λ (m : By). new.history ≡ old.history ++ event_by m step.appends.made) mark is in
+    let requested_is : new.history ≡ old.history ++ event_by c step.appends.made = subst (λ (m : By). new.history ≡ old.history ++ event_by m step.appends.made) request is in
     let found = run.found ++ length old.history ∷ [] in
     let all = outcomes ++ t ∷ [] in
     let next : Moment = moment (xs ++ Finish c ∷ []) found new.history all in
     let P = IsOpen limits next in
     let later : All P open_ones = All-weaker _ _ (IsOpen-later limits xs (Finish c ∷ []) run.found (length old.history ∷ []) old.history new.history made outcomes all is) open_ones run.waiting in
     let left = λ (b : By). let e = sum_by-remove (λ (x : Prepared). cond (opens b x) 1 0) open_ones i p is_at.0 in subst (λ (q : Prepared). count_by (opens b) (remove open_ones i) + cond (opens b q) 1 0 ≡ count_by (opens b) open_ones) (sym value) e in
-    let of = λ (b : By). subst (λ (m : By). count_by (opens b) (remove open_ones i) + cond (same_by m b) 1 0 ≡ count_by (opens b) open_ones) mark (left b) in
-    go_on limits xs (Finish c) old new open_ones (remove open_ones i) outcomes all step.appends.made (t ∷ []) run kept marked_is refl
+    let of = λ (b : By). subst (λ (m : By). count_by (opens b) (remove open_ones i) + cond (same_by m b) 1 0 ≡ count_by (opens b) open_ones) request (left b) in
+    go_on limits xs (Finish c) old new open_ones (remove open_ones i) outcomes all step.appends.made (t ∷ []) run kept requested_is refl
     (omega arith) (All-push (λ (u : Told). u.by ≡ c) [] t (All-nil (λ (u : Told). u.by ≡ c)) refl) (some_given t step.appends.made) tt
     (All-append P (take i open_ones) (drop (suc i) open_ones) (All-take P i open_ones later) (All-drop P (suc i) open_ones later))
     (All-push (Tells limits next) outcomes t
@@ -271,14 +271,14 @@ finish_open limits xs c old new open_ones outcomes i p outcome is_at value kept 
     (record {
       work = p.work;
       asked = work_of-append c xs (Finish c ∷ []) p.work asked;
-      found = place_of-append c xs (Finish c ∷ []) run.found (length old.history ∷ []) p.place (subst (λ (m : By). place_of m xs run.found ≡ Some p.place) mark open_one.found);
-      fits = subst (λ (m : By). Fits limits new.history m p.work.command p.work.now outcome.place outcome.own outcome.reply) mark (subst (λ (l : Limits). Fits l new.history p.work.by p.work.command p.work.now outcome.place outcome.own outcome.reply) run.same_limits step.fits);
+      found = place_of-append c xs (Finish c ∷ []) run.found (length old.history ∷ []) p.place (subst (λ (m : By). place_of m xs run.found ≡ Some p.place) request open_one.found);
+      fits = subst (λ (m : By). Fits limits new.history m p.work.command p.work.now outcome.place outcome.own outcome.reply) request (subst (λ (l : Limits). Fits l new.history p.work.by p.work.command p.work.now outcome.place outcome.own outcome.reply) run.same_limits step.fits);
       since = step.since;
       names_all = step.names_all;
       memory = λ wants. subst (λ (n : History). MayWantMemory n (take outcome.place new.history) p.work.command) (sym (ap (take p.place) is ∙ take-append-le p.place old.history made (omega (arith, open_one.prepared.at, length-take p.place old.history)))) (ready_wants limits (take p.place old.history) p.place (take outcome.place new.history) p.work.now p.work.command p.ready open_one.prepared.is_ready (takes wants));
       finished = inl (is_finished-now c xs p.work asked);
     }))
-    (step.appends.commits ∙ ap (λ (m : By). commits_at old.history ++ own_commit outcome.own outcome.place m) mark ∙ ap (λ l. l ++ own_commit outcome.own outcome.place c) run.commits ∙ flat_map_more (λ (x : Told). own_commit x.outcome.own x.outcome.place x.by) [] outcomes t)
+    (step.appends.commits ∙ ap (λ (m : By). commits_at old.history ++ own_commit outcome.own outcome.place m) request ∙ ap (λ l. l ++ own_commit outcome.own outcome.place c) run.commits ∙ flat_map_more (λ (x : Told). own_commit x.outcome.own x.outcome.place x.by) [] outcomes t)
     (λ b. ap (λ (n : ℕ). count_by (opens b) (remove open_ones i) + n) (sum_by_push (λ (x : Told). cond (tells b x) 1 0) outcomes t) ∙ moved (same_by c b) (count_by (opens b) open_ones) (count_by (opens b) (remove open_ones i)) (count_by (tells b) outcomes) _ (of b) (run.once b) ∙ sym (one-finish b c xs))
     (λ b f. moved_gone (same_by c b) (count_by (opens b) open_ones) (count_by (opens b) (remove open_ones i)) (count_by (tells b) outcomes) (one_if_some (work_of b xs)) (of b) (run.once b) (elim (is_finished-finish b c xs f) [ inl q ↦ inl (run.gone b q) | inr q ↦ inr q ]))
 

@@ -15,11 +15,11 @@ use Rattle.kq_reply.specs.declared.refusal.Refusal.{Refusal}
 use Rattle.kq_reply.specs.declared.reply.Reply.{Reply}
 use Rattle.kq_reply.specs.declared.reply.Reply.TheVariants as replies
 use Rattle.kq_engine.specs.declared.work.Ready.TheVariants as readies
-use Rattle.kq_engine.specs.Shared.{PassView, Applies, Finishes, IsFresh, Concludes, made_by}
+use Rattle.kq_engine.specs.Shared.{PassView, Applies, Finishes, IsFresh, Concludes, commit_count}
 use Rattle.kq_engine.proofs.Advancing.{Appends-none, Fits-end}
 use Rattle.kq_engine.proofs.Counting.{cursor-gained}
 use Rattle.kq_engine.specs.Merges.{NamesAll}
-use Rattle.kq_engine.proofs.Telling.{NamesAll-since, cursor_take, refused_still, settled_marked, settled_names, still_marked, still_names}
+use Rattle.kq_engine.proofs.Telling.{NamesAll-since, cursor_take, refused_still, settled_requested, settled_names, still_requested, still_names}
 
 -- a step that began on what was seen
 pub Finishes-step : (limits : Limits) (of : TurnId) (seen old new : History) (worth made : ℕ) (taken : List ℕ) (work : Work) (began : ℕ) (outcome : Outcome) → began ≡ length seen → IsPrefix seen old → Advances limits old new work began outcome
@@ -52,7 +52,7 @@ Concludes-answered limits pass work reply fresh due = record {
   taken = sym (append-nil pass.taken);
   last = record { found = pass.seen; begins = IsPrefix-refl pass.seen; before = fresh.before; last = fresh.last; appends = Appends-none limits pass.seen work.by work.command (length pass.seen) reply };
   made = omega arith;
-  fits = Fits-end limits pass.seen work.by work.command work.now (length pass.seen) false reply refl (inr due.0) (settled_marked (cursor pass.seen) pass.seen work.by reply due.1);
+  fits = Fits-end limits pass.seen work.by work.command work.now (length pass.seen) false reply refl (inr due.0) (settled_requested (cursor pass.seen) pass.seen work.by reply due.1);
   since = omega arith;
   names_all = settled_names (cursor pass.seen) (take (length pass.seen) pass.seen) (length pass.seen) reply (below (take_all (length pass.seen) pass.seen (omega arith))) due.1;
 }
@@ -85,7 +85,7 @@ Applies-concluded limits old mid new work outcome begins took concludes =
         last = concludes.last.last;
         appends = concludes.last.appends;
       };
-      made = concludes.made ∙ ap (λ (p : PassView). p.made + made_by outcome.own) took;
+      made = concludes.made ∙ ap (λ (p : PassView). p.made + commit_count outcome.own) took;
       fits = concludes.fits;
       since = omega (arith, low, concludes.since);
       names_all = NamesAll-since (take outcome.place new.seen) (length old.seen) (length mid.seen) outcome.reply low concludes.names_all;
@@ -103,7 +103,7 @@ Applies-refused limits old new work r begins took fits = Applies-concluded limit
   taken = sym (append-nil new.taken);
   last = record { found = new.seen; begins = IsPrefix-refl new.seen; before = old.taken; last = ap (λ (p : PassView). p.taken) took; appends = Appends-none limits new.seen work.by work.command (length new.seen) (replies.Refused r) };
   made = omega arith;
-  fits = Fits-end limits new.seen work.by work.command work.now (length new.seen) false (replies.Refused r) refl fits (still_marked new.seen work.by (replies.Refused r) (refused_still r));
+  fits = Fits-end limits new.seen work.by work.command work.now (length new.seen) false (replies.Refused r) refl fits (still_requested new.seen work.by (replies.Refused r) (refused_still r));
   since = omega arith;
   names_all = still_names (take (length new.seen) new.seen) (length new.seen) (replies.Refused r) (refused_still r);
 })

@@ -40,7 +40,7 @@ use Rattle.kq_reply.specs.declared.reply.Reply.TheVariants as replies
 use Rattle.kq_engine.specs.Due.{Due, Says, Commits, IsBoundDue, IsCounted, IsDueByLog, IsNewDue, IsPlannedDue, IsViewDue, MakesView, stood_due, view_named, bad_tags, barring_tags, IsBodyDue, IsIngestDue, IsTaggedDue, IsValuesDue, clash_due, counted, derived_due, lacking_due, made_due, named_due, own_batch, refused, refusal_of, reply_to, table_due, widening_due, IsEntriesDue, IsPolicyDue}
 use Rattle.kq_engine.specs.Fits.{Makes}
 use Rattle.kq_engine.specs.Folds.{view_number}
-use Rattle.kq_engine.specs.Merges.{IsMarked, IsSettled, IsStill, NamesAll}
+use Rattle.kq_engine.specs.Merges.{IsMergedBy, IsSettled, IsStill, NamesAll}
 use Rattle.kq_engine.specs.Shows.{AnswersShow, ShowsExtents, ShowsView}
 use Rattle.kq_show.specs.JournalRows.{name_of}
 
@@ -79,8 +79,8 @@ Makes-still limits l commands.Unbuilt reply c makes = absurd makes
 
 -- ---- what it need not meet
 
-pub still_marked : (h : History) (mark : By) (reply : Reply) → IsStill reply → IsMarked h mark reply
-still_marked h mark reply still = λ extents e. absurd (still.no_merge extents e)
+pub still_requested : (h : History) (request : By) (reply : Reply) → IsStill reply → IsMergedBy h request reply
+still_requested h request reply still = λ extents e. absurd (still.no_merge extents e)
 
 pub still_names : (h : History) (from : ℕ) (reply : Reply) → IsStill reply → NamesAll h from reply
 still_names h from reply still = record { merged = λ extents e. absurd (still.no_merge extents e); folded = λ at e. absurd (still.no_fold at e) }
@@ -92,9 +92,9 @@ folded_merged : (at extents : ℕ) → replies.Folded at ≡ replies.Merged exte
 folded_merged at extents e = cc
 
 -- a fold that is told without an event is told up to the least cursor at least
-pub settled_marked : (least : ℕ) (h : History) (mark : By) (reply : Reply) → IsSettled least reply → IsMarked h mark reply
-settled_marked least h mark reply (inl still) = still_marked h mark reply still
-settled_marked least h mark reply (inr told) = λ extents e. absurd (folded_merged told.0 extents (sym told.1 ∙ e))
+pub settled_requested : (least : ℕ) (h : History) (request : By) (reply : Reply) → IsSettled least reply → IsMergedBy h request reply
+settled_requested least h request reply (inl still) = still_requested h request reply still
+settled_requested least h request reply (inr told) = λ extents e. absurd (folded_merged told.0 extents (sym told.1 ∙ e))
 
 pub settled_names : (least : ℕ) (h : History) (from : ℕ) (reply : Reply) → cursor (take from h) ≤ least → IsSettled least reply → NamesAll h from reply
 settled_names least h from reply below (inl still) = still_names h from reply still

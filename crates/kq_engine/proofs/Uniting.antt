@@ -8,7 +8,7 @@ use Rattle.kq_model.specs.declared.event.Event.{Event}
 use Rattle.kq_model.specs.declared.event.Operation.TheVariants as operation
 use Rattle.kq_model.specs.declared.limits.Limits.{Limits}
 use Rattle.kq_model.specs.History.{History, Log, Numbered, log, tables, table_numbered}
-use Rattle.kq_model.specs.Records.{ExtentItem, extents, is_small_item, item_ids, made_in, picked, small_items}
+use Rattle.kq_model.specs.Records.{ExtentItem, extents, is_small_item, item_ids, extents_made, picked, small_items}
 use Rattle.kq_model.proofs.Histories.{log-append, log-push}
 use Rattle.kq_model.proofs.Tables.{still_found}
 use Rattle.kq_catalog.specs.declared.merging.Merging.{Merging}
@@ -63,9 +63,9 @@ still_named h at name found named =
     let still = still_found (log (take at h)) (log (drop at h)) name.text found named in
     record { found = record { number = found.number; table = still.table }; named = ap (λ (l : Log). table_numbered name.text (tables l)) (sym whole) ∙ still.finds; same = refl }
 
-told_merged : (old new : History) (by : By) (name : Identifier) (m : Merging) (number : ℕ) → StillNamed old name number → m.table ≡ number → new ≡ old ++ merge_event by (1 + made_in old) m ∷ [] → MergesNamed new name (table_numbered name.text (tables (log new))) (replies.Merged (length m.old))
+told_merged : (old new : History) (by : By) (name : Identifier) (m : Merging) (number : ℕ) → StillNamed old name number → m.table ≡ number → new ≡ old ++ merge_event by (1 + extents_made old) m ∷ [] → MergesNamed new name (table_numbered name.text (tables (log new))) (replies.Merged (length m.old))
 told_merged old new by name m number still at appended =
-    let event = merge_event by (1 + made_in old) m in
+    let event = merge_event by (1 + extents_made old) m in
     let logged : log new ≡ log old = ap log appended ∙ log-push old event ∙ append-nil (log old) in
     let t : m.table ≡ still.found.number = at ∙ sym still.same in
     subst (λ o. MergesNamed new name o (replies.Merged (length m.old))) (sym (ap (λ (l : Log). table_numbered name.text (tables l)) logged ∙ still.named))
@@ -73,8 +73,8 @@ told_merged old new by name m number still at appended =
       before = old;
       by = by;
       old = m.old;
-      new = 1 + made_in old;
-      last = appended ∙ ap (λ (n : ℕ). let e : Event = record { by = by; operation = operation.Merge n m.old (1 + made_in old) } in old ++ e ∷ []) t;
+      new = 1 + extents_made old;
+      last = appended ∙ ap (λ (n : ℕ). let e : Event = record { by = by; operation = operation.Merge n m.old (1 + extents_made old) } in old ++ e ∷ []) t;
       count = refl;
     })
 
@@ -102,7 +102,7 @@ Acts-merge limits old new work at m outcome within is puts = subst (Acts limits 
 
     tended : Tended limits old new work at reply
     tended = record {
-      made = operation.Merge m.table m.old (1 + made_in old);
+      made = operation.Merge m.table m.old (1 + extents_made old);
       tends = subst (λ (c : Command). TendsMerge old c reply m.table m.old) (sym merges.is) (record { found = still.found; named = still.named; same = merging.table ∙ sym still.same; told = refl });
       granted = λ r e. cc;
       answers = inr (subst (λ (c : Command). IsDue limits new work.now c reply) (sym merges.is) (told_merged old new work.by merges.name m found.number still merging.table puts.appended));
@@ -112,7 +112,7 @@ Acts-merge limits old new work at m outcome within is puts = subst (Acts limits 
           by = work.by;
           table = m.table;
           old = m.old;
-          new = 1 + made_in old;
+          new = 1 + extents_made old;
           last = puts.appended;
           at = at;
           since = omega arith;

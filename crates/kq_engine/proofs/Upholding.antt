@@ -17,13 +17,13 @@ use Rattle.kq_model.specs.declared.event.Event.{Event}
 use Rattle.kq_model.specs.declared.event.Operation.{Operation}
 use Rattle.kq_model.specs.declared.event.Operation.TheVariants as operation
 use Rattle.kq_model.specs.declared.limits.Limits.{Limits}
-use Rattle.kq_model.specs.History.{History, Log, Numbered, cursor, log, mark, tables, view_count, views}
+use Rattle.kq_model.specs.History.{History, Log, Numbered, cursor, log, view_cursor, tables, view_count, views}
 use Rattle.kq_model.specs.Lawful.{AreLawful}
-use Rattle.kq_model.specs.Records.{item_ids, made_in, picked}
+use Rattle.kq_model.specs.Records.{item_ids, extents_made, picked}
 use Rattle.kq_model.specs.Views.{covered}
 use Rattle.kq_model.proofs.Growing.{tables-stay}
 use Rattle.kq_model.proofs.Histories.{log-append}
-use Rattle.kq_model.proofs.Views.{mark-push, no_fewer_views}
+use Rattle.kq_model.proofs.Views.{view_cursor-push, no_fewer_views}
 use Rattle.kq_plan.specs.Plans.{planned_of}
 use Rattle.kq_query.specs.Answers.{RefusesBy}
 use Rattle.kq_reply.specs.declared.refusal.Refusal.{Refusal}
@@ -38,7 +38,7 @@ use Rattle.kq_engine.specs.declared.work.Folding.{Folding}
 use Rattle.kq_engine.specs.declared.work.Outcome.{Outcome}
 use Rattle.kq_engine.specs.Fits.{Fits, IsDue, event_by}
 use Rattle.kq_engine.specs.Folds.{BringsForward, FoldsNamed, FoldsView, IsFoldingIn, PutsFold}
-use Rattle.kq_engine.specs.Merges.{IsMarked, IsMergingIn, IsSettled, IsStill, MergesNamed, MergesTable, PutsMerge}
+use Rattle.kq_engine.specs.Merges.{IsMergedBy, IsMergingIn, IsSettled, IsStill, MergesNamed, MergesTable, PutsMerge}
 use Rattle.kq_engine.specs.Shared.{PassView}
 use Rattle.kq_engine.specs.Upkeeps.{AnswersUpkeep, AsksFor, FinishesUpkeep, FitsEach, IsChore, IsThere, IsToldAt, IsWanted, KeepsUp, MakesOwn, PutsChore, TellsUpkeep, Upholds, WasChore, WasFound}
 use Rattle.kq_engine.proofs.Advancing.{Fits-end}
@@ -129,7 +129,7 @@ pub refused_told : (h : History) (view : ℕ) (r : Refusal) → IsWanted h (upke
 refused_told h view r wanted refuses = record { answers = refused_answers h view r refuses; settled = inl (refused_still r); memory = λ e. wanted }
 
 -- the view is up to the cursor
-pub folded_told : (h : History) (view at : ℕ) → at ≡ cursor h → mark h view ≡ cursor h → IsToldAt h (upkeeps.Fold view) (replies.Folded at)
+pub folded_told : (h : History) (view at : ℕ) → at ≡ cursor h → view_cursor h view ≡ cursor h → IsToldAt h (upkeeps.Fold view) (replies.Folded at)
 folded_told h view at here idle = record { answers = inr (here ∙ sym idle); settled = inr (at, refl, omega (arith, here)); memory = λ e. absurd (cc) }
 
 -- there is nothing to merge
@@ -169,12 +169,12 @@ module _ (old new : History) (by : By) (view place : ℕ) (f : Folding) (was : W
   stands : view < view_count (log old)
   stands = there_later (take place old) old (upkeeps.Fold view) (IsPrefix-take place old) was.there
 
-  same_view : (n m to : ℕ) → n ≡ m → cond (nat_eq n m) to (mark old m) ≡ to
-  same_view n m to same = ap (λ (b : Bool). cond b to (mark old m)) (eq-eqb n m same)
+  same_view : (n m to : ℕ) → n ≡ m → cond (nat_eq n m) to (view_cursor old m) ≡ to
+  same_view n m to same = ap (λ (b : Bool). cond b to (view_cursor old m)) (eq-eqb n m same)
 
-  -- its new mark is the cursor up to which it was folded
-  marked : new ≡ old ++ fold_event by f.view f.to ∷ [] → mark new view ≡ f.to
-  marked appended = ap (λ (h : History). mark h view) appended ∙ mark-push old (fold_event by f.view f.to) view stands ∙ same_view f.view view f.to folding.of
+  -- its new cursor is the cursor up to which it was folded
+  materialized : new ≡ old ++ fold_event by f.view f.to ∷ [] → view_cursor new view ≡ f.to
+  materialized appended = ap (λ (h : History). view_cursor h view) appended ∙ view_cursor-push old (fold_event by f.view f.to) view stands ∙ same_view f.view view f.to folding.of
 
   reaches : new ≡ old ++ fold_event by f.view f.to ∷ [] → cursor (take place new) ≤ f.to
   reaches appended =
@@ -189,7 +189,7 @@ module _ (old new : History) (by : By) (view place : ℕ) (f : Folding) (was : W
     appended = brings.appended;
     place = refl;
     no_commit = refl;
-    answers = inr (sym (marked brings.appended));
+    answers = inr (sym (materialized brings.appended));
     names_all = record {
       merged = λ extents e. absurd (folded_merged f.to extents e);
       folded = λ to e. let same = folded_same f.to to e in let far = reaches brings.appended in omega (arith, same, far);
@@ -197,26 +197,26 @@ module _ (old new : History) (by : By) (view place : ℕ) (f : Folding) (was : W
   }
 
   -- a view that is as far
-  far : f.to ≤ mark old f.view → cursor (take place old) ≤ mark old f.view
+  far : f.to ≤ view_cursor old f.view → cursor (take place old) ≤ view_cursor old f.view
   far ahead = let to = folding.to in omega (arith, to, ahead)
 
-  leaves : f.to ≤ mark old f.view → Upholds old old by (upkeeps.Fold view) place (record { place = length old; own = false; reply = replies.Folded (mark old f.view) })
+  leaves : f.to ≤ view_cursor old f.view → Upholds old old by (upkeeps.Fold view) place (record { place = length old; own = false; reply = replies.Folded (view_cursor old f.view) })
   leaves ahead = record {
     made = None;
-    own_event = λ extents e. folded_merged (mark old f.view) extents e;
+    own_event = λ extents e. folded_merged (view_cursor old f.view) extents e;
     appended = sym (append-nil old);
     place = refl;
     no_commit = refl;
-    answers = inr (ap (mark old) folding.of);
+    answers = inr (ap (view_cursor old) folding.of);
     names_all = record {
-      merged = λ extents e. absurd (folded_merged (mark old f.view) extents e);
-      folded = λ to e. let same = folded_same (mark old f.view) to e in let past = far ahead in omega (arith, same, past);
+      merged = λ extents e. absurd (folded_merged (view_cursor old f.view) extents e);
+      folded = λ to e. let same = folded_same (view_cursor old f.view) to e in let past = far ahead in omega (arith, same, past);
     };
   }
 
   by_puts : (outcome : Outcome) → PutsFold old new by f outcome → Upholds old new by (upkeeps.Fold view) place outcome
   by_puts outcome (inl brings) = subst (Upholds old new by (upkeeps.Fold view) place) (sym brings.is) (forward (record { behind = brings.behind; appended = brings.appended; is = refl }))
-  by_puts outcome (inr stays) = subst (Upholds old new by (upkeeps.Fold view) place) (sym stays.is) (subst (λ (h : History). Upholds old h by (upkeeps.Fold view) place (record { place = length old; own = false; reply = replies.Folded (mark old f.view) })) (sym stays.stays) (leaves stays.ahead))
+  by_puts outcome (inr stays) = subst (Upholds old new by (upkeeps.Fold view) place) (sym stays.is) (subst (λ (h : History). Upholds old h by (upkeeps.Fold view) place (record { place = length old; own = false; reply = replies.Folded (view_cursor old f.view) })) (sym stays.stays) (leaves stays.ahead))
 
 -- the fold of what was found was made, or the view is as far already
 pub PutsChore-fold : (old new : History) (by : By) (f : Folding) (outcome : Outcome) → PutsFold old new by f outcome → PutsChore old new by (chores.Fold f) outcome
@@ -228,7 +228,7 @@ PutsChore-fold old new by f outcome puts (upkeeps.Merge table) place was = absur
 -- the merge of what was picked at a place was made
 pub Upholds-merge : (old new : History) (by : By) (table place : ℕ) (m : Merging) (outcome : Outcome) → place ≤ length old → IsMergingIn (take place old) table m → PutsMerge old new by m outcome → Upholds old new by (upkeeps.Merge table) place outcome
 Upholds-merge old new by table place m outcome within merging puts = subst (Upholds old new by (upkeeps.Merge table) place) (sym puts.is) (record {
-  made = Some (operation.Merge m.table m.old (1 + made_in old));
+  made = Some (operation.Merge m.table m.old (1 + extents_made old));
   own_event = (merging.table, refl);
   appended = puts.appended;
   place = refl;
@@ -237,8 +237,8 @@ Upholds-merge old new by table place m outcome within merging puts = subst (Upho
     before = old;
     by = by;
     old = m.old;
-    new = 1 + made_in old;
-    last = puts.appended ∙ ap (λ (n : ℕ). let e : Event = record { by = by; operation = operation.Merge n m.old (1 + made_in old) } in old ++ e ∷ []) merging.table;
+    new = 1 + extents_made old;
+    last = puts.appended ∙ ap (λ (n : ℕ). let e : Event = record { by = by; operation = operation.Merge n m.old (1 + extents_made old) } in old ++ e ∷ []) merging.table;
     count = refl;
   });
   names_all = record {
@@ -247,7 +247,7 @@ Upholds-merge old new by table place m outcome within merging puts = subst (Upho
       by = by;
       table = m.table;
       old = m.old;
-      new = 1 + made_in old;
+      new = 1 + extents_made old;
       last = puts.appended;
       at = place;
       since = omega arith;
@@ -286,7 +286,7 @@ asked_answers : (limits : Limits) (h : History) (now : ℤ) (command : Command) 
 asked_answers limits h now command upkeep reply asks (inl wanting) = inl wanting
 asked_answers limits h now command upkeep reply asks (inr tells) = inr (asked_due limits h now command upkeep reply asks tells)
 
-made_marked : (old new : History) (by : By) (upkeep : Upkeep) (reply : Reply) (made : Option Operation) → MakesOwn upkeep reply made → new ≡ old ++ event_by by made → IsMarked new by reply
+made_marked : (old new : History) (by : By) (upkeep : Upkeep) (reply : Reply) (made : Option Operation) → MakesOwn upkeep reply made → new ≡ old ++ event_by by made → IsMergedBy new by reply
 made_marked old new by upkeep reply None own appended = λ extents e. absurd (own extents e)
 made_marked old new by upkeep reply (Some made) own appended = λ extents e. record { before = old; made = made; last = appended }
 

@@ -18,7 +18,7 @@ use Rattle.kq_engine.specs.declared.work.Outcome.{Outcome}
 use Rattle.kq_engine.specs.declared.work.Work.{Work}
 use Rattle.kq_engine.specs.Due.{Accept}
 use Rattle.kq_engine.specs.Folds.{AnswersFold, TendsFold}
-use Rattle.kq_engine.specs.Merges.{AnswersMerge, IsMarked, IsSettled, NamesAll, TendsMerge}
+use Rattle.kq_engine.specs.Merges.{AnswersMerge, IsMergedBy, IsSettled, NamesAll, TendsMerge}
 use Rattle.kq_engine.specs.Shows.{AnswersShow}
 
 -- the reply that is due at a moment without a commit; to a merge or a fold over a history with its own event
@@ -45,24 +45,24 @@ Answers limits h now command reply = (reply ≡ replies.Refused refusals.Memory)
 
 -- the reply fits this whole history: with `own`, its last event is the command's commit
 abbrev pub FitsNow : Limits → History → By → Command → ℤ → Bool → Reply → Type 0
-FitsNow limits h mark command now false reply = Answers limits h now command reply
-FitsNow limits h mark command now true reply = (before : History) × (c : Commit) × (h ≡ before ++ record { by = mark; operation = operation.Commit c } ∷ []) × Makes limits (log before) command reply c
+FitsNow limits h request command now false reply = Answers limits h now command reply
+FitsNow limits h request command now true reply = (before : History) × (c : Commit) × (h ≡ before ++ record { by = request; operation = operation.Commit c } ∷ []) × Makes limits (log before) command reply c
 
--- the reply fits the command at a place of the history; a merge that it tells has the mark
-pub record Fits (limits : Limits) (h : History) (mark : By) (command : Command) (now : ℤ) (place : ℕ) (own : Bool) (reply : Reply) : Type 0 where
+-- the reply fits the command at a place of the history; a merge that it tells has the request id
+pub record Fits (limits : Limits) (h : History) (request : By) (command : Command) (now : ℤ) (place : ℕ) (own : Bool) (reply : Reply) : Type 0 where
   pub within : place ≤ length h
-  pub at : FitsNow limits (take place h) mark command now own reply
-  pub marked : IsMarked (take place h) mark reply
+  pub at : FitsNow limits (take place h) request command now own reply
+  pub requested : IsMergedBy (take place h) request reply
 
 -- the outcome of an answer: that of a refusal is at the end of the history
 abbrev pub outcome_of : History → Result Outcome Refusal → Outcome
 outcome_of h (Ok outcome) = outcome
 outcome_of h (Err r) = record { place = length h; own = false; reply = replies.Refused r }
 
--- an operation as an event with its mark, or none
+-- an operation as an event with its request id, or none
 abbrev pub event_by : By → Option Operation → History
-event_by mark None = []
-event_by mark (Some made) = record { by = mark; operation = made } ∷ []
+event_by request None = []
+event_by request (Some made) = record { by = request; operation = made } ∷ []
 
 -- the operation that a command without a commit may make beside its reply: a fold or a merge
 abbrev pub Tends : Limits → History → Command → Reply → Operation → Type 0
@@ -94,8 +94,8 @@ Acts limits old new work began outcome = (outcome.place ≡ length new) × Did l
 
 -- the commit of an outcome, if it made one
 abbrev pub own_commit : Bool → ℕ → By → List CommitAt
-own_commit true place mark = record { place = place; by = mark } ∷ []
-own_commit false place mark = []
+own_commit true place request = record { place = place; by = request } ∷ []
+own_commit false place request = []
 
 abbrev pub IsCommit : Operation → Type 0
 IsCommit (operation.Commit c) = Unit {0}
@@ -107,12 +107,12 @@ abbrev pub MayMake : Limits → History → Command → Reply → Option Operati
 MayMake limits old command reply None = Unit {0}
 MayMake limits old command reply (Some made) = IsCommit made ⊎ (Tends limits old command reply made × IsGranted reply)
 
--- the history gains one event or none, with this mark, and it is a commit exactly with `own`: the one at the outcome's place
-pub record Appends (limits : Limits) (old new : History) (mark : By) (command : Command) (outcome : Outcome) : Type 0 where
+-- the history gains one event or none, with this request id, and it is a commit exactly with `own`: the one at the outcome's place
+pub record Appends (limits : Limits) (old new : History) (request : By) (command : Command) (outcome : Outcome) : Type 0 where
   pub made : Option Operation
   pub may_make : MayMake limits old command outcome.reply made
-  pub appended : new ≡ old ++ event_by mark made
-  pub commits : commits_at new ≡ commits_at old ++ own_commit outcome.own outcome.place mark
+  pub appended : new ≡ old ++ event_by request made
+  pub commits : commits_at new ≡ commits_at old ++ own_commit outcome.own outcome.place request
 
 -- one step of the engine: at most one event is appended, the outcome fits the history, and a merge is of all that were picked since the work began, a fold up to all that stood there
 pub record Advances (limits : Limits) (old new : History) (work : Work) (began : ℕ) (outcome : Outcome) : Type 0 where

@@ -8,7 +8,7 @@ use Rattle.kq_command.specs.declared.command.Command.{Command}
 use Rattle.kq_command.specs.declared.command.Command.TheVariants.{Fold}
 use Rattle.kq_grouping.specs.Bodies.{OverflowsAt}
 use Rattle.kq_model.specs.declared.event.By.{By}
-use Rattle.kq_model.specs.History.{History, Viewed, cursor, log, mark, names_of_views, views}
+use Rattle.kq_model.specs.History.{History, Viewed, cursor, log, view_cursor, names_of_views, views}
 use Rattle.kq_model.specs.Views.{covered}
 use Rattle.kq_names.specs.Places.{place_of}
 use Rattle.kq_plan.specs.Plans.{planned_of}
@@ -35,12 +35,12 @@ pub record OverflowsBeyond (h : History) (number stage : ℕ) : Type 0 where
   pub viewed : Viewed
   pub stands : slice_get (views (log h)) number ≡ Some viewed
   pub order : List (List Value)
-  pub same : IsPermutation (covered (log h) viewed.view (mark h number) (cursor h)) order
+  pub same : IsPermutation (covered (log h) viewed.view (view_cursor h number) (cursor h)) order
   pub overflows : OverflowsAt (planned_of viewed.view.body) order stage
 
 -- the view's cursor is told, or where it overflows
 abbrev pub FoldsView : History → ℕ → Reply → Type 0
-FoldsView h number (replies.Folded at) = at ≡ mark h number
+FoldsView h number (replies.Folded at) = at ≡ view_cursor h number
 FoldsView h number (replies.Refused (refusals.Overflow stage)) = OverflowsBeyond h number stage
 FoldsView h number _ = ⊥
 
@@ -66,7 +66,7 @@ pub record IsFoldingIn (h : History) (number : ℕ) (f : Folding) : Type 0 where
 pub record IsFoldingOf (h : History) (view : Identifier) (f : Folding) : Type 0 where
   pub number : ℕ
   pub named : view_number h view ≡ Some number
-  pub behind : mark h number ≢ cursor h
+  pub behind : view_cursor h number ≢ cursor h
   pub folding : IsFoldingIn h number f
 
 abbrev pub IsFoldingFor : History → Command → Folding → Type 0
@@ -86,15 +86,15 @@ TendsFold h _ reply number to = ⊥
 
 -- a view that was behind was brought forward, and its new cursor is told
 pub record BringsForward (old new : History) (by : By) (f : Folding) (outcome : Outcome) : Type 0 where
-  pub behind : mark old f.view < f.to
+  pub behind : view_cursor old f.view < f.to
   pub appended : new ≡ old ++ fold_event by f.view f.to ∷ []
   pub is : outcome ≡ record { place = length new; own = false; reply = replies.Folded f.to }
 
 -- a view that is as far stayed, and its cursor is told
 pub record LeavesView (old new : History) (f : Folding) (outcome : Outcome) : Type 0 where
-  pub ahead : f.to ≤ mark old f.view
+  pub ahead : f.to ≤ view_cursor old f.view
   pub stays : new ≡ old
-  pub is : outcome ≡ record { place = length old; own = false; reply = replies.Folded (mark old f.view) }
+  pub is : outcome ≡ record { place = length old; own = false; reply = replies.Folded (view_cursor old f.view) }
 
 abbrev pub PutsFold : History → History → By → Folding → Outcome → Type 0
 PutsFold old new by f outcome = BringsForward old new by f outcome ⊎ LeavesView old new f outcome

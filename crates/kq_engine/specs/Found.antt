@@ -7,7 +7,7 @@ use Rattle.kq_model.specs.declared.limits.Limits.{Limits}
 use Rattle.kq_model.specs.declared.policy.Due.{Due as Entering}
 use Rattle.kq_model.specs.declared.table.Table.{Table}
 use Rattle.kq_model.specs.Derived.{Row}
-use Rattle.kq_model.specs.History.{History, Log, cursor, log, mark, tables, table_named, Numbered, table_numbered}
+use Rattle.kq_model.specs.History.{History, Log, cursor, log, view_cursor, tables, table_named, Numbered, table_numbered}
 use Rattle.kq_model.specs.Policies.{dues}
 use Rattle.kq_model.specs.Tagged.{least_tagged}
 use Rattle.kq_cascade.specs.declared.running.CascadeFault.{CascadeFault}
@@ -280,7 +280,7 @@ TakesToShow h shows.Journal = Unit {0}
 -- a view is folded that isn't up to the cursor
 abbrev pub LagsBehind : History → Option ℕ → Type 0
 LagsBehind h None = ⊥
-LagsBehind h (Some number) = mark h number ≢ cursor h
+LagsBehind h (Some number) = view_cursor h number ≢ cursor h
 
 -- finding what the command is due on this history takes memory: to bind a query, a view's body or a policy's queries does; to make or widen a table does, and not to keep one
 abbrev pub TakesToFind : History → Command → Type 0
@@ -318,7 +318,7 @@ abbrev pub TakesToFinish : (place : ℕ) → History → Command → Ready → T
 TakesToFinish place h command (readies.Answered reply) = ⊥
 TakesToFinish place h command (readies.ToCommit offer) = is_as_read (drop place h) (log h) offer.unless ≡ true → barred_at (log h) offer.unless ≡ None
 TakesToFinish place h command (readies.ToMerge merging) = Unit {0}
-TakesToFinish place h command (readies.ToFold folding) = mark h folding.view < folding.to
+TakesToFinish place h command (readies.ToFold folding) = view_cursor h folding.view < folding.to
 TakesToFinish place h command readies.Pending = TakesToDecide h command
 
 -- an outcome that tells of want of memory has its place where finishing takes some

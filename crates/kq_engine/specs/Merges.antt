@@ -4,7 +4,7 @@ use Rattle.kq_model.specs.declared.event.By.{By}
 use Rattle.kq_model.specs.declared.event.Operation.{Operation}
 use Rattle.kq_model.specs.declared.event.Operation.TheVariants as operation
 use Rattle.kq_model.specs.History.{History, Numbered, cursor, log, tables, table_numbered}
-use Rattle.kq_model.specs.Records.{item_ids, made_in, picked}
+use Rattle.kq_model.specs.Records.{item_ids, extents_made, picked}
 use Rattle.kq_catalog.specs.declared.merging.Merging.{Merging}
 use Rattle.kq_catalog.specs.Merges.{IsUnion, merge_event}
 use Rattle.kq_command.specs.declared.columns.Identifier.{Identifier}
@@ -40,11 +40,11 @@ MergesNamed h table (Some found) reply = MergesTable h found.number reply
 abbrev pub AnswersMerge : History → Identifier → Reply → Type 0
 AnswersMerge h table reply = MergesNamed h table (table_numbered table.text (tables (log h))) reply
 
--- the last event of this history has the mark
-pub record IsLastBy (h : History) (mark : By) : Type 0 where
+-- the last event of this history has the request id
+pub record IsLastBy (h : History) (request : By) : Type 0 where
   pub before : History
   pub made : Operation
-  pub last : h ≡ before ++ record { by = mark; operation = made } ∷ []
+  pub last : h ≡ before ++ record { by = request; operation = made } ∷ []
 
 -- the last event of this history is a merge of all that were picked in a table at one place, which is no earlier than a given one
 pub record HasMergedAll (h : History) (from : ℕ) : Type 0 where
@@ -68,9 +68,9 @@ pub record IsStill (reply : Reply) : Type 0 where
 abbrev pub IsSettled : ℕ → Reply → Type 0
 IsSettled least reply = IsStill reply ⊎ ((at : ℕ) × (reply ≡ replies.Folded at) × (least ≤ at))
 
--- a merge that is told has the mark
-abbrev pub IsMarked : History → By → Reply → Type 0
-IsMarked h mark reply = (extents : ℕ) → reply ≡ replies.Merged extents → IsLastBy h mark
+-- a merge that is told has the request id
+abbrev pub IsMergedBy : History → By → Reply → Type 0
+IsMergedBy h request reply = (extents : ℕ) → reply ≡ replies.Merged extents → IsLastBy h request
 
 -- a merge that is told is one of all that were picked at a place from the given one on, and a fold is told up to the cursor of that place or a later one
 pub record NamesAll (h : History) (from : ℕ) (reply : Reply) : Type 0 where
@@ -115,5 +115,5 @@ TendsMerge h _ reply number old = ⊥
 
 -- the event of a merge was appended, and its extents are told
 pub record PutsMerge (old new : History) (by : By) (m : Merging) (outcome : Outcome) : Type 0 where
-  pub appended : new ≡ old ++ merge_event by (1 + made_in old) m ∷ []
+  pub appended : new ≡ old ++ merge_event by (1 + extents_made old) m ∷ []
   pub is : outcome ≡ record { place = length new; own = false; reply = replies.Merged (length m.old) }

@@ -26,8 +26,8 @@ pub record PassView : Type 0 where
   pub taken : List ℕ
 
 -- the number of commits of an outcome
-abbrev pub made_by : Bool → ℕ
-made_by own = if own then 1 else 0
+abbrev pub commit_count : Bool → ℕ
+commit_count own = if own then 1 else 0
 
 -- one take or two, and the place is at least what the first found
 pub record TakesOneOrTwo (old new : List ℕ) (place : ℕ) : Type 0 where
@@ -52,7 +52,7 @@ pub record Applies (limits : Limits) (old new : PassView) (work : Work) (outcome
   pub seen : IsPrefix old.seen new.seen
   pub takes : TakesOneOrTwo old.taken new.taken outcome.place
   pub last : AppendsLast limits old new work outcome
-  pub made : new.made ≡ old.made + made_by outcome.own
+  pub made : new.made ≡ old.made + commit_count outcome.own
   pub fits : Fits limits new.seen work.by work.command work.now outcome.place outcome.own outcome.reply
   pub since : length old.seen ≤ outcome.place
   pub names_all : NamesAll (take outcome.place new.seen) (length old.seen) outcome.reply
@@ -66,7 +66,7 @@ pub record Finishes (limits : Limits) (old new : PassView) (work : Work) (outcom
   pub begins : IsPrefix old.seen found
   pub taken : new.taken ≡ old.taken ++ length found ∷ []
   pub appends : Appends limits found new.seen work.by work.command outcome
-  pub made : new.made ≡ old.made + made_by outcome.own
+  pub made : new.made ≡ old.made + commit_count outcome.own
   pub fits : Fits limits new.seen work.by work.command work.now outcome.place outcome.own outcome.reply
   pub since : length old.seen ≤ outcome.place
   pub names_all : NamesAll (take outcome.place new.seen) (length old.seen) outcome.reply
@@ -85,7 +85,7 @@ pub record Concludes (limits : Limits) (old new : PassView) (work : Work) (outco
   pub few : length more ≤ 1
   pub taken : new.taken ≡ old.taken ++ more
   pub last : AppendsLast limits old new work outcome
-  pub made : new.made ≡ old.made + made_by outcome.own
+  pub made : new.made ≡ old.made + commit_count outcome.own
   pub fits : Fits limits new.seen work.by work.command work.now outcome.place outcome.own outcome.reply
   pub since : length old.seen ≤ outcome.place
   pub names_all : NamesAll (take outcome.place new.seen) (length old.seen) outcome.reply

@@ -5,7 +5,7 @@ use Rattle.kq_model.specs.declared.event.By.{By}
 use Rattle.kq_model.specs.declared.event.Operation.{Operation}
 use Rattle.kq_model.specs.declared.limits.Limits.{Limits}
 use Rattle.kq_model.specs.History.{History, CommitAt, commits_at}
-use Rattle.kq_model.specs.Marks.{same_by}
+use Rattle.kq_model.specs.Requests.{same_by}
 use Rattle.kq_catalog.specs.Seen.{CatalogView, Sound}
 use Rattle.kq_engine.specs.declared.run.Running.{Running}
 use Rattle.kq_engine.specs.declared.run.Step.{Step}
@@ -19,7 +19,7 @@ use Rattle.kq_engine.specs.Merges.{NamesAll}
 use Rattle.kq_reply.specs.declared.refusal.Refusal.TheVariants as refusals
 use Rattle.kq_reply.specs.declared.reply.Reply.TheVariants as replies
 
--- the work of a mark's first Begin
+-- the work of a request id's first Begin
 abbrev pub work_of : By → List Step → Option Work
 work_of b [] = None
 work_of b (Begin w ∷ steps) = if same_by w.by b then Some w else work_of b steps
@@ -30,13 +30,13 @@ has_finish b [] = false
 has_finish b (Begin w ∷ steps) = has_finish b steps
 has_finish b (Finish c ∷ steps) = same_by c b || has_finish b steps
 
--- whether a Finish follows a mark's first Begin
+-- whether a Finish follows a request id's first Begin
 abbrev pub is_finished : By → List Step → Bool
 is_finished b [] = false
 is_finished b (Begin w ∷ steps) = if same_by w.by b then has_finish b steps else is_finished b steps
 is_finished b (Finish c ∷ steps) = is_finished b steps
 
--- the place that a mark's first Begin found, out of those that the steps found
+-- the place that a request id's first Begin found, out of those that the steps found
 abbrev pub place_of : By → List Step → List ℕ → Option ℕ
 place_of b [] found = None
 place_of b (Begin w ∷ steps) [] = None
@@ -44,9 +44,9 @@ place_of b (Begin w ∷ steps) (place ∷ found) = if same_by w.by b then Some p
 place_of b (Finish c ∷ steps) [] = None
 place_of b (Finish c ∷ steps) (place ∷ found) = place_of b steps found
 
-abbrev pub mark_of : Step → By
-mark_of (Begin w) = w.by
-mark_of (Finish b) = b
+abbrev pub request_of : Step → By
+request_of (Begin w) = w.by
+request_of (Finish b) = b
 
 abbrev pub tells : By → Told → Bool
 tells b t = same_by t.by b
@@ -70,7 +70,7 @@ pub record IsBare (t : Told) : Type 0 where
   pub not_own : t.outcome.own ≡ false
   pub place : t.outcome.place ≡ t.began
 
--- an outcome fits the history, for the work of its mark's first Begin, which found the place `began`; a merge that it tells is of all that were picked since the work began and a fold up to all that stood there, one that no Finish asked for is bare, and want of memory is told only where the command takes memory
+-- an outcome fits the history, for the work of its request id's first Begin, which found the place `began`; a merge that it tells is of all that were picked since the work began and a fold up to all that stood there, one that no Finish asked for is bare, and want of memory is told only where the command takes memory
 pub record Tells (limits : Limits) (m : Moment) (t : Told) : Type 0 where
   pub work : Work
   pub asked : work_of t.by m.steps ≡ Some work
@@ -81,28 +81,28 @@ pub record Tells (limits : Limits) (m : Moment) (t : Told) : Type 0 where
   pub memory : t.outcome.reply ≡ replies.Refused refusals.Memory → MayWantMemory (take t.began m.history) (take t.outcome.place m.history) work.command
   pub finished : (is_finished t.by m.steps ≡ true) ⊎ IsBare t
 
--- what holds at each moment: its commits are those of the outcomes with `own`, no mark has two outcomes, and each that was finished has one
+-- what holds at each moment: its commits are those of the outcomes with `own`, no request id has two outcomes, and each that was finished has one
 pub record Accounts (limits : Limits) (m : Moment) : Type 0 where
   pub each : All (Tells limits m) m.outcomes
   pub commits : commits_at m.history ≡ commits_told m.outcomes
   pub at_most_once : (b : By) → count_by (tells b) m.outcomes ≤ 1
   pub finished : (b : By) → is_finished b m.steps ≡ true → count_by (tells b) m.outcomes ≡ 1
 
--- a Begin makes no event, and gives nothing where its mark was begun before
+-- a Begin makes no event, and gives nothing where its request id was begun before
 abbrev pub ByStep : List Step → Step → Option Operation → List Told → Type 0
 ByStep before (Begin w) made gave = (made ≡ None) × ((first : Work) → work_of w.by before ≡ Some first → gave ≡ [])
 ByStep before (Finish b) made gave = Unit {0}
 
--- a step leads to the next moment: it gives at most one outcome and makes at most one event, both of its mark, and no event without an outcome
+-- a step leads to the next moment: it gives at most one outcome and makes at most one event, both of its request id, and no event without an outcome
 pub record Leads (old : Moment) (s : Step) (new : Moment) : Type 0 where
   pub steps : new.steps ≡ old.steps ++ s ∷ []
   pub found : new.found ≡ old.found ++ length old.history ∷ []
   pub made : Option Operation
-  pub history : new.history ≡ old.history ++ event_by (mark_of s) made
+  pub history : new.history ≡ old.history ++ event_by (request_of s) made
   pub gave : List Told
   pub outcomes : new.outcomes ≡ old.outcomes ++ gave
   pub one : length gave ≤ 1
-  pub marked : All (λ (t : Told). t.by ≡ mark_of s) gave
+  pub requested : All (λ (t : Told). t.by ≡ request_of s) gave
   pub no_more : gave ≡ [] → made ≡ None
   pub by_step : ByStep old.steps s made gave
 
@@ -121,7 +121,7 @@ pub record IsTrace (limits : Limits) (steps : List Step) (catalog : CatalogView)
 abbrev pub opens : By → Prepared → Bool
 opens b p = same_by p.work.by b
 
--- prepared on a beginning of this history, for the work of its mark's first Begin, which found this place
+-- prepared on a beginning of this history, for the work of its request id's first Begin, which found this place
 pub record IsOpen (limits : Limits) (m : Moment) (p : Prepared) : Type 0 where
   pub prepared : IsPrepared limits (take p.place m.history) p
   pub asked : work_of p.work.by m.steps ≡ Some p.work
@@ -139,7 +139,7 @@ abbrev pub one_if_some : Option Work → ℕ
 one_if_some None = 0
 one_if_some (Some w) = 1
 
--- what holds while a run goes on: a mark that was begun has its work waiting or an outcome, and none that was finished waits
+-- what holds while a run goes on: a request id that was begun has its work waiting or an outcome, and none that was finished waits
 pub record IsRun (limits : Limits) (steps : List Step) (catalog : CatalogView) (open_ones : List Prepared) (outcomes : List Told) : Type 0 where
   pub same_limits : catalog.limits ≡ limits
   pub found : List ℕ

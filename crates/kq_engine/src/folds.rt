@@ -3,7 +3,7 @@ ghost use Rattle.std.specs.Prelude.{◌≡◌, ◌<◌, IfErr, IfOk, Some};
 ghost use Rattle.std.specs.List.Sorted.{IsPermutation};
 ghost use Rattle.kq_engine.specs.Found.{FindsFold, LagsBehind};
 ghost use Rattle.kq_engine.specs.Folds.{AnswersFold, FoldsView, IsFoldingIn, view_number};
-ghost use Rattle.kq_model.specs.History.{cursor, log, mark, view_count};
+ghost use Rattle.kq_model.specs.History.{cursor, log, view_cursor, view_count};
 ghost use Rattle.kq_model.specs.Views.{covered};
 ghost use Rattle.kq_query.specs.Answers.{RefusesBy};
 ghost use Rattle.kq_query.specs.Views.{view_numbered};
@@ -21,7 +21,7 @@ use kq_rows::Rows;
 use kq_scan::delta;
 use kq_value::Memory;
 
-/// The part of a view up to the snapshot's cursor, or that it is up to there.
+// The part of a view up to the snapshot's cursor, or that it is up to there.
 pub(crate) fn find_fold(snapshot: &Snapshot, view: &Identifier) -> Result<Found, Refusal>
     ensures found { IfOk result (FindsFold snapshot.now.history view.now) }
     ensures refused { IfErr result (RefusesBy (AnswersFold snapshot.now.history view.now)) }
@@ -37,7 +37,7 @@ pub(crate) fn find_fold(snapshot: &Snapshot, view: &Identifier) -> Result<Found,
     Ok(Found::Folds(fold_view(snapshot, number, found)?))
 }
 
-/// The part of a view that stands, which goes by its number, up to the snapshot's cursor.
+// The part of a view that stands, which goes by its number, up to the snapshot's cursor.
 pub(crate) fn folding_at(snapshot: &Snapshot, number: u32) -> Result<Folding, Refusal>
     requires { number < view_count (log snapshot.now.history) }
     ensures folding { IfOk result (IsFoldingIn snapshot.now.history number) }
@@ -71,7 +71,7 @@ fn fold_view(snapshot: &Snapshot, number: u32, view: &View) -> Result<Folding, R
 // The rows that the view covers and its part doesn't hold, read from no extent but those with later records.
 fn rows_since(snapshot: &Snapshot, number: u32, view: &View) -> Result<Rows, Memory>
     requires { view_numbered snapshot.now.history number ≡ Some view.now }
-    ensures { IfOk result (λ rows. IsPermutation (covered (log snapshot.now.history) view.now (mark snapshot.now.history number) (cursor snapshot.now.history)) rows) }
+    ensures { IfOk result (λ rows. IsPermutation (covered (log snapshot.now.history) view.now (view_cursor snapshot.now.history number) (cursor snapshot.now.history)) rows) }
 {
     let alloc = snapshot.allocator();
     let to = snapshot.cursor();

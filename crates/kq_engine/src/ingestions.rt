@@ -29,7 +29,7 @@ use kq_reply::{Refusal, Reply};
 use kq_rows::Rows;
 use kq_value::{Memory, Schema, Text};
 
-/// What an ingestion is due whose text is good.
+// What an ingestion is due whose text is good.
 pub(crate) fn ingest(snapshot: &Snapshot, ingestion: &Ingestion) -> Result<Found, Refusal>
     ensures due { Finds (IsDueByLog snapshot.now.limits (log snapshot.now.history) (changes.Ingest ingestion.now)) result }
     ensures offers { IfOk result (OffersInto snapshot.now.limits (log snapshot.now.history) ingestion.now) }

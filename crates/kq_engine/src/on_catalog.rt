@@ -9,7 +9,7 @@ ghost use Rattle.kq_engine.specs.Fits.{Acts, Advances, outcome_of};
 ghost use Rattle.kq_engine.specs.Found.{IsCommitDue, IsDueTo, IsGoodText, IsPrepared, IsReady, TakesToFind, WantsToFinish, barred_at, offer_due};
 ghost use Rattle.kq_engine.specs.Folds.{PutsFold};
 ghost use Rattle.kq_engine.specs.Merges.{IsMergingFor, PutsMerge};
-ghost use Rattle.kq_model.specs.History.{log, mark};
+ghost use Rattle.kq_model.specs.History.{log, view_cursor};
 ghost use Rattle.kq_model.specs.Lawful.{own_rows as own_rows_of};
 ghost use Rattle.kq_reply.specs.declared.refusal.Refusal.TheVariants as refusals;
 ghost use Rattle.kq_reply.specs.declared.reply.Reply.TheVariants as replies;
@@ -42,7 +42,7 @@ pub fn finish(catalog: &mut Catalog, prepared: Prepared) -> Result<Outcome, Refu
     conclude(catalog, &work, place, ready)
 }
 
-/// Finishes work for which this was found on a snapshot at the place.
+// Finishes work for which this was found on a snapshot at the place.
 pub(crate) fn conclude(
     catalog: &mut Catalog,
     work: &Work,
@@ -135,7 +135,7 @@ fn merge_now(catalog: &mut Catalog, work: &Work, merging: Merging) -> Result<Out
     }
 }
 
-/// Makes the merge unless the first of its extents is gone.
+// Makes the merge unless the first of its extents is gone.
 pub(crate) fn merge(catalog: &mut Catalog, by: By, merging: Merging) -> Result<Outcome, MergeFault>
     requires { WasPicked (hist catalog.old) merging }
     ensures limits { catalog.new.limits ≡ catalog.old.limits }
@@ -153,13 +153,13 @@ pub(crate) fn merge(catalog: &mut Catalog, by: By, merging: Merging) -> Result<O
     })
 }
 
-/// Brings the view forward, unless it is materialized as far.
+// Brings the view forward, unless it is materialized as far.
 pub(crate) fn fold(catalog: &mut Catalog, by: By, folding: Folding) -> Result<Outcome, Memory>
     requires { WasFolded (hist catalog.old) folding.view folding.to folding.part }
     ensures limits { catalog.new.limits ≡ catalog.old.limits }
     ensures puts { IfOk result (PutsFold (hist catalog.old) (hist catalog.new) by folding) }
     ensures kept { OnErr result (hist catalog.new ≡ hist catalog.old) }
-    ensures behind { OnErr result (mark (hist catalog.old) folding.view < folding.to) }
+    ensures behind { OnErr result (view_cursor (hist catalog.old) folding.view < folding.to) }
 {
     let Folding { view, to, part } = folding;
     match catalog.stage_fold(by, view, to, part) {
@@ -225,7 +225,7 @@ fn own_rows(parts: &[Part]) -> u64
     }
 }
 
-/// The outcome of an answer, that of a refusal at the catalogue's place.
+// The outcome of an answer, that of a refusal at the catalogue's place.
 pub(crate) fn told(catalog: &Catalog, answer: Result<Outcome, Refusal>) -> Outcome
     ensures { result ≡ outcome_of (hist catalog.now) answer }
 {

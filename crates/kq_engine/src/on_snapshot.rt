@@ -41,7 +41,7 @@ pub fn begin(snapshot: &Snapshot, work: Work) -> Result<Prepared, Refusal>
     })
 }
 
-/// What the snapshot tells of the command at the moment.
+// What the snapshot tells of the command at the moment.
 pub(crate) fn look(snapshot: &Snapshot, command: &Command, now: i64) -> Result<Ready, Refusal>
     requires { IsMoment now }
     ensures ready { IfOk result (IsReady snapshot.now.limits snapshot.now.history now command.now) }
@@ -123,7 +123,7 @@ fn is_prepared_outside(command: &Command) -> bool
     )
 }
 
-/// What a command is due at a moment whose text is good.
+// What a command is due at a moment whose text is good.
 pub(crate) fn find(snapshot: &Snapshot, command: &Command, now: i64) -> Result<Found, Refusal>
     requires moment { IsMoment now }
     requires good { IsGoodText command.now }

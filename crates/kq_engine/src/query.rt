@@ -10,7 +10,7 @@ use kq_command::Query;
 use kq_query::answer as answer_text;
 use kq_reply::{Refusal, Reply};
 
-/// The answer to a query at a moment, from the snapshot alone.
+// The answer to a query at a moment, from the snapshot alone.
 pub(crate) fn answer(snapshot: &Snapshot, query: &Query, now: i64) -> Result<Reply, Refusal>
     requires { IsMoment now }
     ensures answer { IfOk result (IsDue snapshot.now.limits snapshot.now.history now (commands.Query query.now)) }

@@ -12,14 +12,14 @@ use kq_reply::Reply;
 use kq_value::Memory;
 use std::alloc::Global;
 
-/// A step of a run: a command is begun, or what was begun under a mark is finished.
+/// A step of a run: a command is begun, or what was begun under a request id is finished.
 #[derive(Drop)]
 pub enum Step {
     Begin(Work),
     Finish(By),
 }
 
-/// An outcome, with its mark and the place of the snapshot on which the command was begun.
+/// An outcome, with its request id and the place of the snapshot on which the command was begun.
 #[derive(Drop)]
 pub struct Told {
     pub by: By,
@@ -41,7 +41,7 @@ struct Running {
     outcomes: Vec<Told>,
 }
 
-// The place of the work of a mark.
+// The place of the work of a request id.
 fn open_at(waiting: &[Prepared], by: By) -> Option<usize>
     ensures { MatchOption result (count_by (opens by) waiting.now ≡ 0) (IsAt (opens by) waiting.now) }
 {
@@ -53,7 +53,7 @@ fn open_at(waiting: &[Prepared], by: By) -> Option<usize>
     None
 }
 
-// The place of the outcome of a mark.
+// The place of the outcome of a request id.
 fn told_at(outcomes: &[Told], by: By) -> Option<usize>
     ensures { MatchOption result (count_by (tells by) outcomes.now ≡ 0) (IsAt (tells by) outcomes.now) }
 {
@@ -120,7 +120,7 @@ fn run_step(running: &mut Running, step: Step) -> Result<(), Memory>
     }
 }
 
-/// Runs the steps one after another. A Begin under a mark that was begun does nothing, nor does a Finish of what wasn't
+/// Runs the steps one after another. A Begin under a request id that was begun does nothing, nor does a Finish of what wasn't
 /// begun or is finished.
 pub fn run_steps(alloc: Global, limits: Limits, steps: Vec<Step>) -> Result<Trace, Memory>
     ensures trace { IfOk result (λ t. IsTrace limits steps.items t.catalog t.outcomes.items) }

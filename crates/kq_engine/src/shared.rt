@@ -256,7 +256,7 @@ fn is_fold(command: &Command) -> bool
     matches!(command, Command::Fold(_))
 }
 
-/// An answer has the place of its snapshot.
+// An answer has the place of its snapshot.
 pub(crate) fn answered(place: u64, reply: Reply) -> Outcome
     ensures { result ≡ record { place = place; own = false; reply = reply } }
 {
@@ -267,7 +267,7 @@ pub(crate) fn answered(place: u64, reply: Reply) -> Outcome
     }
 }
 
-/// A refusal has the place of what was seen.
+// A refusal has the place of what was seen.
 pub(crate) fn refused(place: u64, refusal: Refusal) -> Outcome
     ensures { result ≡ record { place = place; own = false; reply = replies.Refused refusal } }
 {

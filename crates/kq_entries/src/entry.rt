@@ -12,7 +12,7 @@ use kq_policy_json::Written;
 use kq_value::Field;
 use std::alloc::Global;
 
-/// The entry that an element of the array is, into a table of these columns.
+// The entry that an element of the array is, into a table of these columns.
 pub(crate) fn bind_entry<N: Names>(
     snapshot: &Snapshot,
     names: &N,

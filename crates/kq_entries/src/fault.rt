@@ -34,7 +34,7 @@ impl<T: Drop> From<AllocFailed<T>> for EntriesFault {
     }
 }
 
-/// Why one element is no entry.
+// Why one element is no entry.
 #[derive(Debug, Drop)]
 pub(crate) enum EntryFault {
     Bad(Why),

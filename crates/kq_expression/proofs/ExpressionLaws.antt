@@ -1,7 +1,7 @@
 -- The reader of expressions is exact.
 use Rattle.std.proofs.Common.{◌≡◌, ℕ, zero, suc, ◌≤◌, true, false, List, [], ◌∷◌, ◌++◌, length, refl, sym, ◌∙◌, ap, arith}
 use Rattle.kq_grammar.specs.Expressions.{spells}
-use Rattle.kq_grammar.specs.Strengths.{operators, goes_on}
+use Rattle.kq_grammar.specs.Precedences.{operators, goes_on}
 use Rattle.kq_grammar.specs.Trees.{disjunction as ors, conjunction as ands, sum as sums, product as products, Tree}
 use Rattle.kq_syntax.specs.declared.kind.Kind.TheVariants as kind
 use Rattle.kq_syntax.specs.declared.kind.Symbol.{Symbol}

@@ -1,7 +1,7 @@
 -- What expressions begin with.
 use Rattle.std.proofs.Common.{◌≡◌, ◌≤◌, ◌||◌, true, List, ◌++◌, refl, arith}
 use Rattle.kq_grammar.specs.Expressions.{spells}
-use Rattle.kq_grammar.specs.Strengths.{binding}
+use Rattle.kq_grammar.specs.Precedences.{binding}
 use Rattle.kq_grammar.specs.Trees.{Tree, literal, group, call, path, signed, compare, within, between, chain}
 use Rattle.kq_grammar.specs.Trees.Tree.{name}
 use Rattle.kq_syntax.specs.declared.kind.Symbol.{Symbol}

@@ -2,7 +2,7 @@
 use Rattle.std.proofs.Common.{◌≡◌, ℕ, suc, ◌≤◌, true, List, [], ◌∷◌, ◌++◌, length, ◌⊎◌, inl, inr, refl, sym, ◌∙◌, ap, subst, append-nil, arith}
 use Rattle.kq_grammar.specs.declared.expression.Name.{Name}
 use Rattle.kq_grammar.specs.Expressions.{Text, name_text, spells, spells_step, spells_steps}
-use Rattle.kq_grammar.specs.Strengths.{binding, goes_on, step_sign}
+use Rattle.kq_grammar.specs.Precedences.{binding, goes_on, step_sign}
 use Rattle.kq_grammar.specs.Trees.{Tree, literal, group, call, path, signed as signed_tree, compare, within, between, chain, OneStep, member, index, Steps, no_step, and_step}
 use Rattle.kq_grammar.specs.Trees.Tree.{name as name_tree}
 use Rattle.kq_grammar.specs.Views.{steps_of, path_of}

@@ -3,7 +3,7 @@ use Rattle.std.proofs.Common.{◌≡◌, ℕ, suc, ◌≤◌, Bool, true, false,
 use Rattle.kq_grammar.specs.declared.expression.Name.{Name}
 use Rattle.kq_grammar.specs.declared.expression.Name.TheVariants as shown
 use Rattle.kq_grammar.specs.Expressions.{Text, name_text, spells, spells_all, spells_more}
-use Rattle.kq_grammar.specs.Strengths.{goes_on}
+use Rattle.kq_grammar.specs.Precedences.{goes_on}
 use Rattle.kq_grammar.specs.Trees.{Tree, literal, group, call, path, signed, compare, within, between, chain, Trees, no_tree, and_tree}
 use Rattle.kq_grammar.specs.Trees.Tree.{name}
 use Rattle.kq_grammar.specs.Views.{trees_of}

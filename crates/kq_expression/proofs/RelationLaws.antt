@@ -1,7 +1,7 @@
 -- The readers of comparisons, of `in` and of `between` are exact.
 use Rattle.std.proofs.Common.{◌≡◌, ℕ, suc, ◌≤◌, true, false, List, [], ◌++◌, ◌⊎◌, inl, inr, Option, Some, None, refl, sym, ◌∙◌, ap, subst, append-nil, arith}
 use Rattle.kq_grammar.specs.Expressions.{Text, spells}
-use Rattle.kq_grammar.specs.Strengths.{binding, goes_on, relation}
+use Rattle.kq_grammar.specs.Precedences.{binding, goes_on, relation}
 use Rattle.kq_grammar.specs.Trees.{Tree, literal, group, call, path, signed, compare, within, between, chain, Trees}
 use Rattle.kq_grammar.specs.Trees.Tree.{name}
 use Rattle.kq_grammar.specs.Views.{trees_of}

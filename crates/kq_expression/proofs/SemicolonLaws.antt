@@ -3,8 +3,8 @@ use Rattle.std.proofs.Common.{◌≡◌, true, false, List, [], ◌∷◌, ◌++
 use Rattle.kq_grammar.specs.declared.expression.Name.{Name}
 use Rattle.kq_grammar.specs.declared.expression.Name.TheVariants as shown
 use Rattle.kq_grammar.specs.Expressions.{Text, name_text, at_least, spells, spells_all, spells_more, spells_links, spells_step, spells_steps}
-use Rattle.kq_grammar.specs.Strengths.{operators}
-use Rattle.kq_grammar.specs.Trees.{Strength, disjunction as ors, conjunction as ands, sum as sums, product as products, Tree, literal, group, call, path, signed, compare, within, between, chain, Trees, no_tree, and_tree, Links, no_link, and_link, OneStep, member, index, Steps, no_step, and_step}
+use Rattle.kq_grammar.specs.Precedences.{operators}
+use Rattle.kq_grammar.specs.Trees.{Precedence, disjunction as ors, conjunction as ands, sum as sums, product as products, Tree, literal, group, call, path, signed, compare, within, between, chain, Trees, no_tree, and_tree, Links, no_link, and_link, OneStep, member, index, Steps, no_step, and_step}
 use Rattle.kq_grammar.specs.Trees.Tree.{name}
 use Rattle.kq_syntax.specs.declared.kind.Symbol.{Symbol}
 use Rattle.kq_syntax.specs.Classes as k
@@ -93,7 +93,7 @@ no_semicolon_in_name (shown.Bracketed t x) u s =
     (free_joined s.right s.after.left s.after.right s.after.joined (free_one k.text (apart k.text k.semicolon refl) x s.after.left s.after.before)
     (free_some k.close_bracket (apart k.close_bracket k.semicolon refl) s.after.right s.after.after))
 
-operator_apart : (l : Strength) (t : Symbol) → of (operators l) t ≡ true → of k.semicolon t ≡ false
+operator_apart : (l : Precedence) (t : Symbol) → of (operators l) t ≡ true → of k.semicolon t ≡ false
 operator_apart ors = apart (operators ors) k.semicolon refl
 operator_apart ands = apart (operators ands) k.semicolon refl
 operator_apart sums = apart (operators sums) k.semicolon refl
@@ -150,7 +150,7 @@ mutual
       (free_joined s.left s.before.left s.before.right s.before.joined (free_some k.comma (apart k.comma k.semicolon refl) s.before.left s.before.before) (no_semicolon e s.before.right s.before.after))
       (no_semicolon_in_more es s.right s.after)
 
-  no_semicolon_in_links : (l : Strength) (ls : Links) (u : List Symbol) → spells_links l ls u → free u
+  no_semicolon_in_links : (l : Precedence) (ls : Links) (u : List Symbol) → spells_links l ls u → free u
   no_semicolon_in_links l no_link u s = subst free (sym s) tt
   no_semicolon_in_links l (and_link t e ls) u s =
       free_joined u s.left s.right s.joined

@@ -5,14 +5,14 @@ use Rattle.kq_grammar.specs.declared.expression.Expression.{Expression}
 use Rattle.kq_grammar.specs.declared.expression.Interval.{Interval}
 use Rattle.kq_grammar.specs.declared.expression.Link.{Link}
 use Rattle.kq_grammar.specs.declared.expression.Step.{Step}
-use Rattle.kq_grammar.specs.Strengths.{step_sign}
+use Rattle.kq_grammar.specs.Precedences.{step_sign}
 use Rattle.kq_grammar.specs.Trees.{Tree, OneStep}
 use Rattle.kq_grammar.specs.Views.{tree_of, trees_of, link_of, interval_of, step_of}
 use Rattle.kq_syntax.specs.declared.cursor.Stop.{Stop}
 use Rattle.kq_syntax.specs.declared.kind.Symbol.{Symbol}
 use Rattle.kq_syntax.specs.Classes.{of}
 use Rattle.kq_syntax.specs.Forms.{Parser, ◌<$>◌, many, with_front}
-use Rattle.kq_syntax.specs.Gives.{Gives}
+use Rattle.kq_syntax.specs.Outcomes.{IsOutcome}
 use Rattle.kq_expression.specs.Reading.{Relation, compared, listed, ranged, related_of}
 
 abbrev pub related : Tree → Parser Symbol Relation → Parser Symbol Tree
@@ -30,4 +30,4 @@ ranged_of i = ranged (interval_of i).operator (interval_of i).low (interval_of i
 -- The steps that come next are put behind those that were found before.
 abbrev pub GivesSteps : Parser Symbol OneStep → ℕ → List Step → List Symbol → Result (Vec Step Global) Stop → List Symbol → Type 0
 GivesSteps step turns found old result new =
-    Gives (λ v. map step_of v.items) (with_front (map step_of found) (many (of step_sign) step turns old)) result new
+    IsOutcome (λ v. map step_of v.items) (with_front (map step_of found) (many (of step_sign) step turns old)) result new

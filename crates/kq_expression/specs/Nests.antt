@@ -6,11 +6,11 @@ use Rattle.kq_grammar.specs.declared.expression.Expression.{Expression}
 use Rattle.kq_grammar.specs.Views.{tree_of}
 use Rattle.kq_syntax.specs.declared.cursor.Stop.{Stop}
 use Rattle.kq_syntax.specs.declared.kind.Symbol.{Symbol}
-use Rattle.kq_syntax.specs.Gives.{Gives}
+use Rattle.kq_syntax.specs.Outcomes.{IsOutcome}
 use Rattle.kq_expression.specs.Reading.{expression}
 
 pub record Nests (budget : ℕ) (pre : Global → MutBor (List Symbol) → ℕ → Type 0)
     (post : Global → MutBor (List Symbol) → ℕ → Result Expression Stop → MutBor (List Symbol) → Type 0) : Type 0 where
   pub callable : (alloc : Global) (old : MutBor (List Symbol)) → pre alloc old budget
   pub reads : (alloc : Global) (old new : MutBor (List Symbol)) (r : Result Expression Stop) → post alloc old budget r new
-      → Gives tree_of (expression budget old.now) r new.now
+      → IsOutcome tree_of (expression budget old.now) r new.now

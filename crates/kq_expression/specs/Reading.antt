@@ -2,8 +2,8 @@
 use Rattle.std.specs.Prelude.{ℕ, zero, suc, Bool, true, false, ◌||◌, Err, Option, Some, None, if◌then◌else◌}
 use Rattle.kq_grammar.specs.declared.expression.Name.{Name}
 use Rattle.kq_grammar.specs.declared.expression.Name.TheVariants as n
-use Rattle.kq_grammar.specs.Strengths.{operators, relation, step_sign}
-use Rattle.kq_grammar.specs.Trees.{Strength, disjunction as ors, conjunction as ands, sum as sums, product as products, Tree, literal, group, call, signed as signed_tree, compare, within, between, Trees, no_tree, and_tree, OneStep, member, index}
+use Rattle.kq_grammar.specs.Precedences.{operators, relation, step_sign}
+use Rattle.kq_grammar.specs.Trees.{Precedence, disjunction as ors, conjunction as ands, sum as sums, product as products, Tree, literal, group, call, signed as signed_tree, compare, within, between, Trees, no_tree, and_tree, OneStep, member, index}
 use Rattle.kq_grammar.specs.Trees.Tree.{name as name_tree}
 use Rattle.kq_grammar.specs.Views.{trees_of, chain_of, path_of}
 use Rattle.kq_syntax.specs.declared.kind.Symbol.{Symbol}
@@ -21,7 +21,7 @@ name = choose (of k.open_bracket) bracketed_name (n.Word <$> expect (of k.bare_n
 
 -- ---- parts of expressions
 
-abbrev pub chained : Class → Strength → Parser Symbol Tree → ℕ → Parser Symbol Tree
+abbrev pub chained : Class → Precedence → Parser Symbol Tree → ℕ → Parser Symbol Tree
 chained is l operand n = (λ p. chain_of l p.0 p.1) <$> both operand (many (of is) (both (expect (of is)) operand) n)
 
 -- a word that is an operand without arguments: a name, `true` or `false`

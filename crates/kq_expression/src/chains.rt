@@ -1,18 +1,18 @@
-// Chains of operands of one strength.
+// Chains of operands of one precedence.
 ghost use Rattle.std.specs.Prelude.{◌≡◌, List, Result, map};
 ghost use Rattle.kq_expression.specs.Reading as spec;
 ghost use Rattle.kq_grammar.specs.Trees.{Tree};
-ghost use Rattle.kq_grammar.specs.Views.{tree_of, link_of, strength_of};
+ghost use Rattle.kq_grammar.specs.Views.{tree_of, link_of, precedence_of};
 ghost use Rattle.kq_syntax.specs.declared.kind.Symbol.{Symbol as Shown};
 ghost use Rattle.kq_syntax.specs.Classes.{class_of, of};
 ghost use Rattle.kq_syntax.specs.Forms.{both, expect, many, with_front};
-ghost use Rattle.kq_syntax.specs.Gives.{Gives};
+ghost use Rattle.kq_syntax.specs.Outcomes.{IsOutcome};
 
 use kq_grammar::{Expression, Level, Link, chain, link};
 use kq_syntax::{Class, Cursor, Part, Stop, more};
 use std::alloc::Global;
 
-/// What stands between the operators of a level.
+// What stands between the operators of a level.
 pub(crate) trait Operand {
     ghost tree: { Self → List Shown → Result (Tree × List Shown) (List Shown) };
 
@@ -20,10 +20,10 @@ pub(crate) trait Operand {
 
     fn read(&self, cursor: &mut Cursor<'_>) -> Result<Expression, Stop>
         requires { callable self.now }
-        ensures { Gives tree_of (tree self.now cursor.old) result cursor.new };
+        ensures { IsOutcome tree_of (tree self.now cursor.old) result cursor.new };
 }
 
-/// An operator and its right operand.
+// An operator and its right operand.
 #[derive(Drop)]
 struct NextLink<'a, O> {
     class: Class,
@@ -48,7 +48,7 @@ impl<'a, O: Operand> Part for NextLink<'a, O> {
     }
 }
 
-/// Operands with the operators of the level, which are of the class, between them.
+// Operands with the operators of the level, which are of the class, between them.
 pub(crate) fn chained<O: Operand>(
     alloc: Global,
     turns: usize,
@@ -58,7 +58,7 @@ pub(crate) fn chained<O: Operand>(
     cursor: &mut Cursor<'_>,
 ) -> Result<Expression, Stop>
     requires { O.callable operand.now }
-    ensures { Gives tree_of (spec.chained (class_of class) (strength_of level) (O.tree operand.now) turns cursor.old) result cursor.new }
+    ensures { IsOutcome tree_of (spec.chained (class_of class) (precedence_of level) (O.tree operand.now) turns cursor.old) result cursor.new }
 {
     let first = operand.read(cursor)?;
     let links = more(

@@ -1,16 +1,16 @@
 // Names.
 ghost use Rattle.std.specs.Prelude.{◌≡◌};
 ghost use Rattle.kq_expression.specs.Reading as spec;
-ghost use Rattle.kq_syntax.specs.Gives.{Gives};
+ghost use Rattle.kq_syntax.specs.Outcomes.{IsOutcome};
 
 use kq_grammar::Name;
 use kq_syntax::{Class, Cursor, Part, Stop};
 use kq_token::Punctuation;
 
-/// A string in brackets.
+// A string in brackets.
 #[tactic(auto, unfolding(crate::specs::Reading::bracketed_name))]
 pub(crate) fn bracketed_name(cursor: &mut Cursor<'_>) -> Result<Name, Stop>
-    ensures { Gives (λ n. n) (spec.bracketed_name cursor.old) result cursor.new }
+    ensures { IsOutcome (λ n. n) (spec.bracketed_name cursor.old) result cursor.new }
 {
     let first = cursor.expect(Class::Sign(Punctuation::OpenBracket))?;
     let text = cursor.expect(Class::Text)?;
@@ -21,7 +21,7 @@ pub(crate) fn bracketed_name(cursor: &mut Cursor<'_>) -> Result<Name, Stop>
 /// The name that comes next.
 #[tactic(auto, unfolding(crate::specs::Reading::name))]
 pub fn read_name(cursor: &mut Cursor<'_>) -> Result<Name, Stop>
-    ensures { Gives (λ n. n) (spec.name cursor.old) result cursor.new }
+    ensures { IsOutcome (λ n. n) (spec.name cursor.old) result cursor.new }
 {
     if cursor.sees(Class::Sign(Punctuation::OpenBracket)) {
         return bracketed_name(cursor);

@@ -4,7 +4,7 @@ ghost use Rattle.kq_expression.specs.Nests.{Nests};
 ghost use Rattle.kq_expression.specs.Reading as spec;
 ghost use Rattle.kq_grammar.specs.Trees.{Tree};
 ghost use Rattle.kq_grammar.specs.Views.{tree_of};
-ghost use Rattle.kq_syntax.specs.Gives.{Gives};
+ghost use Rattle.kq_syntax.specs.Outcomes.{IsOutcome};
 
 use kq_grammar::Expression;
 use kq_syntax::{Cursor, Part, Stop};
@@ -13,14 +13,14 @@ use std::alloc::Global;
 #[derive(Clone, Copy)]
 pub(crate) struct Reader<F> {
     pub(crate) alloc: Global,
-    /// No list has more parts than this.
+    // No list has more parts than this.
     pub(crate) turns: usize,
-    /// What the reader of nested expressions is given.
+    // What the reader of nested expressions is given.
     pub(crate) budget: usize,
     pub(crate) expression: F,
 }
 
-/// An expression within another.
+// An expression within another.
 #[derive(Drop)]
 pub(crate) struct Nested<'a, F>(pub(crate) &'a Reader<F>);
 

@@ -3,7 +3,7 @@ ghost use Rattle.std.specs.Prelude.{◌≡◌};
 ghost use Rattle.kq_expression.specs.Nests.{Nests};
 ghost use Rattle.kq_expression.specs.Reading as spec;
 ghost use Rattle.kq_grammar.specs.Views.{tree_of};
-ghost use Rattle.kq_syntax.specs.Gives.{Gives};
+ghost use Rattle.kq_syntax.specs.Outcomes.{IsOutcome};
 
 use crate::chains::{Operand, chained};
 use crate::nesting::Reader;
@@ -43,7 +43,7 @@ impl<F: Fn(Global, &mut Cursor<'_>, usize) -> Result<Expression, Stop>> Reader<F
     #[tactic(auto, unfolding(crate::specs::Reading::conjunction))]
     fn conjunction(&self, cursor: &mut Cursor<'_>) -> Result<Expression, Stop>
         requires { Nests self.now.budget (F.pre self.now.expression) (F.post self.now.expression) }
-        ensures { Gives tree_of (spec.conjunction (spec.expression self.now.budget) self.now.turns cursor.old) result cursor.new }
+        ensures { IsOutcome tree_of (spec.conjunction (spec.expression self.now.budget) self.now.turns cursor.old) result cursor.new }
     {
         let and = Class::Reserved(ReservedWord::And);
         chained(
@@ -59,7 +59,7 @@ impl<F: Fn(Global, &mut Cursor<'_>, usize) -> Result<Expression, Stop>> Reader<F
     #[tactic(auto, unfolding(crate::specs::Reading::disjunction))]
     fn disjunction(&self, cursor: &mut Cursor<'_>) -> Result<Expression, Stop>
         requires { Nests self.now.budget (F.pre self.now.expression) (F.post self.now.expression) }
-        ensures { Gives tree_of (spec.disjunction (spec.expression self.now.budget) self.now.turns cursor.old) result cursor.new }
+        ensures { IsOutcome tree_of (spec.disjunction (spec.expression self.now.budget) self.now.turns cursor.old) result cursor.new }
     {
         let or = Class::Reserved(ReservedWord::Or);
         chained(
@@ -79,7 +79,7 @@ pub fn read_expression(
     cursor: &mut Cursor<'_>,
     budget: usize,
 ) -> Result<Expression, Stop>
-    ensures { Gives tree_of (spec.expression budget cursor.old) result cursor.new }
+    ensures { IsOutcome tree_of (spec.expression budget cursor.old) result cursor.new }
 {
     if budget == 0 {
         return Err(Stop::Syntax);

@@ -3,11 +3,11 @@ ghost use Rattle.std.specs.Prelude.{◌≡◌};
 ghost use Rattle.kq_expression.specs.BehindOperands.{GivesSteps};
 ghost use Rattle.kq_expression.specs.Nests.{Nests};
 ghost use Rattle.kq_expression.specs.Reading as spec;
-ghost use Rattle.kq_grammar.specs.Strengths.{step_sign};
+ghost use Rattle.kq_grammar.specs.Precedences.{step_sign};
 ghost use Rattle.kq_grammar.specs.Views.{tree_of, step_of};
 ghost use Rattle.kq_syntax.specs.Classes.{of};
 ghost use Rattle.kq_syntax.specs.Forms.{starts};
-ghost use Rattle.kq_syntax.specs.Gives.{Gives};
+ghost use Rattle.kq_syntax.specs.Outcomes.{IsOutcome};
 
 use crate::names::read_name;
 use crate::nesting::{Nested, Reader};
@@ -16,7 +16,7 @@ use kq_syntax::{Class, Cursor, Part, Stop};
 use kq_token::Punctuation;
 use std::alloc::Global;
 
-/// Whether a step comes next.
+// Whether a step comes next.
 fn sees_step(cursor: &Cursor<'_>) -> bool
     ensures { result ≡ starts (of step_sign) cursor.now }
 {
@@ -27,7 +27,7 @@ impl<F: Fn(Global, &mut Cursor<'_>, usize) -> Result<Expression, Stop>> Reader<F
     #[tactic(auto, unfolding(crate::specs::Reading::step))]
     fn step(&self, cursor: &mut Cursor<'_>) -> Result<Step, Stop>
         requires { Nests self.now.budget (F.pre self.now.expression) (F.post self.now.expression) }
-        ensures { Gives step_of (spec.step (spec.expression self.now.budget) self.now.turns cursor.old) result cursor.new }
+        ensures { IsOutcome step_of (spec.step (spec.expression self.now.budget) self.now.turns cursor.old) result cursor.new }
     {
         if cursor.sees(Class::Sign(Punctuation::Dot)) {
             let dot = cursor.expect(Class::Sign(Punctuation::Dot))?;
@@ -39,7 +39,7 @@ impl<F: Fn(Global, &mut Cursor<'_>, usize) -> Result<Expression, Stop>> Reader<F
         Ok(index(bracket, inner))
     }
 
-    /// The steps that follow, behind those that were found before.
+    // The steps that follow, behind those that were found before.
     fn steps(&self, cursor: &mut Cursor<'_>, mut found: Vec<Step>) -> Result<Vec<Step>, Stop>
         requires { Nests self.now.budget (F.pre self.now.expression) (F.post self.now.expression) }
         ensures { GivesSteps (spec.step (spec.expression self.now.budget) self.now.turns) self.now.turns found.items cursor.old result cursor.new }
@@ -56,7 +56,7 @@ impl<F: Fn(Global, &mut Cursor<'_>, usize) -> Result<Expression, Stop>> Reader<F
     #[tactic(auto, unfolding(crate::specs::Reading::postfix))]
     fn postfix(&self, cursor: &mut Cursor<'_>) -> Result<Expression, Stop>
         requires { Nests self.now.budget (F.pre self.now.expression) (F.post self.now.expression) }
-        ensures { Gives tree_of (spec.postfix (spec.expression self.now.budget) self.now.turns cursor.old) result cursor.new }
+        ensures { IsOutcome tree_of (spec.postfix (spec.expression self.now.budget) self.now.turns cursor.old) result cursor.new }
     {
         let first = self.primary(cursor)?;
         let steps = self.steps(cursor, Vec::new(self.alloc))?;
@@ -66,7 +66,7 @@ impl<F: Fn(Global, &mut Cursor<'_>, usize) -> Result<Expression, Stop>> Reader<F
     #[tactic(auto, unfolding(crate::specs::Reading::signed))]
     pub(crate) fn signed(&self, cursor: &mut Cursor<'_>) -> Result<Expression, Stop>
         requires { Nests self.now.budget (F.pre self.now.expression) (F.post self.now.expression) }
-        ensures { Gives tree_of (spec.signed (spec.expression self.now.budget) self.now.turns cursor.old) result cursor.new }
+        ensures { IsOutcome tree_of (spec.signed (spec.expression self.now.budget) self.now.turns cursor.old) result cursor.new }
     {
         if !cursor.sees(Class::Additive) {
             return self.postfix(cursor);

@@ -5,7 +5,7 @@ ghost use Rattle.kq_expression.specs.Nests.{Nests};
 ghost use Rattle.kq_expression.specs.Reading as spec;
 ghost use Rattle.kq_grammar.specs.Trees.{Tree};
 ghost use Rattle.kq_grammar.specs.Views.{tree_of, trees_of};
-ghost use Rattle.kq_syntax.specs.Gives.{Gives};
+ghost use Rattle.kq_syntax.specs.Outcomes.{IsOutcome};
 
 use crate::names::bracketed_name;
 use crate::nesting::{Nested, Reader};
@@ -14,14 +14,14 @@ use kq_syntax::{Behind, Class, Cursor, Kind, Part, Stop, Symbol, more};
 use kq_token::Punctuation;
 use std::alloc::Global;
 
-/// Whether it is an operand without arguments: a name, `true` or `false`.
+// Whether it is an operand without arguments: a name, `true` or `false`.
 fn stands_alone(kind: Kind) -> bool
     ensures { result ≡ spec.stands_alone kind }
 {
     Class::BareName.contains(kind) || Class::Truth.contains(kind)
 }
 
-/// A word with its arguments, or alone.
+// A word with its arguments, or alone.
 fn worded_of(word: Symbol, arguments: Option<Vec<Expression>>) -> Expression
     ensures { tree_of result ≡ spec.worded_of word (option_map (λ es. trees_of (map tree_of es.items)) arguments) }
 {
@@ -36,7 +36,7 @@ impl<F: Fn(Global, &mut Cursor<'_>, usize) -> Result<Expression, Stop>> Reader<F
     #[tactic(auto, unfolding(crate::specs::Reading::grouped))]
     fn grouped(&self, cursor: &mut Cursor<'_>) -> Result<Expression, Stop>
         requires { Nests self.now.budget (F.pre self.now.expression) (F.post self.now.expression) }
-        ensures { Gives tree_of (spec.grouped (spec.expression self.now.budget) self.now.turns cursor.old) result cursor.new }
+        ensures { IsOutcome tree_of (spec.grouped (spec.expression self.now.budget) self.now.turns cursor.old) result cursor.new }
     {
         let parenthesis = cursor.expect(Class::Sign(Punctuation::OpenParenthesis))?;
         let inner = Nested(self).read(cursor)?;
@@ -47,7 +47,7 @@ impl<F: Fn(Global, &mut Cursor<'_>, usize) -> Result<Expression, Stop>> Reader<F
     #[tactic(auto, unfolding(crate::specs::Reading::arguments))]
     fn arguments(&self, cursor: &mut Cursor<'_>) -> Result<Vec<Expression>, Stop>
         requires { Nests self.now.budget (F.pre self.now.expression) (F.post self.now.expression) }
-        ensures { Gives (λ es. trees_of (map tree_of es.items)) (spec.arguments (spec.expression self.now.budget) self.now.turns cursor.old) result cursor.new }
+        ensures { IsOutcome (λ es. trees_of (map tree_of es.items)) (spec.arguments (spec.expression self.now.budget) self.now.turns cursor.old) result cursor.new }
     {
         let mut found = Vec::new(self.alloc);
         if !cursor.sees(Class::ExpressionStart) {
@@ -66,7 +66,7 @@ impl<F: Fn(Global, &mut Cursor<'_>, usize) -> Result<Expression, Stop>> Reader<F
     #[tactic(auto, unfolding(crate::specs::Reading::in_parentheses))]
     fn in_parentheses(&self, cursor: &mut Cursor<'_>) -> Result<Vec<Expression>, Stop>
         requires { Nests self.now.budget (F.pre self.now.expression) (F.post self.now.expression) }
-        ensures { Gives (λ es. trees_of (map tree_of es.items)) (spec.in_parentheses (spec.expression self.now.budget) self.now.turns cursor.old) result cursor.new }
+        ensures { IsOutcome (λ es. trees_of (map tree_of es.items)) (spec.in_parentheses (spec.expression self.now.budget) self.now.turns cursor.old) result cursor.new }
     {
         cursor.expect(Class::Sign(Punctuation::OpenParenthesis))?;
         let arguments = self.arguments(cursor)?;
@@ -74,14 +74,14 @@ impl<F: Fn(Global, &mut Cursor<'_>, usize) -> Result<Expression, Stop>> Reader<F
         Ok(arguments)
     }
 
-    /// The arguments of a word, which has to have some unless it may stand alone.
+    // The arguments of a word, which has to have some unless it may stand alone.
     fn arguments_of(
         &self,
         alone: bool,
         cursor: &mut Cursor<'_>,
     ) -> Result<Option<Vec<Expression>>, Stop>
         requires { Nests self.now.budget (F.pre self.now.expression) (F.post self.now.expression) }
-        ensures { Gives (option_map (λ es. trees_of (map tree_of es.items))) (spec.arguments_of (spec.expression self.now.budget) self.now.turns alone cursor.old) result cursor.new }
+        ensures { IsOutcome (option_map (λ es. trees_of (map tree_of es.items))) (spec.arguments_of (spec.expression self.now.budget) self.now.turns alone cursor.old) result cursor.new }
     {
         if alone && !cursor.sees(Class::Sign(Punctuation::OpenParenthesis)) {
             return Ok(None);
@@ -92,7 +92,7 @@ impl<F: Fn(Global, &mut Cursor<'_>, usize) -> Result<Expression, Stop>> Reader<F
     #[tactic(auto, unfolding(crate::specs::Reading::worded))]
     fn worded(&self, cursor: &mut Cursor<'_>) -> Result<Expression, Stop>
         requires { Nests self.now.budget (F.pre self.now.expression) (F.post self.now.expression) }
-        ensures { Gives tree_of (spec.worded (spec.expression self.now.budget) self.now.turns cursor.old) result cursor.new }
+        ensures { IsOutcome tree_of (spec.worded (spec.expression self.now.budget) self.now.turns cursor.old) result cursor.new }
     {
         let word = cursor.expect(Class::Word)?;
         let arguments = self.arguments_of(stands_alone(word.kind), cursor)?;
@@ -102,7 +102,7 @@ impl<F: Fn(Global, &mut Cursor<'_>, usize) -> Result<Expression, Stop>> Reader<F
     #[tactic(auto, unfolding(crate::specs::Reading::primary))]
     pub(crate) fn primary(&self, cursor: &mut Cursor<'_>) -> Result<Expression, Stop>
         requires { Nests self.now.budget (F.pre self.now.expression) (F.post self.now.expression) }
-        ensures { Gives tree_of (spec.primary (spec.expression self.now.budget) self.now.turns cursor.old) result cursor.new }
+        ensures { IsOutcome tree_of (spec.primary (spec.expression self.now.budget) self.now.turns cursor.old) result cursor.new }
     {
         if cursor.sees(Class::Sign(Punctuation::OpenParenthesis)) {
             return self.grouped(cursor);

@@ -3,12 +3,12 @@ ghost use Rattle.std.specs.Prelude.{◌≡◌, map};
 ghost use Rattle.kq_expression.specs.Nests.{Nests};
 ghost use Rattle.kq_expression.specs.Reading as spec;
 ghost use Rattle.kq_expression.specs.BehindOperands.{compared_of, listed_of, ranged_of, related};
-ghost use Rattle.kq_grammar.specs.Strengths.{relation};
+ghost use Rattle.kq_grammar.specs.Precedences.{relation};
 ghost use Rattle.kq_grammar.specs.Views.{tree_of};
 ghost use Rattle.kq_syntax.specs.Classes as k;
 ghost use Rattle.kq_syntax.specs.Classes.{of};
 ghost use Rattle.kq_syntax.specs.Forms.{separated, starts};
-ghost use Rattle.kq_syntax.specs.Gives.{Gives};
+ghost use Rattle.kq_syntax.specs.Outcomes.{IsOutcome};
 
 use crate::nesting::{Nested, Reader};
 use kq_grammar::{Expression, Interval, Link, between, compare, interval, link, within};
@@ -16,7 +16,7 @@ use kq_syntax::{Behind, Class, Cursor, Part, Stop, more};
 use kq_token::Punctuation;
 use std::alloc::Global;
 
-/// Whether an operator comes next that relates two sums.
+// Whether an operator comes next that relates two sums.
 fn sees_relation(cursor: &Cursor<'_>) -> bool
     ensures { result ≡ starts (of relation) cursor.now }
 {
@@ -24,11 +24,11 @@ fn sees_relation(cursor: &Cursor<'_>) -> bool
 }
 
 impl<F: Fn(Global, &mut Cursor<'_>, usize) -> Result<Expression, Stop>> Reader<F> {
-    /// An operator of comparison and what stands behind it.
+    // An operator of comparison and what stands behind it.
     #[tactic(auto, unfolding(crate::specs::Reading::comparing))]
     fn compared(&self, cursor: &mut Cursor<'_>) -> Result<Link, Stop>
         requires { Nests self.now.budget (F.pre self.now.expression) (F.post self.now.expression) }
-        ensures { Gives compared_of (spec.comparing (spec.expression self.now.budget) self.now.turns cursor.old) result cursor.new }
+        ensures { IsOutcome compared_of (spec.comparing (spec.expression self.now.budget) self.now.turns cursor.old) result cursor.new }
     {
         let operator = cursor.expect(Class::Comparison)?;
         let right = self.sum(cursor)?;
@@ -37,16 +37,16 @@ impl<F: Fn(Global, &mut Cursor<'_>, usize) -> Result<Expression, Stop>> Reader<F
 
     fn comparing(&self, left: Expression, cursor: &mut Cursor<'_>) -> Result<Expression, Stop>
         requires { Nests self.now.budget (F.pre self.now.expression) (F.post self.now.expression) }
-        ensures { Gives tree_of (related (tree_of left) (spec.comparing (spec.expression self.now.budget) self.now.turns) cursor.old) result cursor.new }
+        ensures { IsOutcome tree_of (related (tree_of left) (spec.comparing (spec.expression self.now.budget) self.now.turns) cursor.old) result cursor.new }
     {
         let right = self.compared(cursor)?;
         Ok(compare(self.alloc, left, right)?)
     }
 
-    /// One value or more.
+    // One value or more.
     fn values(&self, cursor: &mut Cursor<'_>) -> Result<(Expression, Vec<Expression>), Stop>
         requires { Nests self.now.budget (F.pre self.now.expression) (F.post self.now.expression) }
-        ensures { Gives (λ p. (tree_of p.0, map tree_of p.1.items)) (separated (of k.comma) (spec.expression self.now.budget) self.now.turns cursor.old) result cursor.new }
+        ensures { IsOutcome (λ p. (tree_of p.0, map tree_of p.1.items)) (separated (of k.comma) (spec.expression self.now.budget) self.now.turns cursor.old) result cursor.new }
     {
         let value = Nested(self);
         let first = value.read(cursor)?;
@@ -59,11 +59,11 @@ impl<F: Fn(Global, &mut Cursor<'_>, usize) -> Result<Expression, Stop>> Reader<F
         Ok((first, others))
     }
 
-    /// `in` or one of its kin with the first value, and the others.
+    // `in` or one of its kin with the first value, and the others.
     #[tactic(auto, unfolding(crate::specs::Reading::listing))]
     fn listed(&self, cursor: &mut Cursor<'_>) -> Result<(Link, Vec<Expression>), Stop>
         requires { Nests self.now.budget (F.pre self.now.expression) (F.post self.now.expression) }
-        ensures { Gives listed_of (spec.listing (spec.expression self.now.budget) self.now.turns cursor.old) result cursor.new }
+        ensures { IsOutcome listed_of (spec.listing (spec.expression self.now.budget) self.now.turns cursor.old) result cursor.new }
     {
         let operator = cursor.expect(Class::Membership)?;
         cursor.expect(Class::Sign(Punctuation::OpenParenthesis))?;
@@ -74,16 +74,16 @@ impl<F: Fn(Global, &mut Cursor<'_>, usize) -> Result<Expression, Stop>> Reader<F
 
     fn listing(&self, left: Expression, cursor: &mut Cursor<'_>) -> Result<Expression, Stop>
         requires { Nests self.now.budget (F.pre self.now.expression) (F.post self.now.expression) }
-        ensures { Gives tree_of (related (tree_of left) (spec.listing (spec.expression self.now.budget) self.now.turns) cursor.old) result cursor.new }
+        ensures { IsOutcome tree_of (related (tree_of left) (spec.listing (spec.expression self.now.budget) self.now.turns) cursor.old) result cursor.new }
     {
         let (first, others) = self.listed(cursor)?;
         Ok(within(self.alloc, left, first, others)?)
     }
 
-    /// Two sums with `..` between them.
+    // Two sums with `..` between them.
     fn bounds(&self, cursor: &mut Cursor<'_>) -> Result<(Expression, Expression), Stop>
         requires { Nests self.now.budget (F.pre self.now.expression) (F.post self.now.expression) }
-        ensures { Gives (λ p. (tree_of p.0, tree_of p.1)) (spec.bounds (spec.expression self.now.budget) self.now.turns cursor.old) result cursor.new }
+        ensures { IsOutcome (λ p. (tree_of p.0, tree_of p.1)) (spec.bounds (spec.expression self.now.budget) self.now.turns cursor.old) result cursor.new }
     {
         let low = self.sum(cursor)?;
         cursor.expect(Class::Sign(Punctuation::DotDot))?;
@@ -91,11 +91,11 @@ impl<F: Fn(Global, &mut Cursor<'_>, usize) -> Result<Expression, Stop>> Reader<F
         Ok((low, high))
     }
 
-    /// `between` or `!between` and the ends in parentheses.
+    // `between` or `!between` and the ends in parentheses.
     #[tactic(auto, unfolding(crate::specs::Reading::ranging))]
     fn ends(&self, cursor: &mut Cursor<'_>) -> Result<Interval, Stop>
         requires { Nests self.now.budget (F.pre self.now.expression) (F.post self.now.expression) }
-        ensures { Gives ranged_of (spec.ranging (spec.expression self.now.budget) self.now.turns cursor.old) result cursor.new }
+        ensures { IsOutcome ranged_of (spec.ranging (spec.expression self.now.budget) self.now.turns cursor.old) result cursor.new }
     {
         let operator = cursor.expect(Class::Interval)?;
         cursor.expect(Class::Sign(Punctuation::OpenParenthesis))?;
@@ -106,7 +106,7 @@ impl<F: Fn(Global, &mut Cursor<'_>, usize) -> Result<Expression, Stop>> Reader<F
 
     fn ranging(&self, left: Expression, cursor: &mut Cursor<'_>) -> Result<Expression, Stop>
         requires { Nests self.now.budget (F.pre self.now.expression) (F.post self.now.expression) }
-        ensures { Gives tree_of (related (tree_of left) (spec.ranging (spec.expression self.now.budget) self.now.turns) cursor.old) result cursor.new }
+        ensures { IsOutcome tree_of (related (tree_of left) (spec.ranging (spec.expression self.now.budget) self.now.turns) cursor.old) result cursor.new }
     {
         let ends = self.ends(cursor)?;
         Ok(between(self.alloc, left, ends)?)
@@ -115,7 +115,7 @@ impl<F: Fn(Global, &mut Cursor<'_>, usize) -> Result<Expression, Stop>> Reader<F
     #[tactic(auto, unfolding(crate::specs::Reading::relating))]
     fn relating(&self, left: Expression, cursor: &mut Cursor<'_>) -> Result<Expression, Stop>
         requires { Nests self.now.budget (F.pre self.now.expression) (F.post self.now.expression) }
-        ensures { Gives tree_of (related (tree_of left) (spec.relating (spec.expression self.now.budget) self.now.turns) cursor.old) result cursor.new }
+        ensures { IsOutcome tree_of (related (tree_of left) (spec.relating (spec.expression self.now.budget) self.now.turns) cursor.old) result cursor.new }
     {
         if cursor.sees(Class::Comparison) {
             return self.comparing(left, cursor);
@@ -129,7 +129,7 @@ impl<F: Fn(Global, &mut Cursor<'_>, usize) -> Result<Expression, Stop>> Reader<F
     #[tactic(auto, unfolding(crate::specs::Reading::comparison))]
     pub(crate) fn comparison(&self, cursor: &mut Cursor<'_>) -> Result<Expression, Stop>
         requires { Nests self.now.budget (F.pre self.now.expression) (F.post self.now.expression) }
-        ensures { Gives tree_of (spec.comparison (spec.expression self.now.budget) self.now.turns cursor.old) result cursor.new }
+        ensures { IsOutcome tree_of (spec.comparison (spec.expression self.now.budget) self.now.turns cursor.old) result cursor.new }
     {
         let left = self.sum(cursor)?;
         if !sees_relation(cursor) {

@@ -3,7 +3,7 @@ ghost use Rattle.std.specs.Prelude.{◌≡◌};
 ghost use Rattle.kq_expression.specs.Nests.{Nests};
 ghost use Rattle.kq_expression.specs.Reading as spec;
 ghost use Rattle.kq_grammar.specs.Views.{tree_of};
-ghost use Rattle.kq_syntax.specs.Gives.{Gives};
+ghost use Rattle.kq_syntax.specs.Outcomes.{IsOutcome};
 
 use crate::chains::{Operand, chained};
 use crate::nesting::Reader;
@@ -43,7 +43,7 @@ impl<F: Fn(Global, &mut Cursor<'_>, usize) -> Result<Expression, Stop>> Reader<F
     #[tactic(auto, unfolding(crate::specs::Reading::product))]
     fn product(&self, cursor: &mut Cursor<'_>) -> Result<Expression, Stop>
         requires { Nests self.now.budget (F.pre self.now.expression) (F.post self.now.expression) }
-        ensures { Gives tree_of (spec.product (spec.expression self.now.budget) self.now.turns cursor.old) result cursor.new }
+        ensures { IsOutcome tree_of (spec.product (spec.expression self.now.budget) self.now.turns cursor.old) result cursor.new }
     {
         chained(
             self.alloc,
@@ -58,7 +58,7 @@ impl<F: Fn(Global, &mut Cursor<'_>, usize) -> Result<Expression, Stop>> Reader<F
     #[tactic(auto, unfolding(crate::specs::Reading::sum))]
     pub(crate) fn sum(&self, cursor: &mut Cursor<'_>) -> Result<Expression, Stop>
         requires { Nests self.now.budget (F.pre self.now.expression) (F.post self.now.expression) }
-        ensures { Gives tree_of (spec.sum (spec.expression self.now.budget) self.now.turns cursor.old) result cursor.new }
+        ensures { IsOutcome tree_of (spec.sum (spec.expression self.now.budget) self.now.turns cursor.old) result cursor.new }
     {
         chained(
             self.alloc,

@@ -16,7 +16,7 @@ use std::alloc::Global;
 use std::marker::Model;
 use std::sync::Arc;
 
-/// An extent of fewer records is small.
+// An extent of fewer records is small.
 const SMALL: usize = 4096;
 
 /// The extents of a table, the small ones apart: a merge takes them from the front. Copies share the extents.

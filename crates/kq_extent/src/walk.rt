@@ -11,7 +11,7 @@ use kq_value::{Field, Memory};
 use std::alloc::Global;
 use std::sync::Arc;
 
-/// The number of records of these extents.
+// The number of records of these extents.
 pub(crate) fn count_records(extents: &[Arc<Extent, Global>]) -> u64
     requires { length (records_in (map arc_value extents.now)) < 2 ^ 63 }
     ensures { result ≡ length (records_in (map arc_value extents.now)) }
@@ -23,7 +23,7 @@ pub(crate) fn count_records(extents: &[Arc<Extent, Global>]) -> u64
     count
 }
 
-/// Adds the rows of these extents, widened to the columns, behind others, or some of them where memory is refused.
+// Adds the rows of these extents, widened to the columns, behind others, or some of them where memory is refused.
 pub(crate) fn add_rows(
     extents: &[Arc<Extent, Global>],
     fields: &[Field],

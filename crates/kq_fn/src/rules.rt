@@ -16,23 +16,23 @@ pub struct Line {
 // How the calls of a function are typed.
 #[derive(Clone, Copy)]
 pub enum Rule {
-    // The first of these lines that takes the arguments.
+    /// The first of these lines that takes the arguments.
     Lines(&'static [Line]),
-    // From so many to so many arguments of any type.
+    /// From so many to so many arguments of any type.
     Any(usize, usize, Ty),
-    // Two that can be tested for equality.
+    /// Two that can be tested for equality.
     Equals,
-    // One, and others with which it can be tested for equality.
+    /// One, and others with which it can be tested for equality.
     EqualsOne,
-    // Two that are strings or dynamics.
+    /// Two that are strings or dynamics.
     Texts,
-    // Two or more that are strings or dynamics.
+    /// Two or more that are strings or dynamics.
     TextsOne,
-    // A bool and two values of one type.
+    /// A bool and two values of one type.
     OneChoice,
-    // A bool and a value, once or more often, and a last value.
+    /// A bool and a value, once or more often, and a last value.
     Choices,
-    // Two values or more, of one type.
+    /// Two values or more, of one type.
     Alike,
 }
 

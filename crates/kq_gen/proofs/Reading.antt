@@ -2,12 +2,12 @@
 use Rattle.std.proofs.Common.{◌≡◌, ◌+◌, ◌≤◌, ◌==◌, ◌&&◌, ◌||◌, ℕ, zero, suc, Bool, true, false, List, ◌++◌, take, drop, refl, ap, sym, ◌∙◌, eq-eqb, arith}
 use Rattle.std.proofs.lemmas.Bool.{ne_eqb}
 use Rattle.std.proofs.lemmas.List.{take-append-drop}
-use Rattle.kq_world.specs.Outside.{Gives}
+use Rattle.kq_world.specs.Outside.{Delivers}
 use Rattle.kq_gen.specs.Commands.{script}
 use Rattle.kq_gen.specs.Source.{ScriptState, script_read, script_told, script_unread}
 
 -- a source that told a whole script at first, and has given bytes since, has the same script
-pub told-since : (n : ℕ) (now : ScriptState) (bytes : List ℕ) → Gives (script_unread n) (script_told now) bytes → script_told now ≡ script_read n now.at now.ended
+pub told-since : (n : ℕ) (now : ScriptState) (bytes : List ℕ) → Delivers (script_unread n) (script_told now) bytes → script_told now ≡ script_read n now.at now.ended
 told-since n now bytes gave =
     let taken : take now.at now.text ≡ bytes = gave.taken in
     let left : script n ≡ bytes ++ drop now.at now.text = gave.left in

@@ -2,8 +2,8 @@
 use Rattle.std.specs.Prelude.{◌≡◌, ℕ, ◌≤◌, ◌+◌, []}
 use Rattle.kq_grammar.specs.declared.expression.Name.{Name}
 use Rattle.kq_grammar.specs.declared.expression.Name.TheVariants as n
-use Rattle.kq_grammar.specs.Strengths.{strength, operators, binding}
-use Rattle.kq_grammar.specs.Trees.{Strength, Tree, name, literal, group, call, path, signed, compare, within, between, chain, Trees, no_tree, and_tree, Links, no_link, and_link, OneStep, member, index, Steps, no_step, and_step}
+use Rattle.kq_grammar.specs.Precedences.{precedence, operators, binding}
+use Rattle.kq_grammar.specs.Trees.{Precedence, Tree, name, literal, group, call, path, signed, compare, within, between, chain, Trees, no_tree, and_tree, Links, no_link, and_link, OneStep, member, index, Steps, no_step, and_step}
 use Rattle.kq_syntax.specs.declared.kind.Symbol.{Symbol}
 use Rattle.kq_syntax.specs.Classes as k
 use Rattle.kq_syntax.specs.Classes.{of}
@@ -35,7 +35,7 @@ abbrev mutual
   spells (compare a t b) = at_least 3 a (spells a) ⨾ one (of k.comparison) t ⨾ at_least 3 b (spells b)
   spells (within a t e es) = at_least 3 a (spells a) ⨾ one (of k.membership) t ⨾ some (of k.open_parenthesis) ⨾ (spells e ⨾ spells_more es) ⨾ some (of k.close_parenthesis)
   spells (between a t b c) = at_least 3 a (spells a) ⨾ one (of k.interval) t ⨾ some (of k.open_parenthesis) ⨾ (at_least 3 b (spells b) ⨾ some (of k.dots) ⨾ at_least 3 c (spells c)) ⨾ some (of k.close_parenthesis)
-  spells (chain l e t f ls) = at_least (strength l + 1) e (spells e) ⨾ (one (of (operators l)) t ⨾ at_least (strength l + 1) f (spells f)) ⨾ spells_links l ls
+  spells (chain l e t f ls) = at_least (precedence l + 1) e (spells e) ⨾ (one (of (operators l)) t ⨾ at_least (precedence l + 1) f (spells f)) ⨾ spells_links l ls
 
   pub spells_all : Trees → Text
   spells_all no_tree = empty
@@ -45,9 +45,9 @@ abbrev mutual
   spells_more no_tree = empty
   spells_more (and_tree e es) = (some (of k.comma) ⨾ spells e) ⨾ spells_more es
 
-  pub spells_links : Strength → Links → Text
+  pub spells_links : Precedence → Links → Text
   spells_links l no_link = empty
-  spells_links l (and_link t e ls) = (one (of (operators l)) t ⨾ at_least (strength l + 1) e (spells e)) ⨾ spells_links l ls
+  spells_links l (and_link t e ls) = (one (of (operators l)) t ⨾ at_least (precedence l + 1) e (spells e)) ⨾ spells_links l ls
 
   pub spells_step : OneStep → Text
   spells_step (member t n) = one (of k.dot) t ⨾ name_text n

@@ -1,6 +1,6 @@
 pub mod Clauses
 pub mod Expressions
-pub mod Strengths
+pub mod Precedences
 pub mod TabularViews
 pub mod Tabulars
 pub mod Trees

@@ -7,11 +7,11 @@ use Rattle.kq_grammar.specs.declared.clause.JoinKey.{JoinKey}
 use Rattle.kq_syntax.specs.declared.kind.Symbol.{Symbol}
 use Rattle.kq_syntax.specs.Choices.{Right}
 
-pub data Strength : Type 0 where
-  disjunction : Strength
-  conjunction : Strength
-  sum : Strength
-  product : Strength
+pub data Precedence : Type 0 where
+  disjunction : Precedence
+  conjunction : Precedence
+  sum : Precedence
+  product : Precedence
 
 mutual
   pub data Tree : Type 0 where
@@ -26,8 +26,8 @@ mutual
     -- an operand, `in`, and one value or more
     within : Tree → Symbol → Tree → Trees → Tree
     between : Tree → Symbol → Tree → Tree → Tree
-    -- an operand and one link or more, of one strength
-    chain : Strength → Tree → Symbol → Tree → Links → Tree
+    -- an operand and one link or more, of one precedence
+    chain : Precedence → Tree → Symbol → Tree → Links → Tree
 
   pub data Trees : Type 0 where
     no_tree : Trees
@@ -46,7 +46,7 @@ mutual
     and_step : OneStep → Steps → Steps
 
 -- an operator of an interval, and the ends
-pub record Ends : Type 0 where
+pub record IntervalEnds : Type 0 where
   pub operator : Symbol
   pub low : Tree
   pub high : Tree

@@ -14,7 +14,7 @@ use Rattle.kq_grammar.specs.declared.expression.Level.{Level}
 use Rattle.kq_grammar.specs.declared.expression.Level.TheVariants as level
 use Rattle.kq_grammar.specs.declared.expression.Link.{Link, fold-Link}
 use Rattle.kq_grammar.specs.declared.expression.Step.{Step, fold-Step}
-use Rattle.kq_grammar.specs.Trees.{Strength, disjunction, conjunction, sum, product, Tree, name, literal, group, call, path, signed, compare, within, between, chain, Trees, no_tree, and_tree, Ends, Links, no_link, and_link, OneStep, member, index, Steps, no_step, and_step, ItemTree, plain, named, KeyTree, ArgumentTree, value, all, AggregateTree, GroupingTree}
+use Rattle.kq_grammar.specs.Trees.{Precedence, disjunction, conjunction, sum, product, Tree, name, literal, group, call, path, signed, compare, within, between, chain, Trees, no_tree, and_tree, IntervalEnds, Links, no_link, and_link, OneStep, member, index, Steps, no_step, and_step, ItemTree, plain, named, KeyTree, ArgumentTree, value, all, AggregateTree, GroupingTree}
 use Rattle.kq_syntax.specs.declared.kind.Symbol.{Symbol}
 
 -- ---- lists
@@ -33,13 +33,13 @@ steps_of (s ∷ ss) = and_step s (steps_of ss)
 
 -- ---- expressions
 
-abbrev pub strength_of : Level → Strength
-strength_of level.Disjunction = disjunction
-strength_of level.Conjunction = conjunction
-strength_of level.Sum = sum
-strength_of level.Product = product
+abbrev pub precedence_of : Level → Precedence
+precedence_of level.Disjunction = disjunction
+precedence_of level.Conjunction = conjunction
+precedence_of level.Sum = sum
+precedence_of level.Product = product
 
-abbrev pub one_level : Expression-F Tree OneStep Ends (Symbol × Tree) → Tree
+abbrev pub one_level : Expression-F Tree OneStep IntervalEnds (Symbol × Tree) → Tree
 one_level (Expression-F.Name n) = name n
 one_level (Expression-F.Literal t) = literal t
 one_level (Expression-F.Group t e) = group t e.value
@@ -49,29 +49,29 @@ one_level (Expression-F.Signed t e) = signed t e.value
 one_level (Expression-F.Compare a b) = compare a.value b.value.0 b.value.1
 one_level (Expression-F.Within a b es) = within a.value b.value.0 b.value.1 (trees_of es.items)
 one_level (Expression-F.Between a b) = between a.value b.value.operator b.value.low b.value.high
-one_level (Expression-F.Chain l e x xs) = chain (strength_of l) e.value x.value.0 x.value.1 (links_of xs.items)
+one_level (Expression-F.Chain l e x xs) = chain (precedence_of l) e.value x.value.0 x.value.1 (links_of xs.items)
 
-abbrev pub one_link : Link-F Tree OneStep Ends (Symbol × Tree) → Symbol × Tree
+abbrev pub one_link : Link-F Tree OneStep IntervalEnds (Symbol × Tree) → Symbol × Tree
 one_link r = (r.operator, r.operand)
 
-abbrev pub one_interval : Interval-F Tree OneStep Ends (Symbol × Tree) → Ends
+abbrev pub one_interval : Interval-F Tree OneStep IntervalEnds (Symbol × Tree) → IntervalEnds
 one_interval r = record { operator = r.operator; low = r.low; high = r.high }
 
-abbrev pub one_step : Step-F Tree OneStep Ends (Symbol × Tree) → OneStep
+abbrev pub one_step : Step-F Tree OneStep IntervalEnds (Symbol × Tree) → OneStep
 one_step (Step-F.Member t n) = member t n
 one_step (Step-F.Index t e) = index t e
 
 abbrev pub tree_of : Expression → Tree
-tree_of = fold-Expression Tree OneStep Ends (Symbol × Tree) one_level one_step one_interval one_link
+tree_of = fold-Expression Tree OneStep IntervalEnds (Symbol × Tree) one_level one_step one_interval one_link
 
 abbrev pub link_of : Link → Symbol × Tree
-link_of = fold-Link Tree OneStep Ends (Symbol × Tree) one_level one_step one_interval one_link
+link_of = fold-Link Tree OneStep IntervalEnds (Symbol × Tree) one_level one_step one_interval one_link
 
-abbrev pub interval_of : Interval → Ends
-interval_of = fold-Interval Tree OneStep Ends (Symbol × Tree) one_level one_step one_interval one_link
+abbrev pub interval_of : Interval → IntervalEnds
+interval_of = fold-Interval Tree OneStep IntervalEnds (Symbol × Tree) one_level one_step one_interval one_link
 
 abbrev pub step_of : Step → OneStep
-step_of = fold-Step Tree OneStep Ends (Symbol × Tree) one_level one_step one_interval one_link
+step_of = fold-Step Tree OneStep IntervalEnds (Symbol × Tree) one_level one_step one_interval one_link
 
 -- ---- made of parts
 
@@ -80,7 +80,7 @@ abbrev pub is_bare : Tree → Bool
 is_bare (name n) = true
 is_bare _ = false
 
-abbrev pub chain_of : Strength → Tree → List (Symbol × Tree) → Tree
+abbrev pub chain_of : Precedence → Tree → List (Symbol × Tree) → Tree
 chain_of l e [] = e
 chain_of l e (x ∷ xs) = chain l e x.0 x.1 (links_of xs)
 

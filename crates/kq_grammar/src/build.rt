@@ -2,14 +2,14 @@
 ghost use Rattle.std.specs.Prelude.{◌≡◌, IfOk, map};
 ghost use Rattle.std.specs.Option.{option_map};
 ghost use Rattle.kq_grammar.specs.Trees.{group as the_group, call as the_call, signed as the_signed, compare as the_compare, within as the_within, between as the_between, member as the_member, index as the_index};
-ghost use Rattle.kq_grammar.specs.Views.{tree_of, link_of, interval_of, step_of, strength_of, trees_of, chain_of, path_of, is_bare as bare, item_of, item_view};
+ghost use Rattle.kq_grammar.specs.Views.{tree_of, link_of, interval_of, step_of, precedence_of, trees_of, chain_of, path_of, is_bare as bare, item_of, item_view};
 
 use crate::clause::Item;
 use crate::expression::{Expression, Interval, Level, Link, Name, Step};
 use kq_syntax::Symbol;
 use std::alloc::{AllocError, Global};
 
-/// Two parts of a tree in boxes. Neither type is known here, so that one proof serves all.
+// Two parts of a tree in boxes. Neither type is known here, so that one proof serves all.
 fn boxed<A: Drop, B: Drop>(
     alloc: Global,
     first: A,
@@ -116,7 +116,7 @@ pub fn chain(
     first: Expression,
     mut links: Vec<Link>,
 ) -> Result<Expression, AllocError>
-    ensures { IfOk result (λ e. tree_of e ≡ chain_of (strength_of level) (tree_of first) (map link_of links.items)) }
+    ensures { IfOk result (λ e. tree_of e ≡ chain_of (precedence_of level) (tree_of first) (map link_of links.items)) }
 {
     if links.is_empty() {
         return Ok(first);

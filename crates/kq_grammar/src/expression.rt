@@ -11,7 +11,7 @@ pub enum Name {
     Bracketed { open: Symbol, text: Symbol },
 }
 
-/// Operators of one strength, of which operands stand in a chain.
+/// Operators of one precedence, of which operands stand in a chain.
 #[derive(Clone, Copy, Debug, PartialEq, Eq)]
 pub enum Level {
     /// `or`
@@ -44,7 +44,7 @@ pub enum Expression {
     Within(Box<Expression>, Box<Link>, Vec<Expression>),
     /// An operand, and the interval that it is looked for in.
     Between(Box<Expression>, Box<Interval>),
-    /// An operand and one link or more, of one strength.
+    /// An operand and one link or more, of one precedence.
     Chain(Level, Box<Expression>, Box<Link>, Vec<Link>),
 }
 

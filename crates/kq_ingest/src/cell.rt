@@ -82,7 +82,7 @@ fn cell_from(alloc: Global, ty: Ty, text: &str) -> Result<Value, Memory>
     }
 }
 
-/// The cell of a column of this type, from the text in its place, if there is one. Only a string and a dynamic take memory.
+// The cell of a column of this type, from the text in its place, if there is one. Only a string and a dynamic take memory.
 pub(crate) fn read_cell(alloc: Global, ty: Ty, text: Option<&str>) -> Result<Value, Memory>
     ensures value { IfOk result (λ cell. cell ≡ cell_in ty (option_map (λ t. t.now) text.entry)) }
     ensures numbers { ty ≢ types.Text → ty ≢ types.Dynamic → IsOk result }

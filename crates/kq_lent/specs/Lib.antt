@@ -2,7 +2,7 @@ pub mod Flowing
 pub mod Gathered
 pub mod Held
 pub mod Lent
-pub mod Reads
+pub mod ReadParts
 pub mod Sources
 pub mod Unread
 pub mod Yielded

@@ -9,14 +9,14 @@ use crate::source::Source;
 use kq_piecewise::Relation;
 use kq_rows::Rows;
 
-/// Rows are one source, and each extent is one.
+// Rows are one source, and each extent is one.
 #[derive(Drop)]
 pub(crate) enum Place {
     Own(Rows),
     Lent(Lending),
 }
 
-/// The place of a row: the number of its source, and how many rows of that stand before it.
+// The place of a row: the number of its source, and how many rows of that stand before it.
 #[derive(Clone, Copy)]
 pub(crate) struct Spot {
     pub source: usize,

@@ -1,7 +1,7 @@
 // Rows that are yet to be read.
 ghost use Rattle.std.specs.Prelude.{◌≡◌};
 ghost use Rattle.kq_lent.specs.Held.{IsReadable, rows_in};
-ghost use Rattle.kq_lent.specs.Reads.{Reads};
+ghost use Rattle.kq_lent.specs.ReadParts.{ReadsPart};
 ghost use Rattle.kq_lent.specs.Unread.{width_of};
 
 use crate::place::{Place, Spot};
@@ -10,10 +10,10 @@ use kq_piecewise::Relation;
 use kq_stretch::Piece;
 use std::marker::Model;
 
-/// The most rows of a part.
+// The most rows of a part.
 const PART: usize = 4096;
 
-/// Rows as they are read in parts. Contracts see those that are left, and how many cells each row has.
+// Rows as they are read in parts. Contracts see those that are left, and how many cells each row has.
 #[derive(Drop)]
 pub(crate) struct Unread<'a> {
     place: &'a Place,
@@ -50,7 +50,7 @@ impl<'a> Unread<'a> {
 
     /// The next rows, of one source and at most a few thousand, or none where all have been read.
     pub fn next_part(&mut self) -> Option<Piece<Source<'a>>>
-        ensures { Reads self.old self.new result }
+        ensures { ReadsPart self.old self.new result }
     {
         match self.place.seek(self.spot) {
             Some(spot) => {

@@ -6,12 +6,12 @@ use Rattle.std.proofs.lemmas.Option.{slice_get-get_or}
 use Rattle.kq_token.specs.declared.kind.TokenKind.{TokenKind}
 use Rattle.kq_token.specs.declared.token.Token.{Token}
 use Rattle.kq_token.specs.Forms.{is_form}
-use Rattle.kq_token.specs.Reading.{AreTokens, Reads, start, blank, token}
+use Rattle.kq_token.specs.Reading.{AreTokens, Tokenizes, start, blank, token}
 
 abbrev pub HasForm : List ℕ → Token → Type 0
 HasForm text t = is_form t.kind (slice_range text t.from t.to) ≡ true
 
-reads_forms : {text : List ℕ} {tokens : List Token} {at : ℕ} → Reads text tokens at → All (HasForm text) tokens
+reads_forms : {text : List ℕ} {tokens : List Token} {at : ℕ} → Tokenizes text tokens at → All (HasForm text) tokens
 reads_forms start = λ k d h. absurd (omega arith)
 reads_forms (blank r incomplete some) = reads_forms r
 reads_forms {text} (token {tokens} {at} {kind} {n} r incomplete none t) =

@@ -77,7 +77,7 @@ fn text_of(alloc: Global, bytes: Vec<u8>) -> Result<Text, Memory>
     }
 }
 
-/// What stands before the quote that isn't doubled, with one quote for two.
+// What stands before the quote that isn't doubled, with one quote for two.
 fn undouble(alloc: Global, quote: u8, bytes: &[u8]) -> Result<Vec<u8>, Memory>
     ensures { IfOk result (λ text. text.items ≡ undoubled quote false bytes.now) }
 {
@@ -94,7 +94,7 @@ fn undouble(alloc: Global, quote: u8, bytes: &[u8]) -> Result<Vec<u8>, Memory>
     Ok(text)
 }
 
-/// What stands before the quote that closes, with each escape's character in its place.
+// What stands before the quote that closes, with each escape's character in its place.
 fn unescape(alloc: Global, quote: u8, bytes: &[u8]) -> Result<Vec<u8>, Memory>
     requires { closes step (Quoted quote) bytes.now ≡ true }
     ensures { IfOk result (λ text. text.items ≡ unescaped quote 0 bytes.now) }
@@ -115,7 +115,7 @@ fn unescape(alloc: Global, quote: u8, bytes: &[u8]) -> Result<Vec<u8>, Memory>
     Ok(text)
 }
 
-/// Appends the character of the escape whose backslash stands before the bytes, and gives how many of them it has.
+// Appends the character of the escape whose backslash stands before the bytes, and gives how many of them it has.
 fn push_escape(text: &mut Vec<u8>, quote: u8, behind: &[u8]) -> Result<usize, Memory>
     requires { closes step (Escape quote) behind.now ≡ true }
     ensures text { OnOk result (text.new.items ≡ text.old.items ++ escape_of behind.now) }
@@ -134,7 +134,7 @@ fn push_escape(text: &mut Vec<u8>, quote: u8, behind: &[u8]) -> Result<usize, Me
     }
 }
 
-/// What the letter behind a backslash stands for.
+// What the letter behind a backslash stands for.
 fn character_of(letter: u8) -> u8
     ensures { result ≡ letter_of letter }
 {
@@ -146,7 +146,7 @@ fn character_of(letter: u8) -> u8
     }
 }
 
-/// Appends the character of a code in hexadecimal.
+// Appends the character of a code in hexadecimal.
 fn push_character(text: &mut Vec<u8>, digits: &[u8]) -> Result<(), Memory>
     requires digits { IsNumeral 16 digits.now }
     requires short { length digits.now ≤ 4 }

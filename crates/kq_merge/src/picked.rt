@@ -10,7 +10,7 @@ use std::alloc::Global;
 use std::marker::Model;
 use std::sync::Arc;
 
-/// The most extents that one merge replaces.
+// The most extents that one merge replaces.
 const MOST: usize = 64;
 
 /// Extents of a table that are to be merged, in the order of the table's list. They are shared with the table.

@@ -10,7 +10,7 @@ use kq_value::{Memory, Tags, Text};
 use std::alloc::Global;
 use std::sync::Arc;
 
-/// The tags of these extents, each once, in the order of first appearance.
+// The tags of these extents, each once, in the order of first appearance.
 pub(crate) fn union_of(alloc: Global, extents: &[Arc<Extent, Global>]) -> Result<Tags, Memory>
     ensures { IfOk result (λ tags. tags ≡ each_once (tags_in (map arc_value extents.now))) }
 {

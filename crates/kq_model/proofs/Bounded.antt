@@ -17,17 +17,17 @@ use Rattle.kq_model.specs.declared.event.Operation.{Operation}
 use Rattle.kq_model.specs.declared.event.Operation.TheVariants as operation
 use Rattle.kq_model.specs.Beside.{DueGives}
 use Rattle.kq_model.specs.History.{History, Log, log, cursor, tables, table_named, widened_table, commits_of, views, views_by, view_count, is_view}
-use Rattle.kq_model.specs.Lawful.{IsMerge, Lawful, LawfulOperation, LawfulCommit, AreLawful, AreLawfulAfter, bar_to_name, bar_to_table, bar_to_view, bar_to_columns, bar_to_batch, own_rows, IsIngestion}
-use Rattle.kq_model.specs.Lawful.Bar.{TooWide, TooMany, TooLong, NoCommits}
+use Rattle.kq_model.specs.Lawful.{IsMerge, Lawful, LawfulOperation, LawfulCommit, AreLawful, AreLawfulAfter, name_violation, table_violation, view_violation, columns_violation, batch_violation, own_rows, IsIngestion}
+use Rattle.kq_model.specs.Lawful.Violation.{TooWide, TooMany, TooLong, NoCommits}
 use Rattle.kq_model.specs.Policies.{rules}
-use Rattle.kq_model.specs.Records.{records_given, given, items, items_after, extents, is_small_item, made_by, made_of, made_in, merged, ExtentItem}
+use Rattle.kq_model.specs.Records.{records_given, given, items, items_after, extents, is_small_item, commit_extents, operation_extents, extents_made, merged, ExtentItem}
 use Rattle.kq_model.proofs.Changed.{length-changed}
 use Rattle.kq_model.proofs.Counted.{IsDerived-few}
 use Rattle.kq_model.proofs.Given.{IsBefore, IsShort, IsDerived-led, few_given_by, few_rows_in, given_by-past, items_by-past}
 use Rattle.kq_model.proofs.Histories.{log-push, tables-push, views-push}
 use Rattle.kq_model.proofs.Passed.{IsDerived-short, IsDerived-stands}
 use Rattle.kq_model.proofs.Policies.{length-policies}
-use Rattle.kq_model.proofs.Records.{records-push, extents-push, made_in-push}
+use Rattle.kq_model.proofs.Records.{records-push, extents-push, extents_made-push}
 
 -- what no bar means
 two_tests : {X : Type 0} (s t : Bool) (x y : X) → cond s (Some x) (cond t None (Some y)) ≡ None → (s ≡ false) × (t ≡ true)
@@ -35,12 +35,12 @@ two_tests true t x y e = cc
 two_tests false true x y e = (refl, refl)
 two_tests false false x y e = cc
 
-pub free_batch : (limits : Limits) (l : Log) (n : ℕ) → bar_to_batch limits l n ≡ None → (n ≤ limits.batch) × (length l < limits.commits)
+pub free_batch : (limits : Limits) (l : Log) (n : ℕ) → batch_violation limits l n ≡ None → (n ≤ limits.batch) × (length l < limits.commits)
 free_batch limits l n e =
     let tests = two_tests (nat_lt limits.batch n) (nat_lt (length l) limits.commits) TooLong NoCommits e in
     (ltb-false limits.batch n tests.0, ltb-true (length l) limits.commits tests.1)
 
-pub free_columns : (limits : Limits) (l : Log) (old new : ℕ) → bar_to_columns limits l old new ≡ None → (old + new ≤ limits.columns) × (length l < limits.commits)
+pub free_columns : (limits : Limits) (l : Log) (old new : ℕ) → columns_violation limits l old new ≡ None → (old + new ≤ limits.columns) × (length l < limits.commits)
 free_columns limits l old new e =
     let tests = two_tests (nat_lt limits.columns (old + new)) (nat_lt (length l) limits.commits) TooWide NoCommits e in
     (ltb-false limits.columns (old + new) tests.0, ltb-true (length l) limits.commits tests.1)
@@ -52,7 +52,7 @@ pub record IsFree (limits : Limits) (l : Log) (limit count : ℕ) (found : Optio
   pub room : count < limit
   pub commits : length l < limits.commits
 
-free_name : (limits : Limits) (l : Log) (limit count : ℕ) (found : Option Table) (viewed : Bool) → bar_to_name limits l limit count found viewed ≡ None → IsFree limits l limit count found viewed
+free_name : (limits : Limits) (l : Log) (limit count : ℕ) (found : Option Table) (viewed : Bool) → name_violation limits l limit count found viewed ≡ None → IsFree limits l limit count found viewed
 free_name limits l limit count (Some t) viewed e = cc
 free_name limits l limit count None true e = cc
 free_name limits l limit count None false e = by_tests (nat_lt count limit) (nat_lt (length l) limits.commits) refl refl e
@@ -62,18 +62,18 @@ free_name limits l limit count None false e = by_tests (nat_lt count limit) (nat
     by_tests true false p q e = cc
     by_tests false t p q e = cc
 
-pub free_table : (limits : Limits) (l : Log) (name : List ℕ) (schema : List Field) → bar_to_table limits l name schema ≡ None
+pub free_table : (limits : Limits) (l : Log) (name : List ℕ) (schema : List Field) → table_violation limits l name schema ≡ None
     → IsFree limits l limits.tables (length (tables l)) (table_named name (tables l)) (is_view name l)
 free_table limits l name schema e = by_test (nat_lt limits.columns (length schema)) e
   where
     Free : Type 0
     Free = IsFree limits l limits.tables (length (tables l)) (table_named name (tables l)) (is_view name l)
 
-    by_test : (s : Bool) → cond s (Some TooWide) (bar_to_name limits l limits.tables (length (tables l)) (table_named name (tables l)) (is_view name l)) ≡ None → Free
+    by_test : (s : Bool) → cond s (Some TooWide) (name_violation limits l limits.tables (length (tables l)) (table_named name (tables l)) (is_view name l)) ≡ None → Free
     by_test true e = cc
     by_test false e = free_name limits l limits.tables (length (tables l)) (table_named name (tables l)) (is_view name l) e
 
-pub free_view : (limits : Limits) (l : Log) (name : List ℕ) → bar_to_view limits l name ≡ None → IsFree limits l limits.views (view_count l) (table_named name (tables l)) (is_view name l)
+pub free_view : (limits : Limits) (l : Log) (name : List ℕ) → view_violation limits l name ≡ None → IsFree limits l limits.views (view_count l) (table_named name (tables l)) (is_view name l)
 free_view limits l name e = free_name limits l limits.views (view_count l) (table_named name (tables l)) (is_view name l) e
 
 -- what a lawful commit adds
@@ -158,7 +158,7 @@ few_given limits l t n (Ingest batches failures) lawful =
     omega (arith, few_given_by t n 0 batches (all_short limits l batches failures lawful), few_batches limits l batches failures lawful)
 
 -- a batch for each query, and the own one
-pub few_made_by : (limits : Limits) (l : Log) (c : Commit) → LawfulCommit limits l c → made_by c ≤ 1025
+pub few_made_by : (limits : Limits) (l : Log) (c : Commit) → LawfulCommit limits l c → commit_extents c ≤ 1025
 few_made_by limits l (CreateTable name schema) lawful = omega arith
 few_made_by limits l (CreateView view) lawful = omega arith
 few_made_by limits l (SetPolicy table entries) lawful = omega arith
@@ -225,18 +225,18 @@ pub IsBounded-lawful : (limits : Limits) (h : History) → AreLawful limits h �
 IsBounded-lawful limits h all = AreLawful-induct limits (λ (g : History). IsBounded limits (log g)) (bounded_none limits) (event_more limits) h all
 
 -- an event makes one extent at most, and a commit one more for each query
-pub few_made : (limits : Limits) (h : History) → AreLawful limits h → made_in h ≤ length h + cursor h * 1024
-few_made limits h all = AreLawful-induct limits (λ (g : History). made_in g ≤ length g + cursor g * 1024) (omega arith) one_more h all
+pub few_made : (limits : Limits) (h : History) → AreLawful limits h → extents_made h ≤ length h + cursor h * 1024
+few_made limits h all = AreLawful-induct limits (λ (g : History). extents_made g ≤ length g + cursor g * 1024) (omega arith) one_more h all
   where
-    by_operation : (g : History) (o : Operation) → LawfulOperation limits g o → made_of o ≤ 1 + length (commits_of o) * 1024
+    by_operation : (g : History) (o : Operation) → LawfulOperation limits g o → operation_extents o ≤ 1 + length (commits_of o) * 1024
     by_operation g (operation.Commit c) lawful = let few = few_made_by limits (log g) c lawful in omega (arith, few)
     by_operation g (operation.Fold view to) lawful = omega arith
     by_operation g (operation.Merge table old new) lawful = omega arith
 
-    one_more : (g : History) (e : Event) → made_in g ≤ length g + cursor g * 1024 → Lawful limits g e → made_in (g ++ e ∷ []) ≤ length (g ++ e ∷ []) + cursor (g ++ e ∷ []) * 1024
+    one_more : (g : History) (e : Event) → extents_made g ≤ length g + cursor g * 1024 → Lawful limits g e → extents_made (g ++ e ∷ []) ≤ length (g ++ e ∷ []) + cursor (g ++ e ∷ []) * 1024
     one_more g e before lawful =
         let commits = ap length (log-push g e) ∙ length-append (log g) (commits_of e.operation) in
-        omega (arith, before, commits, made_in-push g e, by_operation g e.operation lawful.operation, length_push g e)
+        omega (arith, before, commits, extents_made-push g e, by_operation g e.operation lawful.operation, length_push g e)
 
 -- a table that isn't there has no extents
 pub no_items : (limits : Limits) (h : History) → AreLawful limits h → (t : ℕ) → length (tables (log h)) ≤ t → extents h t ≡ []
@@ -250,10 +250,10 @@ no_items limits h all = AreLawful-induct limits HasNone (λ t past. refl) one_mo
         let few = ap (λ (xs : List ExtentItem). length (take 64 (filter is_small_item xs))) none in
         absurd (omega (arith, is.some, is.within, few))
 
-    by_operation : (g : History) (o : Operation) → LawfulOperation limits g o → HasNone g → (t : ℕ) → length (tables (log g ++ commits_of o)) ≤ t → items_after t (cursor g + 1) (1 + made_in g) o (extents g t) ≡ []
+    by_operation : (g : History) (o : Operation) → LawfulOperation limits g o → HasNone g → (t : ℕ) → length (tables (log g ++ commits_of o)) ≤ t → items_after t (cursor g + 1) (1 + extents_made g) o (extents g t) ≡ []
     by_operation g (operation.Commit c) lawful before t past =
         let still : length (tables (log g)) ≤ t = omega (arith, no_fewer (log g) c, past) in
-        ap (λ (xs : List ExtentItem). xs ++ items t (cursor g + 1) (1 + made_in g) c) (before t still) ∙ items_past limits (log g) t (cursor g + 1) (1 + made_in g) c lawful still
+        ap (λ (xs : List ExtentItem). xs ++ items t (cursor g + 1) (1 + extents_made g) c) (before t still) ∙ items_past limits (log g) t (cursor g + 1) (1 + extents_made g) c lawful still
     by_operation g (operation.Fold view to) lawful before t past = before t (subst (λ (l : Log). length (tables l) ≤ t) (append-nil (log g)) past)
     by_operation g (operation.Merge table old new) lawful before t past =
         let none = before t (subst (λ (l : Log). length (tables l) ≤ t) (append-nil (log g)) past) in

@@ -9,7 +9,7 @@ use Rattle.kq_model.specs.declared.batch.Batch.{Batch}
 use Rattle.kq_model.specs.declared.batch.Failure.{Failure}
 use Rattle.kq_model.specs.Derived.{Queries, Cascade, Made, Failed, TooMany, Comes, first, after, IsDerived}
 use Rattle.kq_model.specs.Force.{Rules}
-use Rattle.kq_model.specs.Records.{given_by, item_of, items_by}
+use Rattle.kq_model.specs.Records.{batch_records, batch_item, batch_items}
 use Rattle.kq_model.proofs.Records.{length-numbered}
 
 -- ---- the own batch comes first
@@ -41,14 +41,14 @@ abbrev pub IsShort : Batch → Type 0
 IsShort b = length b.rows ≤ 1048576
 
 -- batches that aren't long give a table no more rows than so many a batch
-pub few_given_by : (t cursor ordinal : ℕ) (bs : List Batch) → All IsShort bs → length (given_by t cursor ordinal bs) ≤ length bs * 1048576
+pub few_given_by : (t cursor ordinal : ℕ) (bs : List Batch) → All IsShort bs → length (batch_records t cursor ordinal bs) ≤ length bs * 1048576
 few_given_by t cursor ordinal [] all = omega arith
 few_given_by t cursor ordinal (b ∷ bs) all = by_test (nat_eq b.table t) (λ o. few_given_by t cursor o bs (All-tail IsShort b bs all)) (All-head IsShort b bs all)
   where
-    by_test : (is : Bool) → ((o : ℕ) → length (given_by t cursor o bs) ≤ length bs * 1048576) → length b.rows ≤ 1048576
-        → length (cond is (numbered cursor ordinal b.rows ++ given_by t cursor (ordinal + length b.rows) bs) (given_by t cursor ordinal bs)) ≤ length (b ∷ bs) * 1048576
+    by_test : (is : Bool) → ((o : ℕ) → length (batch_records t cursor o bs) ≤ length bs * 1048576) → length b.rows ≤ 1048576
+        → length (cond is (numbered cursor ordinal b.rows ++ batch_records t cursor (ordinal + length b.rows) bs) (batch_records t cursor ordinal bs)) ≤ length (b ∷ bs) * 1048576
     by_test true rest here =
-        let both = length-append (numbered cursor ordinal b.rows) (given_by t cursor (ordinal + length b.rows) bs) in
+        let both = length-append (numbered cursor ordinal b.rows) (batch_records t cursor (ordinal + length b.rows) bs) in
         let front = length-numbered cursor ordinal b.rows in
         let back = rest (ordinal + length b.rows) in
         omega (arith, both, front, back, here)
@@ -69,16 +69,16 @@ abbrev pub IsBefore : ℕ → Batch → Type 0
 IsBefore n b = b.table < n
 
 -- batches of tables before a number give none from there on
-pub given_by-past : (n t cursor ordinal : ℕ) (bs : List Batch) → All (IsBefore n) bs → n ≤ t → given_by t cursor ordinal bs ≡ []
+pub given_by-past : (n t cursor ordinal : ℕ) (bs : List Batch) → All (IsBefore n) bs → n ≤ t → batch_records t cursor ordinal bs ≡ []
 given_by-past n t cursor ordinal [] all past = refl
 given_by-past n t cursor ordinal (b ∷ bs) all past =
     let here : b.table < n = All-head (IsBefore n) b bs all in
-    ap (λ (is : Bool). cond is (numbered cursor ordinal b.rows ++ given_by t cursor (ordinal + length b.rows) bs) (given_by t cursor ordinal bs)) (ne_eqb b.table t (λ same. absurd (omega (arith, here, past, same))))
+    ap (λ (is : Bool). cond is (numbered cursor ordinal b.rows ++ batch_records t cursor (ordinal + length b.rows) bs) (batch_records t cursor ordinal bs)) (ne_eqb b.table t (λ same. absurd (omega (arith, here, past, same))))
     ∙ given_by-past n t cursor ordinal bs (All-tail (IsBefore n) b bs all) past
 
-pub items_by-past : (n t cursor ordinal id : ℕ) (bs : List Batch) → All (IsBefore n) bs → n ≤ t → items_by t cursor ordinal id bs ≡ []
+pub items_by-past : (n t cursor ordinal id : ℕ) (bs : List Batch) → All (IsBefore n) bs → n ≤ t → batch_items t cursor ordinal id bs ≡ []
 items_by-past n t cursor ordinal id [] all past = refl
 items_by-past n t cursor ordinal id (b ∷ bs) all past =
     let here : b.table < n = All-head (IsBefore n) b bs all in
-    ap (λ (is : Bool). cond is (item_of id cursor ordinal b ∷ items_by t cursor (ordinal + length b.rows) (id + 1) bs) (items_by t cursor ordinal (id + 1) bs)) (ne_eqb b.table t (λ same. absurd (omega (arith, here, past, same))))
+    ap (λ (is : Bool). cond is (batch_item id cursor ordinal b ∷ batch_items t cursor (ordinal + length b.rows) (id + 1) bs) (batch_items t cursor ordinal (id + 1) bs)) (ne_eqb b.table t (λ same. absurd (omega (arith, here, past, same))))
     ∙ items_by-past n t cursor ordinal (id + 1) bs (All-tail (IsBefore n) b bs all) past

@@ -14,10 +14,10 @@ use Rattle.kq_model.specs.declared.event.Operation.{Operation}
 use Rattle.kq_model.specs.declared.event.Operation.TheVariants as operation
 use Rattle.kq_model.specs.History.{History, cursor}
 use Rattle.kq_model.specs.Lawful.{IsMerge, Lawful, LawfulOperation, AreLawful, AreLawfulAfter}
-use Rattle.kq_model.specs.Records.{ExtentItem, extents, has_id_of, is_small_item, item_ids, item_of, items, items_after, items_by, made_by, made_in, made_of, merged, picked, small_items, united}
+use Rattle.kq_model.specs.Records.{ExtentItem, extents, has_id_of, is_small_item, item_ids, batch_item, items, items_after, batch_items, commit_extents, extents_made, operation_extents, merged, picked, small_items, united}
 use Rattle.kq_model.proofs.Bounded.{AreLawful-induct}
 use Rattle.kq_model.proofs.Histories.{AreLawful-push}
-use Rattle.kq_model.proofs.Records.{extents-push, made_in-push}
+use Rattle.kq_model.proofs.Records.{extents-push, extents_made-push}
 
 -- ---- rising ids
 
@@ -61,19 +61,19 @@ Rises-drop (suc k) low high [] rises = rises
 Rises-drop (suc k) low high (i ∷ is) rises = Rises-lower (i.id + 1) low high (drop k is) (omega (arith, rises.0)) (Rises-drop k (i.id + 1) high is rises.1)
 
 -- the extents of batches have the next ids
-items-rise : (t cursor ordinal id : ℕ) (bs : List Batch) → Rises id (id + length bs) (items_by t cursor ordinal id bs)
+items-rise : (t cursor ordinal id : ℕ) (bs : List Batch) → Rises id (id + length bs) (batch_items t cursor ordinal id bs)
 items-rise t cursor ordinal id [] = omega arith
 items-rise t cursor ordinal id (b ∷ bs) = by_test (nat_eq b.table t) (λ o. items-rise t cursor o (id + 1) bs)
   where
     high : id + 1 + length bs ≡ id + length (b ∷ bs)
     high = omega arith
 
-    by_test : (is : Bool) → ((o : ℕ) → Rises (id + 1) (id + 1 + length bs) (items_by t cursor o (id + 1) bs))
-        → Rises id (id + length (b ∷ bs)) (cond is (item_of id cursor ordinal b ∷ items_by t cursor (ordinal + length b.rows) (id + 1) bs) (items_by t cursor ordinal (id + 1) bs))
-    by_test true later = (omega arith, subst (λ (n : ℕ). Rises (id + 1) n (items_by t cursor (ordinal + length b.rows) (id + 1) bs)) high (later (ordinal + length b.rows)))
-    by_test false later = Rises-lower (id + 1) id (id + length (b ∷ bs)) (items_by t cursor ordinal (id + 1) bs) (omega arith) (subst (λ (n : ℕ). Rises (id + 1) n (items_by t cursor ordinal (id + 1) bs)) high (later ordinal))
+    by_test : (is : Bool) → ((o : ℕ) → Rises (id + 1) (id + 1 + length bs) (batch_items t cursor o (id + 1) bs))
+        → Rises id (id + length (b ∷ bs)) (cond is (batch_item id cursor ordinal b ∷ batch_items t cursor (ordinal + length b.rows) (id + 1) bs) (batch_items t cursor ordinal (id + 1) bs))
+    by_test true later = (omega arith, subst (λ (n : ℕ). Rises (id + 1) n (batch_items t cursor (ordinal + length b.rows) (id + 1) bs)) high (later (ordinal + length b.rows)))
+    by_test false later = Rises-lower (id + 1) id (id + length (b ∷ bs)) (batch_items t cursor ordinal (id + 1) bs) (omega arith) (subst (λ (n : ℕ). Rises (id + 1) n (batch_items t cursor ordinal (id + 1) bs)) high (later ordinal))
 
-commit-rises : (t cursor id : ℕ) (c : Commit) → Rises id (id + made_by c) (items t cursor id c)
+commit-rises : (t cursor id : ℕ) (c : Commit) → Rises id (id + commit_extents c) (items t cursor id c)
 commit-rises t cursor id (CreateTable name schema) = omega arith
 commit-rises t cursor id (CreateView view) = omega arith
 commit-rises t cursor id (SetPolicy table entries) = omega arith
@@ -81,34 +81,34 @@ commit-rises t cursor id (AlterMerge table columns) = omega arith
 commit-rises t cursor id (Ingest batches failures) = items-rise t cursor 0 id batches
 
 -- and so do all extents of a table after one more operation
-after-rises : (h : History) (t low : ℕ) (o : Operation) (is : List ExtentItem) → ((table : ℕ) (old : List ℕ) (new : ℕ) → o ≡ operation.Merge table old new → new ≡ 1 + made_in h)
-    → Rises low (1 + made_in h) is → Rises low (1 + made_in h + made_of o) (items_after t (cursor h + 1) (1 + made_in h) o is)
-after-rises h t low (operation.Commit c) is next rises = Rises-append low (1 + made_in h) (1 + made_in h + made_by c) is (items t (cursor h + 1) (1 + made_in h) c) rises (commit-rises t (cursor h + 1) (1 + made_in h) c)
-after-rises h t low (operation.Fold view to) is next rises = Rises-higher low (1 + made_in h) (1 + made_in h + 0) is (omega arith) rises
+after-rises : (h : History) (t low : ℕ) (o : Operation) (is : List ExtentItem) → ((table : ℕ) (old : List ℕ) (new : ℕ) → o ≡ operation.Merge table old new → new ≡ 1 + extents_made h)
+    → Rises low (1 + extents_made h) is → Rises low (1 + extents_made h + operation_extents o) (items_after t (cursor h + 1) (1 + extents_made h) o is)
+after-rises h t low (operation.Commit c) is next rises = Rises-append low (1 + extents_made h) (1 + extents_made h + commit_extents c) is (items t (cursor h + 1) (1 + extents_made h) c) rises (commit-rises t (cursor h + 1) (1 + extents_made h) c)
+after-rises h t low (operation.Fold view to) is next rises = Rises-higher low (1 + extents_made h) (1 + extents_made h + 0) is (omega arith) rises
 after-rises h t low (operation.Merge table old new) is next rises = by_test (nat_eq table t)
   where
-    at : new ≡ 1 + made_in h
+    at : new ≡ 1 + extents_made h
     at = next table old new refl
 
-    by_test : (b : Bool) → Rises low (1 + made_in h + 1) (cond b (merged old new is) is)
+    by_test : (b : Bool) → Rises low (1 + extents_made h + 1) (cond b (merged old new is) is)
     by_test true =
-        Rises-append low (1 + made_in h) (1 + made_in h + 1) (filter (λ i. not (has_id_of old i)) is) (united new (filter (has_id_of old) is) ∷ [])
-        (Rises-filter (λ i. not (has_id_of old i)) low (1 + made_in h) is rises) (omega (arith, at), omega (arith, at))
-    by_test false = Rises-higher low (1 + made_in h) (1 + made_in h + 1) is (omega arith) rises
+        Rises-append low (1 + extents_made h) (1 + extents_made h + 1) (filter (λ i. not (has_id_of old i)) is) (united new (filter (has_id_of old) is) ∷ [])
+        (Rises-filter (λ i. not (has_id_of old i)) low (1 + extents_made h) is rises) (omega (arith, at), omega (arith, at))
+    by_test false = Rises-higher low (1 + extents_made h) (1 + extents_made h + 1) is (omega arith) rises
 
-new_id : (limits : Limits) (h : History) (o : Operation) → LawfulOperation limits h o → (table : ℕ) (old : List ℕ) (new : ℕ) → o ≡ operation.Merge table old new → new ≡ 1 + made_in h
+new_id : (limits : Limits) (h : History) (o : Operation) → LawfulOperation limits h o → (table : ℕ) (old : List ℕ) (new : ℕ) → o ≡ operation.Merge table old new → new ≡ 1 + extents_made h
 new_id limits h o lawful table old new is = (subst (LawfulOperation limits h) is lawful).next
 
-push-rises : (limits : Limits) (h : History) (e : Event) (t low : ℕ) → Lawful limits h e → Rises low (1 + made_in h) (extents h t) → Rises low (1 + made_in (h ++ e ∷ [])) (extents (h ++ e ∷ []) t)
+push-rises : (limits : Limits) (h : History) (e : Event) (t low : ℕ) → Lawful limits h e → Rises low (1 + extents_made h) (extents h t) → Rises low (1 + extents_made (h ++ e ∷ [])) (extents (h ++ e ∷ []) t)
 push-rises limits h e t low lawful rises =
-    let high : 1 + made_in h + made_of e.operation ≡ 1 + made_in (h ++ e ∷ []) = let more = made_in-push h e in omega (arith, more) in
-    subst (Rises low (1 + made_in (h ++ e ∷ []))) (sym (extents-push h t e))
-    (subst (λ (n : ℕ). Rises low n (items_after t (cursor h + 1) (1 + made_in h) e.operation (extents h t))) high
+    let high : 1 + extents_made h + operation_extents e.operation ≡ 1 + extents_made (h ++ e ∷ []) = let more = extents_made-push h e in omega (arith, more) in
+    subst (Rises low (1 + extents_made (h ++ e ∷ []))) (sym (extents-push h t e))
+    (subst (λ (n : ℕ). Rises low n (items_after t (cursor h + 1) (1 + extents_made h) e.operation (extents h t))) high
     (after-rises h t low e.operation (extents h t) (new_id limits h e.operation lawful.operation) rises))
 
 -- the ids of a table's extents rise, and are below the next
-pub extents-rise : (limits : Limits) (h : History) → AreLawful limits h → (t : ℕ) → Rises 1 (1 + made_in h) (extents h t)
-extents-rise limits h all = AreLawful-induct limits (λ (g : History). (t : ℕ) → Rises 1 (1 + made_in g) (extents g t)) (λ t. omega arith) (λ g e before lawful t. push-rises limits g e t 1 lawful (before t)) h all
+pub extents-rise : (limits : Limits) (h : History) → AreLawful limits h → (t : ℕ) → Rises 1 (1 + extents_made h) (extents h t)
+extents-rise limits h all = AreLawful-induct limits (λ (g : History). (t : ℕ) → Rises 1 (1 + extents_made g) (extents g t)) (λ t. omega arith) (λ g e before lawful t. push-rises limits g e t 1 lawful (before t)) h all
 
 -- ---- a merge by ids
 
@@ -205,7 +205,7 @@ first_picked h t k within =
 pub merge-takes : (limits : Limits) (h : History) (t k : ℕ) → AreLawful limits h → k ≤ length (picked h t) → Takes is_small_item k (extents h t) (item_ids (take k (picked h t)))
 merge-takes limits h t k all within =
     subst (λ (is : List ExtentItem). Takes is_small_item k (extents h t) (item_ids is)) (sym (first_picked h t k within))
-    (Takes-first is_small_item k 1 (1 + made_in h) (extents h t) (extents-rise limits h all t))
+    (Takes-first is_small_item k 1 (1 + extents_made h) (extents h t) (extents-rise limits h all t))
 
 -- ---- later merges
 
@@ -229,7 +229,7 @@ abbrev pub IsGone : ℕ → History → ℕ → Type 0
 IsGone id g t = list_any (nat_eq id) (item_ids (extents g t)) ≡ false
 
 abbrev pub Stays : ExtentItem → List ExtentItem → ℕ → History → Type 0
-Stays first others t g = Goes_on first others g t ⊎ (Rises (first.id + 1) (1 + made_in g) (small_items g t) × IsGone first.id g t)
+Stays first others t g = Goes_on first others g t ⊎ (Rises (first.id + 1) (1 + extents_made g) (small_items g t) × IsGone first.id g t)
 
 none_of_both : (n : ℕ) (is js : List ExtentItem) → list_any (nat_eq n) (item_ids is) ≡ false → list_any (nat_eq n) (item_ids js) ≡ false → list_any (nat_eq n) (item_ids (is ++ js)) ≡ false
 none_of_both n [] js a b = b
@@ -267,17 +267,17 @@ first_gone id ids (i ∷ is) = by_case (eqb_tells i.id id) (first_gone id ids is
     by_case (inl h) later = ap (λ (b : Bool). list_any (nat_eq id) (item_ids (cond (not (b || has_id_of ids i)) (i ∷ keeps) keeps))) h.0 ∙ later
     by_case (inr h) later = by_test (not (nat_eq i.id id || has_id_of ids i)) (ne_eqb id i.id (λ same. h.1 (sym same))) later
 
-stays_more : (limits : Limits) (first : ExtentItem) (others : List ExtentItem) (t : ℕ) (g : History) (e : Event) → AreLawful limits g → first.id ≤ made_in g → Stays first others t g → Lawful limits g e → Stays first others t (g ++ e ∷ [])
+stays_more : (limits : Limits) (first : ExtentItem) (others : List ExtentItem) (t : ℕ) (g : History) (e : Event) → AreLawful limits g → first.id ≤ extents_made g → Stays first others t g → Lawful limits g e → Stays first others t (g ++ e ∷ [])
 stays_more limits first others t g e all low stays lawful = by_operation e.operation refl lawful.operation
   where
     next : History
     next = g ++ e ∷ []
 
-    not_new : (new : List ExtentItem) → Rises (1 + made_in g) (1 + made_in next) new → list_any (nat_eq first.id) (item_ids new) ≡ false
-    not_new new above = not_theirs first.id (1 + made_in g) (1 + made_in next) new (omega (arith, low)) above
+    not_new : (new : List ExtentItem) → Rises (1 + extents_made g) (1 + extents_made next) new → list_any (nat_eq first.id) (item_ids new) ≡ false
+    not_new new above = not_theirs first.id (1 + extents_made g) (1 + extents_made next) new (omega (arith, low)) above
 
     -- some extents more, of which the small ones are these
-    longer : (new : List ExtentItem) → extents next t ≡ extents g t ++ new → Rises (1 + made_in g) (1 + made_in next) new → Stays first others t g → Stays first others t next
+    longer : (new : List ExtentItem) → extents next t ≡ extents g t ++ new → Rises (1 + extents_made g) (1 + extents_made next) new → Stays first others t g → Stays first others t next
     longer new is above (inl goes) =
         let last = filter is_small_item new in
         inl (record {
@@ -286,32 +286,32 @@ stays_more limits first others t g e all low stays lawful = by_operation e.opera
         })
     longer new is above (inr gone) =
         let last = filter is_small_item new in
-        let small = Rises-filter is_small_item (1 + made_in g) (1 + made_in next) new above in
+        let small = Rises-filter is_small_item (1 + extents_made g) (1 + extents_made next) new above in
         inr (
-          subst (Rises (first.id + 1) (1 + made_in next)) (sym (ap (filter is_small_item) is ∙ filter-append is_small_item (extents g t) new))
-              (Rises-append (first.id + 1) (1 + made_in g) (1 + made_in next) (small_items g t) last gone.0 small),
+          subst (Rises (first.id + 1) (1 + extents_made next)) (sym (ap (filter is_small_item) is ∙ filter-append is_small_item (extents g t) new))
+              (Rises-append (first.id + 1) (1 + extents_made g) (1 + extents_made next) (small_items g t) last gone.0 small),
           subst (λ (js : List ExtentItem). list_any (nat_eq first.id) (item_ids js) ≡ false) (sym is) (none_of_both first.id (extents g t) new gone.1 (not_new new above)),
         )
 
     -- the first small extents replaced by one
     fewer : (k : ℕ) (old : List ℕ) (one : ExtentItem) → 1 ≤ k → old ≡ item_ids (take k (small_items g t)) → Takes is_small_item k (extents g t) old
-        → extents next t ≡ filter (λ i. not (has_id_of old i)) (extents g t) ++ one ∷ [] → Rises (1 + made_in g) (1 + made_in next) (one ∷ []) → Stays first others t g → Stays first others t next
+        → extents next t ≡ filter (λ i. not (has_id_of old i)) (extents g t) ++ one ∷ [] → Rises (1 + extents_made g) (1 + extents_made next) (one ∷ []) → Stays first others t g → Stays first others t next
     fewer zero old one some ids takes is above s = absurd (omega (arith, some))
     fewer (suc k) old one some ids takes is above s =
         let last = filter is_small_item (one ∷ []) in
-        let small = Rises-filter is_small_item (1 + made_in g) (1 + made_in next) (one ∷ []) above in
+        let small = Rises-filter is_small_item (1 + extents_made g) (1 + extents_made next) (one ∷ []) above in
         let keeps = filter (λ i. not (has_id_of old i)) (extents g t) in
         let now : small_items next t ≡ drop (suc k) (small_items g t) ++ last = ap (filter is_small_item) is ∙ filter-append is_small_item keeps (one ∷ []) ∙ ap (λ (js : List ExtentItem). js ++ last) takes.some in
         inr (
-          subst (Rises (first.id + 1) (1 + made_in next)) (sym now) (Rises-append (first.id + 1) (1 + made_in g) (1 + made_in next) (drop (suc k) (small_items g t)) last (dropped s) small),
+          subst (Rises (first.id + 1) (1 + extents_made next)) (sym now) (Rises-append (first.id + 1) (1 + extents_made g) (1 + extents_made next) (drop (suc k) (small_items g t)) last (dropped s) small),
           subst (λ (js : List ExtentItem). list_any (nat_eq first.id) (item_ids js) ≡ false) (sym is) (none_of_both first.id keeps (one ∷ []) (kept s) (not_new (one ∷ []) above)),
         )
       where
-        dropped : Stays first others t g → Rises (first.id + 1) (1 + made_in g) (drop (suc k) (small_items g t))
+        dropped : Stays first others t g → Rises (first.id + 1) (1 + extents_made g) (drop (suc k) (small_items g t))
         dropped (inl goes) =
-            let small = subst (Rises 1 (1 + made_in g)) goes.is (Rises-filter is_small_item 1 (1 + made_in g) (extents g t) (extents-rise limits g all t)) in
-            subst (λ (js : List ExtentItem). Rises (first.id + 1) (1 + made_in g) (drop (suc k) js)) (sym goes.is) (Rises-drop k (first.id + 1) (1 + made_in g) (others ++ goes.more) small.1)
-        dropped (inr gone) = Rises-drop (suc k) (first.id + 1) (1 + made_in g) (small_items g t) gone.0
+            let small = subst (Rises 1 (1 + extents_made g)) goes.is (Rises-filter is_small_item 1 (1 + extents_made g) (extents g t) (extents-rise limits g all t)) in
+            subst (λ (js : List ExtentItem). Rises (first.id + 1) (1 + extents_made g) (drop (suc k) js)) (sym goes.is) (Rises-drop k (first.id + 1) (1 + extents_made g) (others ++ goes.more) small.1)
+        dropped (inr gone) = Rises-drop (suc k) (first.id + 1) (1 + extents_made g) (small_items g t) gone.0
 
         kept : Stays first others t g → list_any (nat_eq first.id) (item_ids (filter (λ i. not (has_id_of old i)) (extents g t))) ≡ false
         kept (inl goes) =
@@ -319,11 +319,11 @@ stays_more limits first others t g e all low stays lawful = by_operation e.opera
             (sym (ids ∙ ap (λ (js : List ExtentItem). item_ids (take (suc k) js)) goes.is)) (first_gone first.id (item_ids (take k (others ++ goes.more))) (extents g t))
         kept (inr gone) = none_kept first.id (λ i. not (has_id_of old i)) (extents g t) gone.1
 
-    high : (o : Operation) → e.operation ≡ o → 1 + made_in g + made_of o ≡ 1 + made_in next
-    high o is = let more = made_in-push g e ∙ ap (λ (p : Operation). made_in g + made_of p) is in omega (arith, more)
+    high : (o : Operation) → e.operation ≡ o → 1 + extents_made g + operation_extents o ≡ 1 + extents_made next
+    high o is = let more = extents_made-push g e ∙ ap (λ (p : Operation). extents_made g + operation_extents p) is in omega (arith, more)
 
-    at : (o : Operation) → e.operation ≡ o → extents next t ≡ items_after t (cursor g + 1) (1 + made_in g) o (extents g t)
-    at o is = extents-push g t e ∙ ap (λ (p : Operation). items_after t (cursor g + 1) (1 + made_in g) p (extents g t)) is
+    at : (o : Operation) → e.operation ≡ o → extents next t ≡ items_after t (cursor g + 1) (1 + extents_made g) o (extents g t)
+    at o is = extents-push g t e ∙ ap (λ (p : Operation). items_after t (cursor g + 1) (1 + extents_made g) p (extents g t)) is
 
     by_merge : (table : ℕ) (old : List ℕ) (new : ℕ) → e.operation ≡ operation.Merge table old new → IsMerge g table old new → (b : Bool) → nat_eq table t ≡ b → Stays first others t next
     by_merge table old new is merge false other =
@@ -334,14 +334,14 @@ stays_more limits first others t g e all low stays lawful = by_operation e.opera
         let takes = subst (Takes is_small_item here.count (extents g t)) (sym here.first) (merge-takes limits g t here.count all here.within) in
         let one = united new (filter (has_id_of old) (extents g t)) in
         let more = high (operation.Merge table old new) is in
-        let above : Rises (1 + made_in g) (1 + made_in next) (one ∷ []) = (omega (arith, here.next), omega (arith, here.next, more)) in
+        let above : Rises (1 + extents_made g) (1 + extents_made next) (one ∷ []) = (omega (arith, here.next), omega (arith, here.next, more)) in
         fewer here.count old one (omega (arith, here.some)) (here.first ∙ ap item_ids (first_picked g t here.count here.within)) takes
         (at (operation.Merge table old new) is ∙ ap (λ (b : Bool). cond b (merged old new (extents g t)) (extents g t)) same) above stays
 
     by_operation : (o : Operation) → e.operation ≡ o → LawfulOperation limits g o → Stays first others t next
     by_operation (operation.Commit c) is lawful =
-        let new = items t (cursor g + 1) (1 + made_in g) c in
-        longer new (at (operation.Commit c) is) (subst (λ (n : ℕ). Rises (1 + made_in g) n new) (high (operation.Commit c) is) (commit-rises t (cursor g + 1) (1 + made_in g) c)) stays
+        let new = items t (cursor g + 1) (1 + extents_made g) c in
+        longer new (at (operation.Commit c) is) (subst (λ (n : ℕ). Rises (1 + extents_made g) n new) (high (operation.Commit c) is) (commit-rises t (cursor g + 1) (1 + extents_made g) c)) stays
     by_operation (operation.Fold view to) is lawful =
         longer [] (at (operation.Fold view to) is ∙ sym (append-nil (extents g t))) (let more = high (operation.Fold view to) is in omega (arith, more)) stays
     by_operation (operation.Merge table old new) is lawful = by_merge table old new is lawful (nat_eq table t) refl
@@ -356,17 +356,17 @@ stays_on limits h more t first others all before = end.2
     parts : AreLawful limits h × AreLawfulAfter limits h more
     parts = lawful_parts limits h more all
 
-    low : first.id ≤ made_in h
+    low : first.id ≤ extents_made h
     low =
-        let small = subst (Rises 1 (1 + made_in h)) before (Rises-filter is_small_item 1 (1 + made_in h) (extents h t) (extents-rise limits h parts.0 t)) in
-        let bound = Rises-bound (first.id + 1) (1 + made_in h) others small.1 in
+        let small = subst (Rises 1 (1 + extents_made h)) before (Rises-filter is_small_item 1 (1 + extents_made h) (extents h t) (extents-rise limits h parts.0 t)) in
+        let bound = Rises-bound (first.id + 1) (1 + extents_made h) others small.1 in
         omega (arith, bound)
 
     Holds : History → Type 0
-    Holds g = AreLawful limits g × (first.id ≤ made_in g) × Stays first others t g
+    Holds g = AreLawful limits g × (first.id ≤ extents_made g) × Stays first others t g
 
     one_more : (g : History) (e : Event) → Holds g → Lawful limits g e → Holds (g ++ e ∷ [])
-    one_more g e so_far lawful = (AreLawful-push limits g e so_far.0 lawful, (let more = made_in-push g e in omega (arith, more, so_far.1)), stays_more limits first others t g e so_far.0 so_far.1 so_far.2 lawful)
+    one_more g e so_far lawful = (AreLawful-push limits g e so_far.0 lawful, (let more = extents_made-push g e in omega (arith, more, so_far.1)), stays_more limits first others t g e so_far.0 so_far.1 so_far.2 lawful)
 
     end : Holds (h ++ more)
     end = AreLawfulAfter-induct limits Holds one_more h more (parts.0, low, inl (record { more = []; is = before ∙ sym (append-nil (first ∷ others)) })) parts.1
@@ -378,7 +378,7 @@ still_first limits h more t first now others later all before after same = by_ca
   where
     by_case : Stays first others t (h ++ more) → Goes_on first others (h ++ more) t
     by_case (inl goes) = goes
-    by_case (inr gone) = let over = subst (Rises (first.id + 1) (1 + made_in (h ++ more))) after gone.0 in absurd (omega (arith, over.0, same))
+    by_case (inr gone) = let over = subst (Rises (first.id + 1) (1 + extents_made (h ++ more))) after gone.0 in absurd (omega (arith, over.0, same))
 
 -- where it has another, or there is none, the first is gone
 pub gone_after : (limits : Limits) (h more : History) (t : ℕ) (first : ExtentItem) (others : List ExtentItem) → AreLawful limits (h ++ more)

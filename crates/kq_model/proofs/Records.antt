@@ -7,7 +7,7 @@ use Rattle.kq_model.specs.declared.batch.Batch.{Batch}
 use Rattle.kq_model.specs.declared.event.Commit.{Commit}
 use Rattle.kq_model.specs.declared.event.Event.{Event}
 use Rattle.kq_model.specs.History.{History, Log, log, cursor, commits_of}
-use Rattle.kq_model.specs.Records.{given, rows_to, records_from, records_given, ExtentItem, items_after, made_of, made_in, extents_from, extents}
+use Rattle.kq_model.specs.Records.{given, rows_to, records_from, records_given, ExtentItem, items_after, operation_extents, extents_made, extents_from, extents}
 
 records_from-push : (t n : ℕ) (l : Log) (c : Commit) → records_from t n (l ++ c ∷ []) ≡ records_from t n l ++ given t (n + length l + 1) c
 records_from-push t n [] c = rw add-zero (append-nil (given t (n + 1) c))
@@ -20,25 +20,25 @@ records_from-push t n (x ∷ l) c =
 pub records-push : (l : Log) (t : ℕ) (c : Commit) → records_given (l ++ c ∷ []) t ≡ records_given l t ++ given t (length l + 1) c
 records-push l t c = subst (λ (k : ℕ). records_from t 0 (l ++ c ∷ []) ≡ records_from t 0 l ++ given t (k + 1) c) (zero-add (length l)) (records_from-push t 0 l c)
 
-pub made_in-push : (h : History) (e : Event) → made_in (h ++ e ∷ []) ≡ made_in h + made_of e.operation
-made_in-push [] e = omega arith
-made_in-push (x ∷ h) e = let more = made_in-push h e in omega (arith, more)
+pub extents_made-push : (h : History) (e : Event) → extents_made (h ++ e ∷ []) ≡ extents_made h + operation_extents e.operation
+extents_made-push [] e = omega arith
+extents_made-push (x ∷ h) e = let more = extents_made-push h e in omega (arith, more)
 
 extents_from-push : (t n id : ℕ) (is : List ExtentItem) (h : History) (e : Event)
-    → extents_from t n id is (h ++ e ∷ []) ≡ items_after t (n + cursor h + 1) (id + made_in h) e.operation (extents_from t n id is h)
+    → extents_from t n id is (h ++ e ∷ []) ≡ items_after t (n + cursor h + 1) (id + extents_made h) e.operation (extents_from t n id is h)
 extents_from-push t n id is [] e = rw (add-zero, add-zero) refl
 extents_from-push t n id is (x ∷ h) e =
     let more = length-append (commits_of x.operation) (log h) in
     let next : n + length (commits_of x.operation) + cursor h + 1 ≡ n + cursor (x ∷ h) + 1 = omega (arith, more) in
-    let later : id + made_of x.operation + made_in h ≡ id + made_in (x ∷ h) = omega arith in
-    let all = extents_from t (n + length (commits_of x.operation)) (id + made_of x.operation) (items_after t (n + 1) id x.operation is) h in
-    extents_from-push t (n + length (commits_of x.operation)) (id + made_of x.operation) (items_after t (n + 1) id x.operation is) h e
-    ∙ ap (λ (k : ℕ). items_after t k (id + made_of x.operation + made_in h) e.operation all) next
+    let later : id + operation_extents x.operation + extents_made h ≡ id + extents_made (x ∷ h) = omega arith in
+    let all = extents_from t (n + length (commits_of x.operation)) (id + operation_extents x.operation) (items_after t (n + 1) id x.operation is) h in
+    extents_from-push t (n + length (commits_of x.operation)) (id + operation_extents x.operation) (items_after t (n + 1) id x.operation is) h e
+    ∙ ap (λ (k : ℕ). items_after t k (id + operation_extents x.operation + extents_made h) e.operation all) next
     ∙ ap (λ (k : ℕ). items_after t (n + cursor (x ∷ h) + 1) k e.operation all) later
 
 -- an event's extents come last, under the next ids
-pub extents-push : (h : History) (t : ℕ) (e : Event) → extents (h ++ e ∷ []) t ≡ items_after t (cursor h + 1) (1 + made_in h) e.operation (extents h t)
-extents-push h t e = subst (λ (k : ℕ). extents (h ++ e ∷ []) t ≡ items_after t (k + 1) (1 + made_in h) e.operation (extents h t)) (zero-add (cursor h)) (extents_from-push t 0 1 [] h e)
+pub extents-push : (h : History) (t : ℕ) (e : Event) → extents (h ++ e ∷ []) t ≡ items_after t (cursor h + 1) (1 + extents_made h) e.operation (extents h t)
+extents-push h t e = subst (λ (k : ℕ). extents (h ++ e ∷ []) t ≡ items_after t (k + 1) (1 + extents_made h) e.operation (extents h t)) (zero-add (cursor h)) (extents_from-push t 0 1 [] h e)
 
 pub rows_to-push : (t : ℕ) (bs : List Batch) (b : Batch) → rows_to t (bs ++ b ∷ []) ≡ rows_to t bs + cond (nat_eq b.table t) (length b.rows) 0
 rows_to-push t [] b = omega arith

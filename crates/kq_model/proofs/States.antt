@@ -20,7 +20,7 @@ use Rattle.kq_model.specs.Edits.{edited_by, edits_of, item_with, new_extents, wi
 use Rattle.kq_model.specs.Changed.{changed}
 use Rattle.kq_model.specs.History.{History, Log, log, cursor, tables, widened_table, commits_of}
 use Rattle.kq_model.specs.Lawful.{AreLawful}
-use Rattle.kq_model.specs.Records.{records_given, extents, given_by, items, items_by, items_after, item_of, rows_to, made_in, merged, ExtentItem}
+use Rattle.kq_model.specs.Records.{records_given, extents, batch_records, items, batch_items, items_after, batch_item, rows_to, extents_made, merged, ExtentItem}
 use Rattle.kq_model.specs.Tables.{TableState, states_from, table_states}
 use Rattle.kq_model.proofs.Bounded.{IsBounded-lawful, no_items}
 use Rattle.kq_model.proofs.Histories.{log-push, tables-push}
@@ -88,41 +88,41 @@ one_extent n (suc k) j (t ∷ ts) rs is id new tags at =
 
 -- a batch gives its rows behind what was given
 one_given : (xs : List Record) (m cursor : ℕ) (before : List Batch) (b : Batch) (bs : List Batch)
-    → (xs ++ cond (nat_eq b.table m) (numbered cursor (rows_to b.table before) b.rows) []) ++ given_by m cursor (rows_to m (before ++ b ∷ [])) bs ≡ xs ++ given_by m cursor (rows_to m before) (b ∷ bs)
+    → (xs ++ cond (nat_eq b.table m) (numbered cursor (rows_to b.table before) b.rows) []) ++ batch_records m cursor (rows_to m (before ++ b ∷ [])) bs ≡ xs ++ batch_records m cursor (rows_to m before) (b ∷ bs)
 one_given xs m cursor before b bs =
-    ap (λ (k : ℕ). (xs ++ cond (nat_eq b.table m) (numbered cursor (rows_to b.table before) b.rows) []) ++ given_by m cursor k bs) (rows_to-push m before b) ∙ by_case (eqb_tells b.table m)
+    ap (λ (k : ℕ). (xs ++ cond (nat_eq b.table m) (numbered cursor (rows_to b.table before) b.rows) []) ++ batch_records m cursor k bs) (rows_to-push m before b) ∙ by_case (eqb_tells b.table m)
   where
     by_case : ((nat_eq b.table m ≡ true) × (b.table ≡ m)) ⊎ ((nat_eq b.table m ≡ false) × (b.table ≢ m))
-        → (xs ++ cond (nat_eq b.table m) (numbered cursor (rows_to b.table before) b.rows) []) ++ given_by m cursor (rows_to m before + cond (nat_eq b.table m) (length b.rows) 0) bs
-        ≡ xs ++ cond (nat_eq b.table m) (numbered cursor (rows_to m before) b.rows ++ given_by m cursor (rows_to m before + length b.rows) bs) (given_by m cursor (rows_to m before) bs)
+        → (xs ++ cond (nat_eq b.table m) (numbered cursor (rows_to b.table before) b.rows) []) ++ batch_records m cursor (rows_to m before + cond (nat_eq b.table m) (length b.rows) 0) bs
+        ≡ xs ++ cond (nat_eq b.table m) (numbered cursor (rows_to m before) b.rows ++ batch_records m cursor (rows_to m before + length b.rows) bs) (batch_records m cursor (rows_to m before) bs)
     by_case (inl h) =
         rw h.0
-        (append_assoc xs (numbered cursor (rows_to b.table before) b.rows) (given_by m cursor (rows_to m before + length b.rows) bs)
-        ∙ ap (λ (k : ℕ). xs ++ (numbered cursor (rows_to k before) b.rows ++ given_by m cursor (rows_to m before + length b.rows) bs)) h.1)
+        (append_assoc xs (numbered cursor (rows_to b.table before) b.rows) (batch_records m cursor (rows_to m before + length b.rows) bs)
+        ∙ ap (λ (k : ℕ). xs ++ (numbered cursor (rows_to k before) b.rows ++ batch_records m cursor (rows_to m before + length b.rows) bs)) h.1)
     by_case (inr h) =
         rw h.0
-        (ap (λ (ys : List Record). ys ++ given_by m cursor (rows_to m before + 0) bs) (append-nil xs) ∙ ap (λ (k : ℕ). xs ++ given_by m cursor k bs) (add-zero (rows_to m before)))
+        (ap (λ (ys : List Record). ys ++ batch_records m cursor (rows_to m before + 0) bs) (append-nil xs) ∙ ap (λ (k : ℕ). xs ++ batch_records m cursor k bs) (add-zero (rows_to m before)))
 
 -- and is an extent behind those that were there
 one_item : (xs : List ExtentItem) (m cursor id : ℕ) (before : List Batch) (b : Batch) (bs : List Batch)
-    → (xs ++ cond (nat_eq b.table m) (item_with id (numbered cursor (rows_to b.table before) b.rows) b.tags ∷ []) []) ++ items_by m cursor (rows_to m (before ++ b ∷ [])) (id + 1) bs ≡ xs ++ items_by m cursor (rows_to m before) id (b ∷ bs)
+    → (xs ++ cond (nat_eq b.table m) (item_with id (numbered cursor (rows_to b.table before) b.rows) b.tags ∷ []) []) ++ batch_items m cursor (rows_to m (before ++ b ∷ [])) (id + 1) bs ≡ xs ++ batch_items m cursor (rows_to m before) id (b ∷ bs)
 one_item xs m cursor id before b bs =
-    ap (λ (k : ℕ). (xs ++ cond (nat_eq b.table m) (item_with id (numbered cursor (rows_to b.table before) b.rows) b.tags ∷ []) []) ++ items_by m cursor k (id + 1) bs) (rows_to-push m before b) ∙ by_case (eqb_tells b.table m)
+    ap (λ (k : ℕ). (xs ++ cond (nat_eq b.table m) (item_with id (numbered cursor (rows_to b.table before) b.rows) b.tags ∷ []) []) ++ batch_items m cursor k (id + 1) bs) (rows_to-push m before b) ∙ by_case (eqb_tells b.table m)
   where
     by_case : ((nat_eq b.table m ≡ true) × (b.table ≡ m)) ⊎ ((nat_eq b.table m ≡ false) × (b.table ≢ m))
-        → (xs ++ cond (nat_eq b.table m) (item_with id (numbered cursor (rows_to b.table before) b.rows) b.tags ∷ []) []) ++ items_by m cursor (rows_to m before + cond (nat_eq b.table m) (length b.rows) 0) (id + 1) bs
-        ≡ xs ++ cond (nat_eq b.table m) (item_of id cursor (rows_to m before) b ∷ items_by m cursor (rows_to m before + length b.rows) (id + 1) bs) (items_by m cursor (rows_to m before) (id + 1) bs)
+        → (xs ++ cond (nat_eq b.table m) (item_with id (numbered cursor (rows_to b.table before) b.rows) b.tags ∷ []) []) ++ batch_items m cursor (rows_to m before + cond (nat_eq b.table m) (length b.rows) 0) (id + 1) bs
+        ≡ xs ++ cond (nat_eq b.table m) (batch_item id cursor (rows_to m before) b ∷ batch_items m cursor (rows_to m before + length b.rows) (id + 1) bs) (batch_items m cursor (rows_to m before) (id + 1) bs)
     by_case (inl h) =
         rw h.0
-        (append_assoc xs (item_of id cursor (rows_to b.table before) b ∷ []) (items_by m cursor (rows_to m before + length b.rows) (id + 1) bs)
-        ∙ ap (λ (k : ℕ). xs ++ item_of id cursor (rows_to k before) b ∷ items_by m cursor (rows_to m before + length b.rows) (id + 1) bs) h.1)
+        (append_assoc xs (batch_item id cursor (rows_to b.table before) b ∷ []) (batch_items m cursor (rows_to m before + length b.rows) (id + 1) bs)
+        ∙ ap (λ (k : ℕ). xs ++ batch_item id cursor (rows_to k before) b ∷ batch_items m cursor (rows_to m before + length b.rows) (id + 1) bs) h.1)
     by_case (inr h) =
         rw h.0
-        (ap (λ (ys : List ExtentItem). ys ++ items_by m cursor (rows_to m before + 0) (id + 1) bs) (append-nil xs) ∙ ap (λ (k : ℕ). xs ++ items_by m cursor k (id + 1) bs) (add-zero (rows_to m before)))
+        (ap (λ (ys : List ExtentItem). ys ++ batch_items m cursor (rows_to m before + 0) (id + 1) bs) (append-nil xs) ∙ ap (λ (k : ℕ). xs ++ batch_items m cursor k (id + 1) bs) (add-zero (rows_to m before)))
 
 -- all batches of a commit
 all_extents : (ts : List Table) (rs : ℕ → List Record) (is : ℕ → List ExtentItem) (cursor id : ℕ) (before bs : List Batch)
-    → edited_by (states_by 0 ts rs is) (new_extents cursor id before bs) ≡ states_by 0 ts (λ m. rs m ++ given_by m cursor (rows_to m before) bs) (λ m. is m ++ items_by m cursor (rows_to m before) id bs)
+    → edited_by (states_by 0 ts rs is) (new_extents cursor id before bs) ≡ states_by 0 ts (λ m. rs m ++ batch_records m cursor (rows_to m before) bs) (λ m. is m ++ batch_items m cursor (rows_to m before) id bs)
 all_extents ts rs is cursor id before [] =
     states_same 0 ts rs (λ m. rs m ++ []) is (λ m. is m ++ []) (λ m past. sym (append-nil (rs m))) (λ m past. sym (append-nil (is m)))
 all_extents ts rs is cursor id before (b ∷ bs) =
@@ -131,8 +131,8 @@ all_extents ts rs is cursor id before (b ∷ bs) =
     ap (λ (ss : List TableState). edited_by ss (new_extents cursor (id + 1) (before ++ b ∷ []) bs)) (one_extent 0 b.table b.table ts rs is id new b.tags (sym (zero-add b.table)))
     ∙ all_extents ts (more_records b.table new rs) (more_items b.table item is) cursor (id + 1) (before ++ b ∷ []) bs
     ∙ states_same 0 ts
-    (λ m. more_records b.table new rs m ++ given_by m cursor (rows_to m (before ++ b ∷ [])) bs) (λ m. rs m ++ given_by m cursor (rows_to m before) (b ∷ bs))
-    (λ m. more_items b.table item is m ++ items_by m cursor (rows_to m (before ++ b ∷ [])) (id + 1) bs) (λ m. is m ++ items_by m cursor (rows_to m before) id (b ∷ bs))
+    (λ m. more_records b.table new rs m ++ batch_records m cursor (rows_to m (before ++ b ∷ [])) bs) (λ m. rs m ++ batch_records m cursor (rows_to m before) (b ∷ bs))
+    (λ m. more_items b.table item is m ++ batch_items m cursor (rows_to m (before ++ b ∷ [])) (id + 1) bs) (λ m. is m ++ batch_items m cursor (rows_to m before) id (b ∷ bs))
     (λ m past. one_given (rs m) m cursor before b bs) (λ m past. one_item (is m) m cursor id before b bs)
 
 abbrev states_at : History → List TableState
@@ -151,13 +151,13 @@ widened_states n zero at columns (t ∷ ts) rs is =
 widened_states n (suc k) at columns (t ∷ ts) rs is = ap (λ (ss : List TableState). state_with t (rs n) (is n) ∷ ss) (widened_states (n + 1) k at columns ts rs is)
 
 -- the states by the extents before an event, and the log after it
-states_by-push : (h : History) (e : Event) (l : Log) → log (h ++ e ∷ []) ≡ l → states_at (h ++ e ∷ []) ≡ states_by 0 (tables l) (records_given l) (λ m. items_after m (cursor h + 1) (1 + made_in h) e.operation (extents h m))
+states_by-push : (h : History) (e : Event) (l : Log) → log (h ++ e ∷ []) ≡ l → states_at (h ++ e ∷ []) ≡ states_by 0 (tables l) (records_given l) (λ m. items_after m (cursor h + 1) (1 + extents_made h) e.operation (extents h m))
 states_by-push h e l is =
     ap (λ (k : Log). states_by 0 (tables k) (records_given k) (extents (h ++ e ∷ []))) is
-    ∙ states_same 0 (tables l) (records_given l) (records_given l) (extents (h ++ e ∷ [])) (λ m. items_after m (cursor h + 1) (1 + made_in h) e.operation (extents h m)) (λ m some. refl) (λ m some. extents-push h m e)
+    ∙ states_same 0 (tables l) (records_given l) (records_given l) (extents (h ++ e ∷ [])) (λ m. items_after m (cursor h + 1) (1 + extents_made h) e.operation (extents h m)) (λ m some. refl) (λ m some. extents-push h m e)
 
 commit_more : (limits : Limits) (h : History) (c : Commit) → AreLawful limits h
-    → states_by 0 (tables (log h ++ c ∷ [])) (records_given (log h ++ c ∷ [])) (λ m. extents h m ++ items m (cursor h + 1) (1 + made_in h) c) ≡ edited_by (states_at h) (edits_of (cursor h + 1) (1 + made_in h) c)
+    → states_by 0 (tables (log h ++ c ∷ [])) (records_given (log h ++ c ∷ [])) (λ m. extents h m ++ items m (cursor h + 1) (1 + extents_made h) c) ≡ edited_by (states_at h) (edits_of (cursor h + 1) (1 + extents_made h) c)
 commit_more limits h (CreateTable name schema) lawful =
     let l = log h in
     let c = CreateTable name schema in
@@ -195,23 +195,23 @@ commit_more limits h (AlterMerge table columns) lawful =
 commit_more limits h (Ingest batches failures) lawful =
     let l = log h in
     let c = Ingest batches failures in
-    ap (λ (ts : List Table). states_by 0 ts (records_given (l ++ c ∷ [])) (λ m. extents h m ++ items m (cursor h + 1) (1 + made_in h) c)) (tables-push l c)
+    ap (λ (ts : List Table). states_by 0 ts (records_given (l ++ c ∷ [])) (λ m. extents h m ++ items m (cursor h + 1) (1 + extents_made h) c)) (tables-push l c)
     ∙ states_same 0 (tables l)
-    (records_given (l ++ c ∷ [])) (λ m. records_given l m ++ given_by m (length l + 1) 0 batches)
-    (λ m. extents h m ++ items m (cursor h + 1) (1 + made_in h) c) (λ m. extents h m ++ items_by m (length l + 1) 0 (1 + made_in h) batches)
+    (records_given (l ++ c ∷ [])) (λ m. records_given l m ++ batch_records m (length l + 1) 0 batches)
+    (λ m. extents h m ++ items m (cursor h + 1) (1 + extents_made h) c) (λ m. extents h m ++ batch_items m (length l + 1) 0 (1 + extents_made h) batches)
     (λ m some. records-push l m c) (λ m some. refl)
-    ∙ sym (all_extents (tables l) (records_given l) (extents h) (length l + 1) (1 + made_in h) [] batches)
+    ∙ sym (all_extents (tables l) (records_given l) (extents h) (length l + 1) (1 + extents_made h) [] batches)
 
 -- the states after a lawful history and a commit are those before, edited by the commit's edits
 pub table_states-push : (limits : Limits) (h : History) (e : Event) (c : Commit) → AreLawful limits h → e.operation ≡ operation.Commit c
-    → table_states (h ++ e ∷ []) ≡ edited_by (table_states h) (edits_of (cursor h + 1) (1 + made_in h) c)
+    → table_states (h ++ e ∷ []) ≡ edited_by (table_states h) (edits_of (cursor h + 1) (1 + extents_made h) c)
 table_states-push limits h e c lawful is =
     let logged : log (h ++ e ∷ []) ≡ log h ++ c ∷ [] = log-push h e ∙ ap (λ (o : Operation). log h ++ commits_of o) is in
     let l = log h ++ c ∷ [] in
     states_of (h ++ e ∷ []) ∙ states_by-push h e l logged
-    ∙ ap (λ (o : Operation). states_by 0 (tables l) (records_given l) (λ m. items_after m (cursor h + 1) (1 + made_in h) o (extents h m))) is
+    ∙ ap (λ (o : Operation). states_by 0 (tables l) (records_given l) (λ m. items_after m (cursor h + 1) (1 + extents_made h) o (extents h m))) is
     ∙ commit_more limits h c lawful
-    ∙ ap (λ (ss : List TableState). edited_by ss (edits_of (cursor h + 1) (1 + made_in h) c)) (sym (states_of h))
+    ∙ ap (λ (ss : List TableState). edited_by ss (edits_of (cursor h + 1) (1 + extents_made h) c)) (sym (states_of h))
 
 -- one table's extents merged
 abbrev one_merged : ℕ → List ℕ → ℕ → (ℕ → List ExtentItem) → ℕ → List ExtentItem
@@ -238,7 +238,7 @@ table_states-merge h e table old new is =
     let logged : log (h ++ e ∷ []) ≡ log h = log-push h e ∙ ap (λ (o : Operation). log h ++ commits_of o) is ∙ append-nil (log h) in
     let l = log h in
     states_of (h ++ e ∷ []) ∙ states_by-push h e l logged
-    ∙ ap (λ (o : Operation). states_by 0 (tables l) (records_given l) (λ m. items_after m (cursor h + 1) (1 + made_in h) o (extents h m))) is
+    ∙ ap (λ (o : Operation). states_by 0 (tables l) (records_given l) (λ m. items_after m (cursor h + 1) (1 + extents_made h) o (extents h m))) is
     ∙ sym (merged_at 0 table table (tables l) (records_given l) (extents h) old new (sym (zero-add table)))
     ∙ ap (changed (with_merged old new) table) (sym (states_of h))
 
@@ -248,7 +248,7 @@ table_states-fold h e view to is =
     let logged : log (h ++ e ∷ []) ≡ log h = log-push h e ∙ ap (λ (o : Operation). log h ++ commits_of o) is ∙ append-nil (log h) in
     let l = log h in
     states_of (h ++ e ∷ []) ∙ states_by-push h e l logged
-    ∙ ap (λ (o : Operation). states_by 0 (tables l) (records_given l) (λ m. items_after m (cursor h + 1) (1 + made_in h) o (extents h m))) is
+    ∙ ap (λ (o : Operation). states_by 0 (tables l) (records_given l) (λ m. items_after m (cursor h + 1) (1 + extents_made h) o (extents h m))) is
     ∙ sym (states_of h)
 
 -- the tables of the states are the history's

@@ -11,7 +11,7 @@ use Rattle.kq_model.specs.declared.batch.Batch.{Batch}
 use Rattle.kq_model.specs.declared.event.Commit.{Commit}
 use Rattle.kq_model.specs.declared.event.Commit.TheVariants.{CreateTable, SetPolicy, CreateView, AlterMerge, Ingest}
 use Rattle.kq_model.specs.History.{Log}
-use Rattle.kq_model.specs.Records.{given, given_by, ids_of, records, records_from, records_given, schema_of}
+use Rattle.kq_model.specs.Records.{given, batch_records, ids_of, records, records_from, records_given, schema_of}
 use Rattle.kq_widened.specs.Widened.{widened_records}
 
 -- a cursor and an ordinal that aren't behind others
@@ -44,13 +44,13 @@ numbered-climbs c o (r ∷ rows) =
     (inr (refl, omega arith), subst (λ (n : ℕ). Climbs c (o + 1) c n (numbered c (o + 1) rows)) end (numbered-climbs c (o + 1) rows))
 
 -- the rows of a commit have its cursor
-given_by-climbs : (t c o : ℕ) (bs : List Batch) → Climbs c o (c + 1) 0 (given_by t c o bs)
+given_by-climbs : (t c o : ℕ) (bs : List Batch) → Climbs c o (c + 1) 0 (batch_records t c o bs)
 given_by-climbs t c o [] = inl (omega arith)
 given_by-climbs t c o (b ∷ bs) = by_test (nat_eq b.table t) (given_by-climbs t c (o + length b.rows) bs) (given_by-climbs t c o bs)
   where
-    by_test : (is : Bool) → Climbs c (o + length b.rows) (c + 1) 0 (given_by t c (o + length b.rows) bs) → Climbs c o (c + 1) 0 (given_by t c o bs)
-        → Climbs c o (c + 1) 0 (cond is (numbered c o b.rows ++ given_by t c (o + length b.rows) bs) (given_by t c o bs))
-    by_test true later same = Climbs-append c o c (o + length b.rows) (c + 1) 0 (numbered c o b.rows) (given_by t c (o + length b.rows) bs) (numbered-climbs c o b.rows) later
+    by_test : (is : Bool) → Climbs c (o + length b.rows) (c + 1) 0 (batch_records t c (o + length b.rows) bs) → Climbs c o (c + 1) 0 (batch_records t c o bs)
+        → Climbs c o (c + 1) 0 (cond is (numbered c o b.rows ++ batch_records t c (o + length b.rows) bs) (batch_records t c o bs))
+    by_test true later same = Climbs-append c o c (o + length b.rows) (c + 1) 0 (numbered c o b.rows) (batch_records t c (o + length b.rows) bs) (numbered-climbs c o b.rows) later
     by_test false later same = same
 
 given-climbs : (t c : ℕ) (commit : Commit) → Climbs c 0 (c + 1) 0 (given t c commit)

@@ -24,9 +24,9 @@ use Rattle.kq_model.specs.declared.event.Operation.TheVariants as operation
 use Rattle.kq_model.specs.declared.limits.Limits.{Limits}
 use Rattle.kq_model.specs.declared.table.Table.{Table}
 use Rattle.kq_model.specs.declared.view.View.{View}
-use Rattle.kq_model.specs.History.{History, Log, log, commits_of, cursor, tables, Viewed, views, views_by, views_from, view_count, base_of, mark, mark_after, mark_from}
+use Rattle.kq_model.specs.History.{History, Log, log, commits_of, cursor, tables, Viewed, views, views_by, views_from, view_count, base_of, view_cursor, view_cursor_after, view_cursor_from}
 use Rattle.kq_model.specs.Lawful.{AreLawful, Lawful, LawfulOperation, IsNewView}
-use Rattle.kq_model.specs.Records.{given, given_by, records, records_from, records_given, schema_of}
+use Rattle.kq_model.specs.Records.{given, batch_records, records, records_from, records_given, schema_of}
 use Rattle.kq_model.specs.Views.{covered, is_between, row_for}
 use Rattle.kq_model.proofs.Bounded.{AreLawful-induct}
 use Rattle.kq_model.proofs.Growing.{Extends, no_fewer_of, schema-go_on}
@@ -46,27 +46,27 @@ no_fewer_views l more = let longer = ap length (views-append l more) ∙ length-
 base-stays : (l more : Log) (n : ℕ) → n < view_count l → base_of (l ++ more) n ≡ base_of l n
 base-stays l more n within = ap (λ (o : Option Viewed). unwrap_or (option_map (λ (v : Viewed). v.view.base) o) 0) (view-stays l more n within)
 
--- ---- marks
+-- ---- cursors of views
 
-mark_from-push : (n at : ℕ) (h : History) (e : Event) → mark_from n at (h ++ e ∷ []) ≡ mark_after n (mark_from n at h) e.operation
+mark_from-push : (n at : ℕ) (h : History) (e : Event) → view_cursor_from n at (h ++ e ∷ []) ≡ view_cursor_after n (view_cursor_from n at h) e.operation
 mark_from-push n at [] e = refl
-mark_from-push n at (x ∷ h) e = mark_from-push n (mark_after n at x.operation) h e
+mark_from-push n at (x ∷ h) e = mark_from-push n (view_cursor_after n at x.operation) h e
 
--- an event brings the mark of a view that stands on, where it is a fold of it
-pub mark-push : (h : History) (e : Event) (n : ℕ) → n < view_count (log h) → mark (h ++ e ∷ []) n ≡ mark_after n (mark h n) e.operation
-mark-push h e n within =
-    ap (λ (l : Log). mark_from n (base_of l n) (h ++ e ∷ [])) (log-push h e)
-    ∙ ap (λ (b : ℕ). mark_from n b (h ++ e ∷ [])) (base-stays (log h) (commits_of e.operation) n within)
+-- an event brings the cursor of a view that stands on, where it is a fold of it
+pub view_cursor-push : (h : History) (e : Event) (n : ℕ) → n < view_count (log h) → view_cursor (h ++ e ∷ []) n ≡ view_cursor_after n (view_cursor h n) e.operation
+view_cursor-push h e n within =
+    ap (λ (l : Log). view_cursor_from n (base_of l n) (h ++ e ∷ [])) (log-push h e)
+    ∙ ap (λ (b : ℕ). view_cursor_from n b (h ++ e ∷ [])) (base-stays (log h) (commits_of e.operation) n within)
     ∙ mark_from-push n (base_of (log h) n) h e
 
 -- a view that isn't there isn't folded
-unmarked : (limits : Limits) (h : History) → AreLawful limits h → (n at : ℕ) → view_count (log h) ≤ n → mark_from n at h ≡ at
+unmarked : (limits : Limits) (h : History) → AreLawful limits h → (n at : ℕ) → view_count (log h) ≤ n → view_cursor_from n at h ≡ at
 unmarked limits h all = AreLawful-induct limits Stays (λ n at past. refl) one_more h all
   where
     Stays : History → Type 0
-    Stays g = (n at : ℕ) → view_count (log g) ≤ n → mark_from n at g ≡ at
+    Stays g = (n at : ℕ) → view_count (log g) ≤ n → view_cursor_from n at g ≡ at
 
-    by_operation : (g : History) (o : Operation) (n at : ℕ) → LawfulOperation limits g o → view_count (log g) ≤ n → mark_after n at o ≡ at
+    by_operation : (g : History) (o : Operation) (n at : ℕ) → LawfulOperation limits g o → view_count (log g) ≤ n → view_cursor_after n at o ≡ at
     by_operation g (operation.Commit c) n at lawful past = refl
     by_operation g (operation.Fold view to) n at lawful past =
         ap (λ (b : Bool). cond b to at) (ne_eqb view n (λ same. let stands = lawful.stands in absurd (omega (arith, stands, past, same))))
@@ -77,7 +77,7 @@ unmarked limits h all = AreLawful-induct limits Stays (λ n at past. refl) one_m
         let more = no_fewer_views (log g) (commits_of e.operation) in
         let longer = ap view_count (log-push g e) in
         let still : view_count (log g) ≤ n = omega (arith, past, more, longer) in
-        mark_from-push n at g e ∙ ap (λ (m : ℕ). mark_after n m e.operation) (before n at still) ∙ by_operation g e.operation n at lawful.operation still
+        mark_from-push n at g e ∙ ap (λ (m : ℕ). view_cursor_after n m e.operation) (before n at still) ∙ by_operation g e.operation n at lawful.operation still
 
 pub log-commit : (h : History) (e : Event) (c : Commit) → e.operation ≡ operation.Commit c → log (h ++ e ∷ []) ≡ log h ++ c ∷ []
 log-commit h e c is = log-push h e ∙ ap (λ (o : Operation). log h ++ commits_of o) is
@@ -87,18 +87,18 @@ view-new : (l : Log) (c : Commit) (v : Viewed) → views_by (length l + 1) c ≡
 view-new l c v is = ap (λ (vs : List Viewed). slice_get vs (view_count l)) (views-push l c ∙ ap (λ (vs : List Viewed). views l ++ vs) is) ∙ get-last (views l) v
 
 -- it is materialized up to its base
-pub mark-new : (limits : Limits) (h : History) (e : Event) (c : Commit) (v : Viewed) → AreLawful limits h → e.operation ≡ operation.Commit c → views_by (cursor h + 1) c ≡ v ∷ [] → mark (h ++ e ∷ []) (view_count (log h)) ≡ v.view.base
-mark-new limits h e c v lawful is new =
+pub view_cursor-new : (limits : Limits) (h : History) (e : Event) (c : Commit) (v : Viewed) → AreLawful limits h → e.operation ≡ operation.Commit c → views_by (cursor h + 1) c ≡ v ∷ [] → view_cursor (h ++ e ∷ []) (view_count (log h)) ≡ v.view.base
+view_cursor-new limits h e c v lawful is new =
     let n = view_count (log h) in
     let base : base_of (log (h ++ e ∷ [])) n ≡ v.view.base =
     ap (λ (l : Log). base_of l n) (log-commit h e c is) ∙ ap (λ (o : Option Viewed). unwrap_or (option_map (λ (x : Viewed). x.view.base) o) 0) (view-new (log h) c v new) in
-    ap (λ (b : ℕ). mark_from n b (h ++ e ∷ [])) base ∙ mark_from-push n v.view.base h e
-    ∙ ap (λ (o : Operation). mark_after n (mark_from n v.view.base h) o) is ∙ unmarked limits h lawful n v.view.base (omega arith)
+    ap (λ (b : ℕ). view_cursor_from n b (h ++ e ∷ [])) base ∙ mark_from-push n v.view.base h e
+    ∙ ap (λ (o : Operation). view_cursor_after n (view_cursor_from n v.view.base h) o) is ∙ unmarked limits h lawful n v.view.base (omega arith)
 
--- a mark is from the base on and no more than the cursor
-pub record IsMarked (h : History) (n : ℕ) (v : Viewed) : Type 0 where
-  pub from : v.view.base ≤ mark h n
-  pub within : mark h n ≤ cursor h
+-- a cursor is from the base on and no more than the cursor
+pub record IsMaterialized (h : History) (n : ℕ) (v : Viewed) : Type 0 where
+  pub from : v.view.base ≤ view_cursor h n
+  pub within : view_cursor h n ≤ cursor h
 
 -- what is known of a view that was made holds of it ever after, where an event keeps it and the commit that makes the view gives it
 each_view : (limits : Limits) (P : History → ℕ → Viewed → Type 0)
@@ -153,53 +153,53 @@ each_view limits P keeps gives h all = (AreLawful-induct limits Both start one_m
     one_more : (g : History) (e : Event) → Both g → Lawful limits g e → Both (g ++ e ∷ [])
     one_more g e before one = (AreLawful-push limits g e before.0 one, by_operation g e e.operation refl before.0 one before.1)
 
-mark_within : (h : History) (o : Operation) (n at : ℕ) (limits : Limits) → LawfulOperation limits h o → at ≡ mark h n → (at ≤ mark_after n at o) × (mark h n ≤ cursor h → mark_after n at o ≤ cursor h)
+mark_within : (h : History) (o : Operation) (n at : ℕ) (limits : Limits) → LawfulOperation limits h o → at ≡ view_cursor h n → (at ≤ view_cursor_after n at o) × (view_cursor h n ≤ cursor h → view_cursor_after n at o ≤ cursor h)
 mark_within h (operation.Commit c) n at limits lawful is = (omega arith, λ le. omega (arith, le, is))
 mark_within h (operation.Fold view to) n at limits lawful is = by_test (eqb_tells view n)
   where
-    by_test : ((nat_eq view n ≡ true) × (view ≡ n)) ⊎ ((nat_eq view n ≡ false) × (view ≢ n)) → (at ≤ cond (nat_eq view n) to at) × (mark h n ≤ cursor h → cond (nat_eq view n) to at ≤ cursor h)
+    by_test : ((nat_eq view n ≡ true) × (view ≡ n)) ⊎ ((nat_eq view n ≡ false) × (view ≢ n)) → (at ≤ cond (nat_eq view n) to at) × (view_cursor h n ≤ cursor h → cond (nat_eq view n) to at ≤ cursor h)
     by_test (inl same) =
-        let ahead : mark h n < to = subst (λ (k : ℕ). mark h k < to) same.1 lawful.ahead in
+        let ahead : view_cursor h n < to = subst (λ (k : ℕ). view_cursor h k < to) same.1 lawful.ahead in
         let within = lawful.within in
         rw same.0 (omega (arith, ahead, is), λ le. omega (arith, within))
     by_test (inr other) = rw other.0 (omega arith, λ le. omega (arith, le, is))
 mark_within h (operation.Merge table old new) n at limits lawful is = (omega arith, λ le. omega (arith, le, is))
 
--- no event brings a mark back
-pub mark-rises : (limits : Limits) (h : History) (e : Event) (n : ℕ) → Lawful limits h e → n < view_count (log h) → mark h n ≤ mark (h ++ e ∷ []) n
-mark-rises limits h e n lawful within =
-    let next = mark-push h e n within in
-    let more = (mark_within h e.operation n (mark h n) limits lawful.operation refl).0 in
+-- no event brings a cursor back
+pub view_cursor-rises : (limits : Limits) (h : History) (e : Event) (n : ℕ) → Lawful limits h e → n < view_count (log h) → view_cursor h n ≤ view_cursor (h ++ e ∷ []) n
+view_cursor-rises limits h e n lawful within =
+    let next = view_cursor-push h e n within in
+    let more = (mark_within h e.operation n (view_cursor h n) limits lawful.operation refl).0 in
     omega (arith, next, more)
 
 cursor_rises : (h : History) (e : Event) → cursor h ≤ cursor (h ++ e ∷ [])
 cursor_rises h e = let longer = ap length (log-push h e) ∙ length-append (log h) (commits_of e.operation) in omega (arith, longer)
 
--- the mark of each view
-pub marked : (limits : Limits) (h : History) → AreLawful limits h → (n : ℕ) (v : Viewed) → slice_get (views (log h)) n ≡ Some v → IsMarked h n v
-marked limits h lawful = each_view limits IsMarked keeps gives h lawful
+-- the cursor of each view
+pub materialized : (limits : Limits) (h : History) → AreLawful limits h → (n : ℕ) (v : Viewed) → slice_get (views (log h)) n ≡ Some v → IsMaterialized h n v
+materialized limits h lawful = each_view limits IsMaterialized keeps gives h lawful
   where
-    keeps : (g : History) (e : Event) (n : ℕ) (v : Viewed) → AreLawful limits g → Lawful limits g e → n < view_count (log g) → IsMarked g n v → IsMarked (g ++ e ∷ []) n v
+    keeps : (g : History) (e : Event) (n : ℕ) (v : Viewed) → AreLawful limits g → Lawful limits g e → n < view_count (log g) → IsMaterialized g n v → IsMaterialized (g ++ e ∷ []) n v
     keeps g e n v all one within is =
-        let next = mark-push g e n within in
-        let both = mark_within g e.operation n (mark g n) limits one.operation refl in
+        let next = view_cursor-push g e n within in
+        let both = mark_within g e.operation n (view_cursor g n) limits one.operation refl in
         let more = both.0 in
         let few = both.1 is.within in
         let longer = cursor_rises g e in
         let from = is.from in
         record { from = omega (arith, next, more, from); within = omega (arith, next, few, longer) }
 
-    gives : (g : History) (e : Event) (c : Commit) (v : Viewed) → AreLawful limits g → Lawful limits g e → e.operation ≡ operation.Commit c → views_by (cursor g + 1) c ≡ v ∷ [] → IsMarked (g ++ e ∷ []) (view_count (log g)) v
+    gives : (g : History) (e : Event) (c : Commit) (v : Viewed) → AreLawful limits g → Lawful limits g e → e.operation ≡ operation.Commit c → views_by (cursor g + 1) c ≡ v ∷ [] → IsMaterialized (g ++ e ∷ []) (view_count (log g)) v
     gives g e (CreateTable name schema) v all one is new = absurd (cc)
     gives g e (CreateView view) v all one is new =
         let lawful : LawfulOperation limits g (operation.Commit (CreateView view)) = subst (LawfulOperation limits g) is one.operation in
-        let at = mark-new limits g e (CreateView view) v all is new in
+        let at = view_cursor-new limits g e (CreateView view) v all is new in
         let longer = ap length (log-commit g e (CreateView view) is) ∙ length_push (log g) (CreateView view) in
         let same : view ≡ v.view = cc in
         let base : (v.view.base ≡ 0) ⊎ (v.view.base ≡ cursor g + 1) = subst (λ (x : View). (x.base ≡ 0) ⊎ (x.base ≡ cursor g + 1)) same lawful.base in
         record { from = omega (arith, at); within = by_base base at longer }
       where
-        by_base : (v.view.base ≡ 0) ⊎ (v.view.base ≡ cursor g + 1) → mark (g ++ e ∷ []) (view_count (log g)) ≡ v.view.base → cursor (g ++ e ∷ []) ≡ cursor g + 1 → mark (g ++ e ∷ []) (view_count (log g)) ≤ cursor (g ++ e ∷ [])
+        by_base : (v.view.base ≡ 0) ⊎ (v.view.base ≡ cursor g + 1) → view_cursor (g ++ e ∷ []) (view_count (log g)) ≡ v.view.base → cursor (g ++ e ∷ []) ≡ cursor g + 1 → view_cursor (g ++ e ∷ []) (view_count (log g)) ≤ cursor (g ++ e ∷ [])
         by_base (inl none) at longer = omega (arith, none, at, longer)
         by_base (inr now) at longer = omega (arith, now, at, longer)
     gives g e (SetPolicy table entries) v all one is new = absurd (cc)
@@ -288,15 +288,15 @@ numbered_past above to at ordinal (row ∷ rows) later =
     let rest = filter (is_between above to) (numbered at (ordinal + 1) rows) in
     ap (λ (b : Bool). cond b (r ∷ rest) rest) (past above to r later) ∙ numbered_past above to at (ordinal + 1) rows later
 
-given_by_past : (above to t at ordinal : ℕ) (bs : List Batch) → to < at → filter (is_between above to) (given_by t at ordinal bs) ≡ []
+given_by_past : (above to t at ordinal : ℕ) (bs : List Batch) → to < at → filter (is_between above to) (batch_records t at ordinal bs) ≡ []
 given_by_past above to t at ordinal [] later = refl
 given_by_past above to t at ordinal (b ∷ bs) later = by_test (nat_eq b.table t) (given_by_past above to t at (ordinal + length b.rows) bs later) (given_by_past above to t at ordinal bs later)
   where
-    by_test : (is : Bool) → filter (is_between above to) (given_by t at (ordinal + length b.rows) bs) ≡ [] → filter (is_between above to) (given_by t at ordinal bs) ≡ []
-        → filter (is_between above to) (cond is (numbered at ordinal b.rows ++ given_by t at (ordinal + length b.rows) bs) (given_by t at ordinal bs)) ≡ []
+    by_test : (is : Bool) → filter (is_between above to) (batch_records t at (ordinal + length b.rows) bs) ≡ [] → filter (is_between above to) (batch_records t at ordinal bs) ≡ []
+        → filter (is_between above to) (cond is (numbered at ordinal b.rows ++ batch_records t at (ordinal + length b.rows) bs) (batch_records t at ordinal bs)) ≡ []
     by_test true rest same =
-        filter-append (is_between above to) (numbered at ordinal b.rows) (given_by t at (ordinal + length b.rows) bs)
-        ∙ ap (λ (rs : List Record). rs ++ filter (is_between above to) (given_by t at (ordinal + length b.rows) bs)) (numbered_past above to at ordinal b.rows later)
+        filter-append (is_between above to) (numbered at ordinal b.rows) (batch_records t at (ordinal + length b.rows) bs)
+        ∙ ap (λ (rs : List Record). rs ++ filter (is_between above to) (batch_records t at (ordinal + length b.rows) bs)) (numbered_past above to at ordinal b.rows later)
         ∙ rest
     by_test false rest same = same
 

@@ -72,7 +72,7 @@ numbered_from n name (t ∷ ts) = if pointwise nat_eq t.name name then Some (rec
 abbrev pub table_numbered : List ℕ → List Table → Option Numbered
 table_numbered = numbered_from 0
 
--- a commit's place in the journal, from 1, and its mark
+-- a commit's place in the journal, from 1, and its cursor
 pub record CommitAt : Type 0 where
   pub place : ℕ
   pub by : By
@@ -85,7 +85,7 @@ abbrev pub commits_from : ℕ → History → List CommitAt
 commits_from n [] = []
 commits_from n (e ∷ h) = commit_at e (n + 1) ++ commits_from (n + 1) h
 
--- the commits with their places and marks, in order
+-- the commits with their places and request ids, in order
 abbrev pub commits_at : History → List CommitAt
 commits_at = commits_from 0
 
@@ -123,19 +123,19 @@ abbrev pub is_view : List ℕ → Log → Bool
 is_view name l = is_among name (names_of_views (views l))
 
 -- the cursor up to which a view, by its number, is materialized after one more operation
-abbrev pub mark_after : ℕ → ℕ → Operation → ℕ
-mark_after n at (operation.Commit c) = at
-mark_after n at (operation.Fold view to) = if nat_eq view n then to else at
-mark_after n at (operation.Merge table old new) = at
+abbrev pub view_cursor_after : ℕ → ℕ → Operation → ℕ
+view_cursor_after n at (operation.Commit c) = at
+view_cursor_after n at (operation.Fold view to) = if nat_eq view n then to else at
+view_cursor_after n at (operation.Merge table old new) = at
 
-abbrev pub mark_from : ℕ → ℕ → History → ℕ
-mark_from n at [] = at
-mark_from n at (e ∷ h) = mark_from n (mark_after n at e.operation) h
+abbrev pub view_cursor_from : ℕ → ℕ → History → ℕ
+view_cursor_from n at [] = at
+view_cursor_from n at (e ∷ h) = view_cursor_from n (view_cursor_after n at e.operation) h
 
 -- the cursor above which a view covers records; a number that no view has has 0
 abbrev pub base_of : Log → ℕ → ℕ
 base_of l n = unwrap_or (option_map (λ (v : Viewed). v.view.base) (slice_get (views l) n)) 0
 
 -- the cursor up to which a view, by its number, is materialized: that of its last fold, or its base without one
-abbrev pub mark : History → ℕ → ℕ
-mark h n = mark_from n (base_of (log h) n) h
+abbrev pub view_cursor : History → ℕ → ℕ
+view_cursor h n = view_cursor_from n (base_of (log h) n) h

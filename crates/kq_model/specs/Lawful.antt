@@ -22,42 +22,42 @@ use Rattle.kq_model.specs.declared.policy.Entry.{Entry}
 use Rattle.kq_model.specs.Beside.{DueGives}
 use Rattle.kq_model.specs.Cycles.{IsOnCycle}
 use Rattle.kq_model.specs.Derived.{IsDerived, Made}
-use Rattle.kq_model.specs.History.{History, Log, log, cursor, tables, table_named, Numbered, table_numbered, view_count, is_view, mark}
+use Rattle.kq_model.specs.History.{History, Log, log, cursor, tables, table_named, Numbered, table_numbered, view_count, is_view, view_cursor}
 use Rattle.kq_model.specs.Names.{is_among, repeat_of, names_of}
 use Rattle.kq_model.specs.Policies.{policies, rules, with_policy}
 use Rattle.kq_model.specs.PolicyBodies.{IsPolicyBody}
-use Rattle.kq_model.specs.Records.{picked, item_ids, made_in}
+use Rattle.kq_model.specs.Records.{picked, item_ids, extents_made}
 
 -- why a table of this name and these columns, a view of this name, or a batch of so many rows, can't be made
-pub data Bar : Type 0 where
-  TooWide : Bar
-  Exists : Bar
-  TooMany : Bar
-  TooLong : Bar
-  NoCommits : Bar
+pub data Violation : Type 0 where
+  TooWide : Violation
+  Exists : Violation
+  TooMany : Violation
+  TooLong : Violation
+  NoCommits : Violation
 
--- the first bar to a name that may be a table's, or a view's, where a limit allows so many of its kind and there are so many
-abbrev pub bar_to_name : Limits → Log → ℕ → ℕ → Option Table → Bool → Option Bar
-bar_to_name limits l limit count (Some t) viewed = Some Exists
-bar_to_name limits l limit count None viewed =
+-- the first violation by a name that may be a table's, or a view's, where a limit allows so many of its kind and there are so many
+abbrev pub name_violation : Limits → Log → ℕ → ℕ → Option Table → Bool → Option Violation
+name_violation limits l limit count (Some t) viewed = Some Exists
+name_violation limits l limit count None viewed =
     if viewed then Some Exists else if nat_lt count limit then (if nat_lt (length l) limits.commits then None else Some NoCommits) else Some TooMany
 
--- the first bar to a new table after this log, in the order of the refusals
-abbrev pub bar_to_table : Limits → Log → List ℕ → List Field → Option Bar
-bar_to_table limits l name schema =
-    if nat_lt limits.columns (length schema) then Some TooWide else bar_to_name limits l limits.tables (length (tables l)) (table_named name (tables l)) (is_view name l)
+-- the first violation by a new table after this log, in the order of the refusals
+abbrev pub table_violation : Limits → Log → List ℕ → List Field → Option Violation
+table_violation limits l name schema =
+    if nat_lt limits.columns (length schema) then Some TooWide else name_violation limits l limits.tables (length (tables l)) (table_named name (tables l)) (is_view name l)
 
--- the first bar to a new view after this log, in the order of the refusals
-abbrev pub bar_to_view : Limits → Log → List ℕ → Option Bar
-bar_to_view limits l name = bar_to_name limits l limits.views (view_count l) (table_named name (tables l)) (is_view name l)
+-- the first violation by a new view after this log, in the order of the refusals
+abbrev pub view_violation : Limits → Log → List ℕ → Option Violation
+view_violation limits l name = name_violation limits l limits.views (view_count l) (table_named name (tables l)) (is_view name l)
 
--- the first bar to so many further columns of a table with so many after this log, in the order of the refusals
-abbrev pub bar_to_columns : Limits → Log → ℕ → ℕ → Option Bar
-bar_to_columns limits l old new = if nat_lt limits.columns (old + new) then Some TooWide else if nat_lt (length l) limits.commits then None else Some NoCommits
+-- the first violation by so many further columns of a table with so many after this log, in the order of the refusals
+abbrev pub columns_violation : Limits → Log → ℕ → ℕ → Option Violation
+columns_violation limits l old new = if nat_lt limits.columns (old + new) then Some TooWide else if nat_lt (length l) limits.commits then None else Some NoCommits
 
--- the first bar to a batch of so many rows after this log, in the order of the refusals
-abbrev pub bar_to_batch : Limits → Log → ℕ → Option Bar
-bar_to_batch limits l rows = if nat_lt limits.batch rows then Some TooLong else if nat_lt (length l) limits.commits then None else Some NoCommits
+-- the first violation by a batch of so many rows after this log, in the order of the refusals
+abbrev pub batch_violation : Limits → Log → ℕ → Option Violation
+batch_violation limits l rows = if nat_lt limits.batch rows then Some TooLong else if nat_lt (length l) limits.commits then None else Some NoCommits
 
 -- columns of which a table has none by name, one or more and no two of one name, within the limits
 pub record IsWidening (limits : Limits) (l : Log) (number : ℕ) (columns : List Field) : Type 0 where
@@ -66,7 +66,7 @@ pub record IsWidening (limits : Limits) (l : Log) (number : ℕ) (columns : List
   pub some : 0 < length columns
   pub different : repeat_of (names_of columns) ≡ None
   pub lacking : All (λ (f : Field). is_among f.name (names_of table.schema) ≡ false) columns
-  pub within : bar_to_columns limits l (length table.schema) (length columns) ≡ None
+  pub within : columns_violation limits l (length table.schema) (length columns) ≡ None
 
 -- a view of a table that stands, whose body reads the table under its present columns, and whose base is 0 or the cursor of its own commit, within the limits
 pub record IsNewView (limits : Limits) (l : Log) (v : View) : Type 0 where
@@ -74,7 +74,7 @@ pub record IsNewView (limits : Limits) (l : Log) (v : View) : Type 0 where
   pub stands : slice_get (tables l) v.source ≡ Some table
   pub body : IsBody table.name table.schema (planned_of v.body)
   pub base : (v.base ≡ 0) ⊎ (v.base ≡ length l + 1)
-  pub within : bar_to_view limits l v.name ≡ None
+  pub within : view_violation limits l v.name ≡ None
 
 -- ---- policies
 
@@ -117,11 +117,11 @@ own_rows [] = 0
 own_rows (own ∷ bs) = length own.rows
 
 abbrev pub LawfulCommit : Limits → Log → Commit → Type 0
-LawfulCommit limits l (CreateTable name schema) = (0 < length schema) × (repeat_of (names_of schema) ≡ None) × (bar_to_table limits l name schema ≡ None)
+LawfulCommit limits l (CreateTable name schema) = (0 < length schema) × (repeat_of (names_of schema) ≡ None) × (table_violation limits l name schema ≡ None)
 LawfulCommit limits l (SetPolicy table entries) = IsNewPolicy limits l table entries
 LawfulCommit limits l (CreateView view) = IsNewView limits l view
 LawfulCommit limits l (AlterMerge table columns) = IsWidening limits l table columns
-LawfulCommit limits l (Ingest batches failures) = IsIngestion limits l batches failures × (bar_to_batch limits l (own_rows batches) ≡ None)
+LawfulCommit limits l (Ingest batches failures) = IsIngestion limits l batches failures × (batch_violation limits l (own_rows batches) ≡ None)
 
 -- a merge's old extents are the first of those that are picked, two or more, and its new id is the next
 pub record IsMerge (h : History) (t : ℕ) (old : List ℕ) (new : ℕ) : Type 0 where
@@ -129,12 +129,12 @@ pub record IsMerge (h : History) (t : ℕ) (old : List ℕ) (new : ℕ) : Type 0
   pub some : 2 ≤ count
   pub within : count ≤ length (picked h t)
   pub first : old ≡ item_ids (take count (picked h t))
-  pub next : new ≡ 1 + made_in h
+  pub next : new ≡ 1 + extents_made h
 
 -- a fold brings a view that stands forward, to no more than the cursor
 pub record IsFold (h : History) (view to : ℕ) : Type 0 where
   pub stands : view < view_count (log h)
-  pub ahead : mark h view < to
+  pub ahead : view_cursor h view < to
   pub within : to ≤ cursor h
 
 abbrev pub LawfulOperation : Limits → History → Operation → Type 0

@@ -9,7 +9,7 @@ pub mod Force
 pub mod History
 pub mod Lawful
 pub mod Limits
-pub mod Marks
+pub mod Requests
 pub mod Moments
 pub mod Names
 pub mod Policies

@@ -17,11 +17,11 @@ use Rattle.kq_model.specs.History.{History, Log, log, commits_of, tables}
 use Rattle.kq_widened.specs.Widened.{widened_records}
 
 -- the batches of one commit give a table their rows, numbered through from an ordinal on
-abbrev pub given_by : ℕ → ℕ → ℕ → List Batch → List Record
-given_by t cursor ordinal [] = []
-given_by t cursor ordinal (b ∷ bs) =
-    if nat_eq b.table t then numbered cursor ordinal b.rows ++ given_by t cursor (ordinal + length b.rows) bs
-    else given_by t cursor ordinal bs
+abbrev pub batch_records : ℕ → ℕ → ℕ → List Batch → List Record
+batch_records t cursor ordinal [] = []
+batch_records t cursor ordinal (b ∷ bs) =
+    if nat_eq b.table t then numbered cursor ordinal b.rows ++ batch_records t cursor (ordinal + length b.rows) bs
+    else batch_records t cursor ordinal bs
 
 -- how many rows the batches give a table
 abbrev pub rows_to : ℕ → List Batch → ℕ
@@ -34,7 +34,7 @@ given t cursor (CreateTable name schema) = []
 given t cursor (CreateView view) = []
 given t cursor (SetPolicy table entries) = []
 given t cursor (AlterMerge table columns) = []
-given t cursor (Ingest batches failures) = given_by t cursor 0 batches
+given t cursor (Ingest batches failures) = batch_records t cursor 0 batches
 
 abbrev pub records_from : ℕ → ℕ → Log → List Record
 records_from t n [] = []
@@ -72,22 +72,22 @@ item_ids = map (λ (i : ExtentItem). i.id)
 abbrev pub ids_of : List Record → List RecordId
 ids_of = map (λ (r : Record). r.id)
 
-abbrev pub item_of : ℕ → ℕ → ℕ → Batch → ExtentItem
-item_of id cursor ordinal b = record { id = id; records = ids_of (numbered cursor ordinal b.rows); tags = b.tags }
+abbrev pub batch_item : ℕ → ℕ → ℕ → Batch → ExtentItem
+batch_item id cursor ordinal b = record { id = id; records = ids_of (numbered cursor ordinal b.rows); tags = b.tags }
 
 -- each batch of a commit is one extent of its table; extents are numbered over all tables
-abbrev pub items_by : ℕ → ℕ → ℕ → ℕ → List Batch → List ExtentItem
-items_by t cursor ordinal id [] = []
-items_by t cursor ordinal id (b ∷ bs) =
-    if nat_eq b.table t then item_of id cursor ordinal b ∷ items_by t cursor (ordinal + length b.rows) (id + 1) bs
-    else items_by t cursor ordinal (id + 1) bs
+abbrev pub batch_items : ℕ → ℕ → ℕ → ℕ → List Batch → List ExtentItem
+batch_items t cursor ordinal id [] = []
+batch_items t cursor ordinal id (b ∷ bs) =
+    if nat_eq b.table t then batch_item id cursor ordinal b ∷ batch_items t cursor (ordinal + length b.rows) (id + 1) bs
+    else batch_items t cursor ordinal (id + 1) bs
 
 abbrev pub items : ℕ → ℕ → ℕ → Commit → List ExtentItem
 items t cursor id (CreateTable name schema) = []
 items t cursor id (CreateView view) = []
 items t cursor id (SetPolicy table entries) = []
 items t cursor id (AlterMerge table columns) = []
-items t cursor id (Ingest batches failures) = items_by t cursor 0 id batches
+items t cursor id (Ingest batches failures) = batch_items t cursor 0 id batches
 
 -- each text once, in the order of first appearance
 abbrev pub each_once : List (List ℕ) → List (List ℕ)
@@ -111,23 +111,23 @@ abbrev pub merged : List ℕ → ℕ → List ExtentItem → List ExtentItem
 merged old new is = filter (λ i. not (has_id_of old i)) is ++ united new (filter (has_id_of old) is) ∷ []
 
 -- the number of extents that a commit makes
-abbrev pub made_by : Commit → ℕ
-made_by (CreateTable name schema) = 0
-made_by (CreateView view) = 0
-made_by (SetPolicy table entries) = 0
-made_by (AlterMerge table columns) = 0
-made_by (Ingest batches failures) = length batches
+abbrev pub commit_extents : Commit → ℕ
+commit_extents (CreateTable name schema) = 0
+commit_extents (CreateView view) = 0
+commit_extents (SetPolicy table entries) = 0
+commit_extents (AlterMerge table columns) = 0
+commit_extents (Ingest batches failures) = length batches
 
 -- the number of extents that an operation makes: a merge makes one
-abbrev pub made_of : Operation → ℕ
-made_of (operation.Commit c) = made_by c
-made_of (operation.Fold view to) = 0
-made_of (operation.Merge table old new) = 1
+abbrev pub operation_extents : Operation → ℕ
+operation_extents (operation.Commit c) = commit_extents c
+operation_extents (operation.Fold view to) = 0
+operation_extents (operation.Merge table old new) = 1
 
 -- the number of extents that were made, in any table
-abbrev pub made_in : History → ℕ
-made_in [] = 0
-made_in (e ∷ h) = made_of e.operation + made_in h
+abbrev pub extents_made : History → ℕ
+extents_made [] = 0
+extents_made (e ∷ h) = operation_extents e.operation + extents_made h
 
 -- the extents of a table after one more operation, by its cursor if it is a commit, and the id of the next extent
 abbrev pub items_after : ℕ → ℕ → ℕ → Operation → List ExtentItem → List ExtentItem
@@ -137,7 +137,7 @@ items_after t cursor id (operation.Merge table old new) is = if nat_eq table t t
 
 abbrev pub extents_from : ℕ → ℕ → ℕ → List ExtentItem → History → List ExtentItem
 extents_from t n id is [] = is
-extents_from t n id is (e ∷ h) = extents_from t (n + length (commits_of e.operation)) (id + made_of e.operation) (items_after t (n + 1) id e.operation is) h
+extents_from t n id is (e ∷ h) = extents_from t (n + length (commits_of e.operation)) (id + operation_extents e.operation) (items_after t (n + 1) id e.operation is) h
 
 -- the extents of a table in order, with ids from 1 over all tables in the order of making
 abbrev pub extents : History → ℕ → List ExtentItem

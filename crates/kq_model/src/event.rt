@@ -7,7 +7,7 @@ use crate::policy::Entries;
 use crate::view::SharedView;
 use kq_value::{Schema, Text};
 
-/// The mark of a command: who asked, and with which of its commands, counted from 1.
+/// The request id of a command: who asked, and with which of its commands, counted from 1.
 #[derive(Clone, Copy, Debug)]
 pub struct By {
     pub actor: u32,
@@ -15,7 +15,7 @@ pub struct By {
 }
 
 impl By {
-    ghost use Rattle.kq_model.specs.Marks.{same_by};
+    ghost use Rattle.kq_model.specs.Requests.{same_by};
 
     pub fn same(self, other: By) -> bool
         ensures { result ≡ same_by self other }
@@ -59,7 +59,7 @@ pub enum Operation {
     Merge { table: u32, old: Ids, new: u64 },
 }
 
-/// An entry of the history: an operation with the mark of the command that made it.
+/// An entry of the history: an operation with the request id of the command that made it.
 #[derive(Drop)]
 pub struct Event {
     pub by: By,

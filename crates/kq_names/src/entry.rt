@@ -6,14 +6,14 @@ ghost use Rattle.kq_names.specs.Index.{AreSorted, HasNameAt, IsGapFor};
 use kq_value::{Memory, Text};
 use std::alloc::Global;
 
-/// A name and its number.
+// A name and its number.
 #[derive(Drop)]
 pub(crate) struct Entry {
     pub name: Text,
     pub number: u32,
 }
 
-/// Where the entry of a name stands, or else where it would go.
+// Where the entry of a name stands, or else where it would go.
 pub(crate) fn search(entries: &[Entry], name: &Text) -> Result<usize, usize>
     requires { AreSorted entries.now }
     ensures found { IfOk result (HasNameAt name.now entries.now) }
@@ -22,7 +22,7 @@ pub(crate) fn search(entries: &[Entry], name: &Text) -> Result<usize, usize>
     entries.binary_search_by(|entry| entry.name.cmp(name))
 }
 
-/// Where the entry of a name would go that has none.
+// Where the entry of a name would go that has none.
 pub(crate) fn gap_for(entries: &[Entry], name: &Text) -> usize
     requires sorted { AreSorted entries.now }
     requires absent { All (λ e. e.name ≢ name.now) entries.now }
@@ -34,7 +34,7 @@ pub(crate) fn gap_for(entries: &[Entry], name: &Text) -> usize
     }
 }
 
-/// The same entries and one more, which comes at a place.
+// The same entries and one more, which comes at a place.
 pub(crate) fn with_entry(
     alloc: Global,
     entries: &[Entry],

@@ -42,7 +42,7 @@ pub fn read_bool(text: &str) -> Option<bool>
     }
 }
 
-/// Whether the two are equal but for upper and lower case.
+// Whether the two are equal but for upper and lower case.
 #[tactic(auto, using(crate::proofs::NumberLemmas::same_bytes))]
 fn is_word(text: &str, word: &str) -> bool
     ensures { result ≡ bytes_eq (str_to_ascii_lowercase text.now) (str_to_ascii_lowercase word.now) }

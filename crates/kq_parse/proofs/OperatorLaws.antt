@@ -9,7 +9,7 @@ use Rattle.kq_grammar.specs.declared.tabular.OperatorKey.{OperatorKey}
 use Rattle.kq_grammar.specs.declared.tabular.OperatorKey.TheVariants as o
 use Rattle.kq_grammar.specs.Clauses as grammar
 use Rattle.kq_grammar.specs.Expressions.{Text, spells}
-use Rattle.kq_grammar.specs.Strengths.{goes_on}
+use Rattle.kq_grammar.specs.Precedences.{goes_on}
 use Rattle.kq_grammar.specs.Tabulars.{operator_of, operator_key, kind_text, keys_on, tabular_text, union_text, body_text}
 use Rattle.kq_grammar.specs.Trees.{ItemTree, KeyTree, TabularTree, BodyTree, filter, extend, project, project_away, project_rename, take, count, sort, top, distinct, distinct_all, summarize, summarize_by, join, unite, mv_expand}
 use Rattle.kq_parse.specs.Following.{union_goes_on, summarize_goes_on, expansion_goes_on, operator_goes_on, tabular_goes_on}

@@ -9,7 +9,7 @@ use Rattle.kq_grammar.specs.declared.expression.Name.{Name}
 use Rattle.kq_grammar.specs.declared.expression.Name.TheVariants as shown
 use Rattle.kq_grammar.specs.Clauses as grammar
 use Rattle.kq_grammar.specs.Expressions.{Text, name_text, spells}
-use Rattle.kq_grammar.specs.Strengths.{goes_on}
+use Rattle.kq_grammar.specs.Precedences.{goes_on}
 use Rattle.kq_grammar.specs.Tabulars.{view_text, kind_text, typeof_text, table_text, table_word}
 use Rattle.kq_grammar.specs.Trees.{Tree, FromTree, range as range_tree, datatable as datatable_tree, BodyTree, top as top_tree, distinct, distinct_all, summarize as summarize_tree, summarize_by, mv_expand, ItemTree, KeyTree, AggregateTree, GroupingTree}
 use Rattle.kq_parse.specs.Following.{summarize_goes_on, expansion_goes_on}

@@ -5,12 +5,12 @@ use Rattle.kq_grammar.specs.Expressions.{Text}
 use Rattle.kq_parse.specs.declared.asking.ParseFault.{ParseFault}
 use Rattle.kq_parse.specs.declared.asking.ParseFault.TheVariants as fault
 use Rattle.kq_parse.specs.Depth.{IsShallow}
-use Rattle.kq_parse.specs.Places.{Answers, Ends, BreaksAt, IsOnly, IsRefusal, IsWhole, RefusesAt}
+use Rattle.kq_parse.specs.Places.{Answers, EndsAt, BreaksAt, IsOnly, IsRefusal, IsWhole, RefusesAt}
 use Rattle.kq_syntax.specs.declared.cursor.Stop.{Stop}
 use Rattle.kq_syntax.specs.declared.cursor.Stop.TheVariants.{Syntax, Memory}
 use Rattle.kq_syntax.specs.declared.kind.Symbol.{Symbol}
-use Rattle.kq_syntax.specs.Gives.{Gives}
-use Rattle.kq_syntax.specs.Forms.{Meets, Parser, Reads, Stuck, Outcome}
+use Rattle.kq_syntax.specs.Outcomes.{IsOutcome}
+use Rattle.kq_syntax.specs.Forms.{Meets, Parser, Parses, Stuck, Outcome}
 use Rattle.kq_syntax.proofs.Laws.{Exact}
 
 empty_of : (ts : List Symbol) → length ts ≡ 0 → ts ≡ []
@@ -21,7 +21,7 @@ module _ {A : Type 0} (form : A → Text) (more : Symbol → Bool) where
   join_one : (front : List Symbol) (t : Symbol) (after : List Symbol) → (front ++ t ∷ []) ++ after ≡ front ++ (t ∷ after)
   join_one front t after = append_assoc front (t ∷ []) after
 
-  whole_read : (ts : List Symbol) (x : A) → Reads form more ts x [] → IsOnly form ts x
+  whole_read : (ts : List Symbol) (x : A) → Parses form more ts x [] → IsOnly form ts x
   whole_read ts x a =
       let all : ts ≡ a.front = a.split ∙ append-nil a.front in
       record {
@@ -29,7 +29,7 @@ module _ {A : Type 0} (form : A → Text) (more : Symbol → Bool) where
         only = λ other s. (a.only other ts [] [] s tt tt (append-nil ts ∙ all ∙ sym (append-nil a.front))).0;
       }
 
-  left_over : (ts : List Symbol) (x : A) (t : Symbol) (rest : List Symbol) → Reads form more ts x (t ∷ rest) → BreaksAt form ts (t ∷ rest)
+  left_over : (ts : List Symbol) (x : A) (t : Symbol) (rest : List Symbol) → Parses form more ts x (t ∷ rest) → BreaksAt form ts (t ∷ rest)
   left_over ts x t rest a = record {
     front = a.front;
     split = a.split;
@@ -40,7 +40,7 @@ module _ {A : Type 0} (form : A → Text) (more : Symbol → Bool) where
         cc;
   }
 
-  stuck_ends : (ts rest : List Symbol) → (a : Stuck form more ts rest) → Ends form a.front rest
+  stuck_ends : (ts rest : List Symbol) → (a : Stuck form more ts rest) → EndsAt form a.front rest
   stuck_ends ts [] a = λ x s. a.never x a.front [] [] s tt tt refl
   stuck_ends ts (t ∷ rest) a = λ s. a.never s.0 ((a.front ++ t ∷ []) ++ s.1) [] (t ∷ s.1) s.2 tt refl (append-nil ((a.front ++ t ∷ []) ++ s.1) ∙ join_one a.front t s.1)
 
@@ -69,7 +69,7 @@ module _ {A : Type 0} (form : A → Text) (more : Symbol → Bool) where
 
     -- what is answered of symbols that were read and found to be whole
     pub whole_answers : {V : Type 0} (view : V → A) (ts rest : List Symbol) (end : ℕ) (found : Result V Stop) (r : Result V ParseFault)
-        → IsShallow ts → Gives view (reader (length ts) ts) found rest → IsWhole rest end found r
+        → IsShallow ts → IsOutcome view (reader (length ts) ts) found rest → IsWhole rest end found r
         → MatchResult r (λ x. Answers form ts (view x)) (RefusesAt form ts end)
     whole_answers view ts rest end (Ok x) (Ok y) shallow e is = (shallow, reads_whole ts (view y) rest (e ∙ ap (λ v. Ok (view v, rest)) is.0) (ap length is.1))
     whole_answers view ts rest end (Ok x) (Err f) shallow e is = refuses_left ts (view x) rest end f shallow e (λ none. is.0 (empty_of rest none)) is.1

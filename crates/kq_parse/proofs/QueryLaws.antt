@@ -4,7 +4,7 @@ use Rattle.kq_expression.specs.Reading.{name, expression}
 use Rattle.kq_grammar.specs.declared.expression.Name.{Name}
 use Rattle.kq_grammar.specs.declared.expression.Name.TheVariants as shown
 use Rattle.kq_grammar.specs.Expressions.{Text, name_text, spells}
-use Rattle.kq_grammar.specs.Strengths.{goes_on}
+use Rattle.kq_grammar.specs.Precedences.{goes_on}
 use Rattle.kq_grammar.specs.Tabulars.{tabular_text, scalar_right, tabular_right, let_text, query_end, query_text}
 use Rattle.kq_grammar.specs.Trees.{Tree, TabularTree, pipeline, table, no_operator, LetTree, QueryTree}
 use Rattle.kq_grammar.specs.Trees.Tree.{name as name_tree}

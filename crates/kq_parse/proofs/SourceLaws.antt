@@ -5,7 +5,7 @@ use Rattle.kq_clause.specs.Reading as clause
 use Rattle.kq_grammar.specs.declared.expression.Name.TheVariants as shown
 use Rattle.kq_grammar.specs.Clauses as grammar
 use Rattle.kq_grammar.specs.Expressions.{Text}
-use Rattle.kq_grammar.specs.Strengths.{goes_on}
+use Rattle.kq_grammar.specs.Precedences.{goes_on}
 use Rattle.kq_grammar.specs.Tabulars.{source_key, source_of, source_word, any_source_word, table_text, view_text, tabular_text, source_text, from_text, union_text}
 use Rattle.kq_grammar.specs.Trees.{ItemTree, TabularTree, SourceTree, table, nested, worded, FromTree, view, print, range, datatable, union}
 use Rattle.kq_parse.specs.Following.{union_goes_on, source_goes_on, tabular_goes_on}

@@ -18,16 +18,16 @@ abbrev pub QueryBegins : List Symbol → Type 0
 QueryBegins ts = Begins query_text ts
 
 -- they begin none through the first of the rest, or where nothing is left they are none
-abbrev pub Ends : {A : Type 0} → (A → Text) → List Symbol → List Symbol → Type 0
-Ends {A = A} form front [] = (x : A) → form x front → ⊥
-Ends form front (t ∷ rest) = Begins form (front ++ t ∷ []) → ⊥
+abbrev pub EndsAt : {A : Type 0} → (A → Text) → List Symbol → List Symbol → Type 0
+EndsAt {A = A} form front [] = (x : A) → form x front → ⊥
+EndsAt form front (t ∷ rest) = Begins form (front ++ t ∷ []) → ⊥
 
 -- The symbols before the rest begin a text of the form, and the rest stops it.
 pub record BreaksAt {A : Type 0} (form : A → Text) (ts rest : List Symbol) : Type 0 where
   pub front : List Symbol
   pub split : ts ≡ front ++ rest
   pub begins : Begins form front
-  pub ends : Ends form front rest
+  pub ends : EndsAt form front rest
 
 -- It has exactly these symbols, and no other has.
 pub record IsOnly {A : Type 0} (form : A → Text) (ts : List Symbol) (x : A) : Type 0 where

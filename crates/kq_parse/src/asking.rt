@@ -20,7 +20,7 @@ pub enum ParseFault {
     Memory,
 }
 
-/// The refusal where the cursor stands, in a text that ends at `end`.
+// The refusal where the cursor stands, in a text that ends at `end`.
 fn refusal(cursor: &mut Cursor<'_>, end: usize) -> ParseFault
     ensures { IsRefusal cursor.old end result }
 {

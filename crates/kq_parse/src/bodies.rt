@@ -8,7 +8,7 @@ ghost use Rattle.kq_parse.specs.Reading as spec;
 ghost use Rattle.kq_syntax.specs.Classes as k;
 ghost use Rattle.kq_syntax.specs.Classes.{of};
 ghost use Rattle.kq_syntax.specs.Forms.{skip};
-ghost use Rattle.kq_syntax.specs.Gives.{Gives};
+ghost use Rattle.kq_syntax.specs.Outcomes.{IsOutcome};
 
 use crate::build;
 use crate::words::expect_table_word;
@@ -22,10 +22,10 @@ use kq_syntax::{Class, ClauseWord, Cursor, ReservedWord, Stop, Symbol};
 use kq_token::{Operator, Punctuation};
 use std::alloc::Global;
 
-/// The name of a view in parentheses.
+// The name of a view in parentheses.
 #[tactic(auto, unfolding(crate::specs::Reading::view))]
 pub(crate) fn read_view(cursor: &mut Cursor<'_>) -> Result<Symbol, Stop>
-    ensures { Gives (λ t. t) (spec.view cursor.old) result cursor.new }
+    ensures { IsOutcome (λ t. t) (spec.view cursor.old) result cursor.new }
 {
     cursor.expect(Class::Sign(Punctuation::OpenParenthesis))?;
     let text = cursor.expect(Class::Text)?;
@@ -33,14 +33,14 @@ pub(crate) fn read_view(cursor: &mut Cursor<'_>) -> Result<Symbol, Stop>
     Ok(text)
 }
 
-/// What stands behind `range`.
+// What stands behind `range`.
 #[tactic(auto, unfolding(crate::specs::Reading::range))]
 pub(crate) fn read_range(
     alloc: Global,
     cursor: &mut Cursor<'_>,
     budget: usize,
 ) -> Result<SourceBody, Stop>
-    ensures { Gives from_of (spec.range budget cursor.old) result cursor.new }
+    ensures { IsOutcome from_of (spec.range budget cursor.old) result cursor.new }
 {
     let name = read_name(cursor)?;
     let from = read_bound(alloc, cursor, ClauseWord::From, budget)?;
@@ -49,14 +49,14 @@ pub(crate) fn read_range(
     Ok(build::range(name, from, to, step))
 }
 
-/// An expression behind a word, in a box, since it is owned while others are read.
+// An expression behind a word, in a box, since it is owned while others are read.
 fn read_bound(
     alloc: Global,
     cursor: &mut Cursor<'_>,
     word: ClauseWord,
     budget: usize,
 ) -> Result<Box<Expression>, Stop>
-    ensures { Gives (λ b. tree_of b.value) (skip (of (k.clause word)) (expression budget) cursor.old) result cursor.new }
+    ensures { IsOutcome (λ b. tree_of b.value) (skip (of (k.clause word)) (expression budget) cursor.old) result cursor.new }
 {
     cursor.expect(Class::Clause(word))?;
     let value = read_expression(alloc, cursor, budget)?;
@@ -68,7 +68,7 @@ fn columns_in_parentheses(
     cursor: &mut Cursor<'_>,
     budget: usize,
 ) -> Result<(Column, Vec<Column>), Stop>
-    ensures { Gives (λ p. (p.0, p.1.items)) (spec.columns_in_parentheses budget cursor.old) result cursor.new }
+    ensures { IsOutcome (λ p. (p.0, p.1.items)) (spec.columns_in_parentheses budget cursor.old) result cursor.new }
 {
     cursor.expect(Class::Sign(Punctuation::OpenParenthesis))?;
     let columns = read_columns(alloc, cursor, budget)?;
@@ -81,7 +81,7 @@ fn cells_in_brackets(
     cursor: &mut Cursor<'_>,
     budget: usize,
 ) -> Result<Vec<Cell>, Stop>
-    ensures { Gives (λ v. v.items) (spec.cells_in_brackets budget cursor.old) result cursor.new }
+    ensures { IsOutcome (λ v. v.items) (spec.cells_in_brackets budget cursor.old) result cursor.new }
 {
     cursor.expect(Class::Sign(Punctuation::OpenBracket))?;
     let cells = read_cells(alloc, cursor, budget)?;
@@ -89,24 +89,24 @@ fn cells_in_brackets(
     Ok(cells)
 }
 
-/// What stands behind `datatable`.
+// What stands behind `datatable`.
 #[tactic(auto, unfolding(crate::specs::Reading::datatable))]
 pub(crate) fn read_datatable(
     alloc: Global,
     cursor: &mut Cursor<'_>,
     budget: usize,
 ) -> Result<SourceBody, Stop>
-    ensures { Gives from_of (spec.datatable budget cursor.old) result cursor.new }
+    ensures { IsOutcome from_of (spec.datatable budget cursor.old) result cursor.new }
 {
     let (first, others) = columns_in_parentheses(alloc, cursor, budget)?;
     let cells = cells_in_brackets(alloc, cursor, budget)?;
     Ok(build::datatable(first, others, cells))
 }
 
-/// A name that a source begins with.
+// A name that a source begins with.
 #[tactic(auto, unfolding(crate::specs::Reading::table_name, kq_expression::specs::Reading::name))]
 pub(crate) fn read_table_name(cursor: &mut Cursor<'_>) -> Result<Name, Stop>
-    ensures { Gives (λ n. n) (spec.table_name cursor.old) result cursor.new }
+    ensures { IsOutcome (λ n. n) (spec.table_name cursor.old) result cursor.new }
 {
     if cursor.sees(Class::Sign(Punctuation::OpenBracket)) {
         return read_name(cursor);
@@ -115,10 +115,10 @@ pub(crate) fn read_table_name(cursor: &mut Cursor<'_>) -> Result<Name, Stop>
     Ok(Name::Word(word))
 }
 
-/// `to typeof` and the word of a type in parentheses.
+// `to typeof` and the word of a type in parentheses.
 #[tactic(auto, unfolding(crate::specs::Reading::element_type))]
 fn read_element_type(cursor: &mut Cursor<'_>) -> Result<Symbol, Stop>
-    ensures { Gives (λ t. t) (spec.element_type cursor.old) result cursor.new }
+    ensures { IsOutcome (λ t. t) (spec.element_type cursor.old) result cursor.new }
 {
     cursor.expect(Class::Clause(ClauseWord::To))?;
     cursor.expect(Class::Clause(ClauseWord::Typeof))?;
@@ -128,9 +128,9 @@ fn read_element_type(cursor: &mut Cursor<'_>) -> Result<Symbol, Stop>
     Ok(word)
 }
 
-/// The word of a type, where it is said.
+// The word of a type, where it is said.
 fn maybe_element_type(cursor: &mut Cursor<'_>) -> Result<Option<Symbol>, Stop>
-    ensures { Gives (λ o. o) (spec.maybe_element_type cursor.old) result cursor.new }
+    ensures { IsOutcome (λ o. o) (spec.maybe_element_type cursor.old) result cursor.new }
 {
     if !cursor.sees(Class::Clause(ClauseWord::To)) {
         return Ok(None);
@@ -139,24 +139,24 @@ fn maybe_element_type(cursor: &mut Cursor<'_>) -> Result<Option<Symbol>, Stop>
     Ok(Some(word))
 }
 
-/// `kind =` and the kind of a join.
+// `kind =` and the kind of a join.
 #[tactic(auto, unfolding(crate::specs::Reading::kind))]
 pub(crate) fn read_kind(cursor: &mut Cursor<'_>) -> Result<Name, Stop>
-    ensures { Gives (λ n. n) (spec.kind cursor.old) result cursor.new }
+    ensures { IsOutcome (λ n. n) (spec.kind cursor.old) result cursor.new }
 {
     cursor.expect(Class::Clause(ClauseWord::Kind))?;
     cursor.expect(Class::Operator(Operator::Assign))?;
     read_join_kind(cursor)
 }
 
-/// What stands behind `top`.
+// What stands behind `top`.
 #[tactic(auto, unfolding(crate::specs::Reading::top))]
 pub(crate) fn read_top(
     alloc: Global,
     cursor: &mut Cursor<'_>,
     budget: usize,
 ) -> Result<OperatorBody, Stop>
-    ensures { Gives body_of (spec.top budget cursor.old) result cursor.new }
+    ensures { IsOutcome body_of (spec.top budget cursor.old) result cursor.new }
 {
     let count = cursor.expect(Class::WholeNumber)?;
     cursor.expect(Class::Reserved(ReservedWord::By))?;
@@ -164,14 +164,14 @@ pub(crate) fn read_top(
     Ok(OperatorBody::Top(count, key))
 }
 
-/// What stands behind `distinct`.
+// What stands behind `distinct`.
 #[tactic(auto, unfolding(crate::specs::Reading::distinction))]
 pub(crate) fn read_distinct(
     alloc: Global,
     cursor: &mut Cursor<'_>,
     budget: usize,
 ) -> Result<OperatorBody, Stop>
-    ensures { Gives body_of (spec.distinction budget cursor.old) result cursor.new }
+    ensures { IsOutcome body_of (spec.distinction budget cursor.old) result cursor.new }
 {
     if cursor.sees(Class::Operator(Operator::Star)) {
         let star = cursor.expect(Class::Operator(Operator::Star))?;
@@ -181,13 +181,13 @@ pub(crate) fn read_distinct(
     Ok(OperatorBody::Distinct(first, others))
 }
 
-/// What rows are grouped by, where it is said.
+// What rows are grouped by, where it is said.
 fn maybe_grouping(
     alloc: Global,
     cursor: &mut Cursor<'_>,
     budget: usize,
 ) -> Result<Option<Grouping>, Stop>
-    ensures { Gives (option_map grouping_view) (spec.maybe_grouping budget cursor.old) result cursor.new }
+    ensures { IsOutcome (option_map grouping_view) (spec.maybe_grouping budget cursor.old) result cursor.new }
 {
     if !cursor.sees(Class::Reserved(ReservedWord::By)) {
         return Ok(None);
@@ -196,14 +196,14 @@ fn maybe_grouping(
     Ok(Some(grouping))
 }
 
-/// What stands behind `summarize`.
+// What stands behind `summarize`.
 #[tactic(auto, unfolding(crate::specs::Reading::summarize))]
 pub(crate) fn read_summarize(
     alloc: Global,
     cursor: &mut Cursor<'_>,
     budget: usize,
 ) -> Result<OperatorBody, Stop>
-    ensures { Gives body_of (spec.summarize budget cursor.old) result cursor.new }
+    ensures { IsOutcome body_of (spec.summarize budget cursor.old) result cursor.new }
 {
     if cursor.sees(Class::Reserved(ReservedWord::By)) {
         let grouping = read_grouping(alloc, cursor, budget)?;
@@ -214,14 +214,14 @@ pub(crate) fn read_summarize(
     Ok(OperatorBody::Summarize(first, others, grouping))
 }
 
-/// What stands behind `mv-expand`.
+// What stands behind `mv-expand`.
 #[tactic(auto, unfolding(crate::specs::Reading::expansion))]
 pub(crate) fn read_expansion(
     alloc: Global,
     cursor: &mut Cursor<'_>,
     budget: usize,
 ) -> Result<OperatorBody, Stop>
-    ensures { Gives body_of (spec.expansion budget cursor.old) result cursor.new }
+    ensures { IsOutcome body_of (spec.expansion budget cursor.old) result cursor.new }
 {
     let item = read_item(alloc, cursor, budget)?;
     let word = maybe_element_type(cursor)?;

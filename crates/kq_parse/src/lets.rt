@@ -8,7 +8,7 @@ ghost use Rattle.kq_parse.specs.Reading as spec;
 ghost use Rattle.kq_syntax.specs.Classes as k;
 ghost use Rattle.kq_syntax.specs.Classes.{of};
 ghost use Rattle.kq_syntax.specs.Forms.{closed, expect, many, maybe, with_front};
-ghost use Rattle.kq_syntax.specs.Gives.{Gives};
+ghost use Rattle.kq_syntax.specs.Outcomes.{IsOutcome};
 
 use crate::pipes::read_tabular;
 use kq_expression::{read_expression, read_name};
@@ -17,13 +17,13 @@ use kq_syntax::{Class, Cursor, Part, ReservedWord, Stop, Symbol, more};
 use kq_token::{Operator, Punctuation};
 use std::alloc::Global;
 
-/// An expression up to its semicolon.
+// An expression up to its semicolon.
 fn closed_expression(
     alloc: Global,
     cursor: &mut Cursor<'_>,
     budget: usize,
 ) -> Result<Box<Expression>, Stop>
-    ensures { Gives (λ b. tree_of b.value) (closed (expression budget) (of k.semicolon) cursor.old) result cursor.new }
+    ensures { IsOutcome (λ b. tree_of b.value) (closed (expression budget) (of k.semicolon) cursor.old) result cursor.new }
 {
     let value = read_expression(alloc, cursor, budget)?;
     let value = Box::new(alloc, value)?;
@@ -31,23 +31,23 @@ fn closed_expression(
     Ok(value)
 }
 
-/// A source with its operators, up to its semicolon.
+// A source with its operators, up to its semicolon.
 fn closed_tabular(
     alloc: Global,
     cursor: &mut Cursor<'_>,
     budget: usize,
 ) -> Result<Box<Tabular>, Stop>
-    ensures { Gives (λ b. tabular_of b.value) (closed (spec.tabular budget) (of k.semicolon) cursor.old) result cursor.new }
+    ensures { IsOutcome (λ b. tabular_of b.value) (closed (spec.tabular budget) (of k.semicolon) cursor.old) result cursor.new }
 {
     let rows = read_tabular(alloc, cursor, budget)?;
     cursor.expect(Class::Sign(Punctuation::Semicolon))?;
     Ok(rows)
 }
 
-/// What a let stands for, up to the semicolon: it is read as an expression and as a source with operators.
+// What a let stands for, up to the semicolon: it is read as an expression and as a source with operators.
 #[tactic(auto, unfolding(crate::specs::Reading::right))]
 fn read_right(alloc: Global, cursor: &mut Cursor<'_>, budget: usize) -> Result<LetRight, Stop>
-    ensures { Gives right_of (spec.right budget cursor.old) result cursor.new }
+    ensures { IsOutcome right_of (spec.right budget cursor.old) result cursor.new }
 {
     let mut other = cursor.fork();
     let scalar = closed_expression(alloc, cursor, budget);
@@ -86,7 +86,7 @@ fn read_right(alloc: Global, cursor: &mut Cursor<'_>, budget: usize) -> Result<L
 #[derive(Clone, Copy)]
 pub struct ALet {
     alloc: Global,
-    /// At least the number of symbols that are left.
+    // At least the number of symbols that are left.
     budget: usize,
 }
 
@@ -111,9 +111,9 @@ impl Part for ALet {
     }
 }
 
-/// The semicolon that may end a query.
+// The semicolon that may end a query.
 fn maybe_semicolon(cursor: &mut Cursor<'_>) -> Result<Option<Symbol>, Stop>
-    ensures { Gives (λ o. o) (maybe (of k.semicolon) (expect (of k.semicolon)) cursor.old) result cursor.new }
+    ensures { IsOutcome (λ o. o) (maybe (of k.semicolon) (expect (of k.semicolon)) cursor.old) result cursor.new }
 {
     if !cursor.sees(Class::Sign(Punctuation::Semicolon)) {
         return Ok(None);
@@ -125,7 +125,7 @@ fn maybe_semicolon(cursor: &mut Cursor<'_>) -> Result<Option<Symbol>, Stop>
 /// The query that comes next. The budget is at least the number of symbols that are left.
 #[tactic(auto, unfolding(crate::specs::Reading::query))]
 pub fn read_query(alloc: Global, cursor: &mut Cursor<'_>, budget: usize) -> Result<Box<Query>, Stop>
-    ensures { Gives (λ b. query_of b.value) (spec.query budget cursor.old) result cursor.new }
+    ensures { IsOutcome (λ b. query_of b.value) (spec.query budget cursor.old) result cursor.new }
 {
     let a_let = ALet { alloc, budget };
     let lets = more(

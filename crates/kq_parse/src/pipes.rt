@@ -7,7 +7,7 @@ ghost use Rattle.kq_parse.specs.Nests.{Nests};
 ghost use Rattle.kq_parse.specs.Reading as spec;
 ghost use Rattle.kq_syntax.specs.declared.kind.Symbol.{Symbol as Shown};
 ghost use Rattle.kq_syntax.specs.Forms.{skip, many, with_front};
-ghost use Rattle.kq_syntax.specs.Gives.{Gives};
+ghost use Rattle.kq_syntax.specs.Outcomes.{IsOutcome};
 
 use crate::bodies::{
     read_datatable, read_distinct, read_expansion, read_kind, read_range, read_summarize,
@@ -29,7 +29,7 @@ use std::alloc::Global;
 #[derive(Clone, Copy)]
 pub struct Reader<F> {
     alloc: Global,
-    /// At least the number of symbols that are left.
+    // At least the number of symbols that are left.
     turns: usize,
     budget: usize,
     tabular: F,
@@ -39,7 +39,7 @@ impl<F: Fn(Global, &mut Cursor<'_>, usize) -> Result<Box<Tabular>, Stop>> Reader
     #[tactic(auto, unfolding(crate::specs::Reading::nesting))]
     fn nesting(&self, cursor: &mut Cursor<'_>) -> Result<(Symbol, Box<Tabular>), Stop>
         requires { Nests self.now.budget (F.pre self.now.tabular) (F.post self.now.tabular) }
-        ensures { Gives (λ p. (p.0, tabular_of p.1.value)) (spec.nesting (spec.tabular self.now.budget) self.now.turns cursor.old) result cursor.new }
+        ensures { IsOutcome (λ p. (p.0, tabular_of p.1.value)) (spec.nesting (spec.tabular self.now.budget) self.now.turns cursor.old) result cursor.new }
     {
         let paren = cursor.expect(Class::Sign(Punctuation::OpenParenthesis))?;
         let inner = (self.tabular)(self.alloc, cursor, self.budget)?;
@@ -50,7 +50,7 @@ impl<F: Fn(Global, &mut Cursor<'_>, usize) -> Result<Box<Tabular>, Stop>> Reader
     #[tactic(auto, unfolding(crate::specs::Reading::arm))]
     fn arm(&self, cursor: &mut Cursor<'_>) -> Result<Arm, Stop>
         requires { Nests self.now.budget (F.pre self.now.tabular) (F.post self.now.tabular) }
-        ensures { Gives arm_of (spec.arm (spec.tabular self.now.budget) self.now.turns cursor.old) result cursor.new }
+        ensures { IsOutcome arm_of (spec.arm (spec.tabular self.now.budget) self.now.turns cursor.old) result cursor.new }
     {
         if cursor.sees(Class::Sign(Punctuation::OpenParenthesis)) {
             let (paren, inner) = self.nesting(cursor)?;
@@ -63,7 +63,7 @@ impl<F: Fn(Global, &mut Cursor<'_>, usize) -> Result<Box<Tabular>, Stop>> Reader
     #[tactic(auto, unfolding(crate::specs::Reading::more_arms))]
     fn more_arms(&self, cursor: &mut Cursor<'_>) -> Result<Vec<Arm>, Stop>
         requires { Nests self.now.budget (F.pre self.now.tabular) (F.post self.now.tabular) }
-        ensures { Gives (λ v. map arm_of v.items) (spec.more_arms (spec.tabular self.now.budget) self.now.turns cursor.old) result cursor.new }
+        ensures { IsOutcome (λ v. map arm_of v.items) (spec.more_arms (spec.tabular self.now.budget) self.now.turns cursor.old) result cursor.new }
     {
         let arm = AnArm(self);
         let next = Behind {
@@ -79,10 +79,10 @@ impl<F: Fn(Global, &mut Cursor<'_>, usize) -> Result<Box<Tabular>, Stop>> Reader
         )
     }
 
-    /// One arm or more.
+    // One arm or more.
     fn arms(&self, cursor: &mut Cursor<'_>) -> Result<(Arm, Vec<Arm>), Stop>
         requires { Nests self.now.budget (F.pre self.now.tabular) (F.post self.now.tabular) }
-        ensures { Gives (λ p. (arm_of p.0, map arm_of p.1.items)) (spec.all_arms (spec.tabular self.now.budget) self.now.turns cursor.old) result cursor.new }
+        ensures { IsOutcome (λ p. (arm_of p.0, map arm_of p.1.items)) (spec.all_arms (spec.tabular self.now.budget) self.now.turns cursor.old) result cursor.new }
     {
         let first = self.arm(cursor)?;
         let others = self.more_arms(cursor)?;
@@ -92,17 +92,17 @@ impl<F: Fn(Global, &mut Cursor<'_>, usize) -> Result<Box<Tabular>, Stop>> Reader
     #[tactic(auto, unfolding(crate::specs::Reading::plain_union))]
     fn plain_union(&self, cursor: &mut Cursor<'_>) -> Result<Union, Stop>
         requires { Nests self.now.budget (F.pre self.now.tabular) (F.post self.now.tabular) }
-        ensures { Gives union_of (spec.plain_union (spec.tabular self.now.budget) self.now.turns cursor.old) result cursor.new }
+        ensures { IsOutcome union_of (spec.plain_union (spec.tabular self.now.budget) self.now.turns cursor.old) result cursor.new }
     {
         let (first, others) = self.arms(cursor)?;
         Ok(build::union(None, first, others))
     }
 
-    /// What stands behind the word `kind`, which may be the name of an arm.
+    // What stands behind the word `kind`, which may be the name of an arm.
     #[tactic(auto, unfolding(crate::specs::Reading::behind_kind))]
     fn behind_kind(&self, word: Symbol, cursor: &mut Cursor<'_>) -> Result<Union, Stop>
         requires { Nests self.now.budget (F.pre self.now.tabular) (F.post self.now.tabular) }
-        ensures { Gives union_of (spec.behind_kind (spec.tabular self.now.budget) self.now.turns word cursor.old) result cursor.new }
+        ensures { IsOutcome union_of (spec.behind_kind (spec.tabular self.now.budget) self.now.turns word cursor.old) result cursor.new }
     {
         if !cursor.sees(Class::Operator(Sign::Assign)) {
             let others = self.more_arms(cursor)?;
@@ -117,7 +117,7 @@ impl<F: Fn(Global, &mut Cursor<'_>, usize) -> Result<Box<Tabular>, Stop>> Reader
     #[tactic(auto, unfolding(crate::specs::Reading::union, crate::specs::Reading::kind_union))]
     fn union(&self, cursor: &mut Cursor<'_>) -> Result<Union, Stop>
         requires { Nests self.now.budget (F.pre self.now.tabular) (F.post self.now.tabular) }
-        ensures { Gives union_of (spec.union (spec.tabular self.now.budget) self.now.turns cursor.old) result cursor.new }
+        ensures { IsOutcome union_of (spec.union (spec.tabular self.now.budget) self.now.turns cursor.old) result cursor.new }
     {
         if !cursor.sees(Class::Clause(ClauseWord::Kind)) {
             return self.plain_union(cursor);
@@ -126,10 +126,10 @@ impl<F: Fn(Global, &mut Cursor<'_>, usize) -> Result<Box<Tabular>, Stop>> Reader
         self.behind_kind(word, cursor)
     }
 
-    /// What stands behind the word of a source.
+    // What stands behind the word of a source.
     fn from(&self, word: SourceWord, cursor: &mut Cursor<'_>) -> Result<SourceBody, Stop>
         requires { Nests self.now.budget (F.pre self.now.tabular) (F.post self.now.tabular) }
-        ensures { Gives from_of (spec.from (spec.tabular self.now.budget) self.now.turns word cursor.old) result cursor.new }
+        ensures { IsOutcome from_of (spec.from (spec.tabular self.now.budget) self.now.turns word cursor.old) result cursor.new }
     {
         match word {
             SourceWord::MaterializedView => Ok(build::view(read_view(cursor)?)),
@@ -146,7 +146,7 @@ impl<F: Fn(Global, &mut Cursor<'_>, usize) -> Result<Box<Tabular>, Stop>> Reader
     #[tactic(auto, unfolding(crate::specs::Reading::source))]
     fn source(&self, cursor: &mut Cursor<'_>) -> Result<Source, Stop>
         requires { Nests self.now.budget (F.pre self.now.tabular) (F.post self.now.tabular) }
-        ensures { Gives source_of (spec.source (spec.tabular self.now.budget) self.now.turns cursor.old) result cursor.new }
+        ensures { IsOutcome source_of (spec.source (spec.tabular self.now.budget) self.now.turns cursor.old) result cursor.new }
     {
         if cursor.sees(Class::Sign(Punctuation::OpenParenthesis)) {
             let (paren, inner) = self.nesting(cursor)?;
@@ -163,7 +163,7 @@ impl<F: Fn(Global, &mut Cursor<'_>, usize) -> Result<Box<Tabular>, Stop>> Reader
     #[tactic(auto, unfolding(crate::specs::Reading::join))]
     fn join(&self, cursor: &mut Cursor<'_>) -> Result<OperatorBody, Stop>
         requires { Nests self.now.budget (F.pre self.now.tabular) (F.post self.now.tabular) }
-        ensures { Gives body_of (spec.join (spec.tabular self.now.budget) self.now.turns cursor.old) result cursor.new }
+        ensures { IsOutcome body_of (spec.join (spec.tabular self.now.budget) self.now.turns cursor.old) result cursor.new }
     {
         let kind = maybe_kind(cursor)?;
         let (_paren, right) = self.nesting(cursor)?;
@@ -171,10 +171,10 @@ impl<F: Fn(Global, &mut Cursor<'_>, usize) -> Result<Box<Tabular>, Stop>> Reader
         Ok(build::join(kind, right, first, others))
     }
 
-    /// What stands behind the word of an operator that has rows inside or a list of parts.
+    // What stands behind the word of an operator that has rows inside or a list of parts.
     fn body(&self, key: OperatorKey, cursor: &mut Cursor<'_>) -> Result<OperatorBody, Stop>
         requires { Nests self.now.budget (F.pre self.now.tabular) (F.post self.now.tabular) }
-        ensures { Gives body_of (spec.body (spec.tabular self.now.budget) self.now.turns key cursor.old) result cursor.new }
+        ensures { IsOutcome body_of (spec.body (spec.tabular self.now.budget) self.now.turns key cursor.old) result cursor.new }
     {
         match key {
             OperatorKey::Where => Ok(OperatorBody::Where(read_expression(
@@ -215,17 +215,17 @@ impl<F: Fn(Global, &mut Cursor<'_>, usize) -> Result<Box<Tabular>, Stop>> Reader
     #[tactic(auto, unfolding(crate::specs::Reading::operator))]
     fn operator(&self, cursor: &mut Cursor<'_>) -> Result<Operator, Stop>
         requires { Nests self.now.budget (F.pre self.now.tabular) (F.post self.now.tabular) }
-        ensures { Gives operator_of (spec.operator (spec.tabular self.now.budget) self.now.turns cursor.old) result cursor.new }
+        ensures { IsOutcome operator_of (spec.operator (spec.tabular self.now.budget) self.now.turns cursor.old) result cursor.new }
     {
         let (word, key) = expect_operator_word(cursor)?;
         let body = self.body(key, cursor)?;
         Ok(build::operator(word, body))
     }
 
-    /// The source in a box, since it is owned while the operators are read.
+    // The source in a box, since it is owned while the operators are read.
     fn boxed_source(&self, cursor: &mut Cursor<'_>) -> Result<Box<Source>, Stop>
         requires { Nests self.now.budget (F.pre self.now.tabular) (F.post self.now.tabular) }
-        ensures { Gives (λ b. source_of b.value) (spec.source (spec.tabular self.now.budget) self.now.turns cursor.old) result cursor.new }
+        ensures { IsOutcome (λ b. source_of b.value) (spec.source (spec.tabular self.now.budget) self.now.turns cursor.old) result cursor.new }
     {
         let source = self.source(cursor)?;
         Ok(Box::new(self.alloc, source)?)
@@ -233,7 +233,7 @@ impl<F: Fn(Global, &mut Cursor<'_>, usize) -> Result<Box<Tabular>, Stop>> Reader
 
     fn operators(&self, cursor: &mut Cursor<'_>) -> Result<Vec<Operator>, Stop>
         requires { Nests self.now.budget (F.pre self.now.tabular) (F.post self.now.tabular) }
-        ensures { Gives (λ v. map operator_of v.items) (spec.operators (spec.tabular self.now.budget) self.now.turns cursor.old) result cursor.new }
+        ensures { IsOutcome (λ v. map operator_of v.items) (spec.operators (spec.tabular self.now.budget) self.now.turns cursor.old) result cursor.new }
     {
         let operator = AnOperator(self);
         let next = Behind {
@@ -252,7 +252,7 @@ impl<F: Fn(Global, &mut Cursor<'_>, usize) -> Result<Box<Tabular>, Stop>> Reader
     #[tactic(auto, unfolding(crate::specs::Reading::pipeline))]
     fn pipeline(&self, cursor: &mut Cursor<'_>) -> Result<Box<Tabular>, Stop>
         requires { Nests self.now.budget (F.pre self.now.tabular) (F.post self.now.tabular) }
-        ensures { Gives (λ b. tabular_of b.value) (spec.pipeline (spec.tabular self.now.budget) self.now.turns cursor.old) result cursor.new }
+        ensures { IsOutcome (λ b. tabular_of b.value) (spec.pipeline (spec.tabular self.now.budget) self.now.turns cursor.old) result cursor.new }
     {
         let source = self.boxed_source(cursor)?;
         let operators = self.operators(cursor)?;
@@ -260,22 +260,22 @@ impl<F: Fn(Global, &mut Cursor<'_>, usize) -> Result<Box<Tabular>, Stop>> Reader
     }
 }
 
-/// `on` and what a join matches on.
+// `on` and what a join matches on.
 fn keys_on(
     alloc: Global,
     cursor: &mut Cursor<'_>,
     budget: usize,
 ) -> Result<(JoinKey, Vec<JoinKey>), Stop>
-    ensures { Gives (λ p. (p.0, p.1.items)) (spec.keys_on budget cursor.old) result cursor.new }
+    ensures { IsOutcome (λ p. (p.0, p.1.items)) (spec.keys_on budget cursor.old) result cursor.new }
 {
     cursor.expect(Class::Clause(ClauseWord::On))?;
     read_join_keys(alloc, cursor, budget)
 }
 
-/// The kind of a join, where it is said.
+// The kind of a join, where it is said.
 #[tactic(auto, unfolding(crate::specs::Reading::maybe_kind))]
 fn maybe_kind(cursor: &mut Cursor<'_>) -> Result<Option<Name>, Stop>
-    ensures { Gives (λ o. o) (spec.maybe_kind cursor.old) result cursor.new }
+    ensures { IsOutcome (λ o. o) (spec.maybe_kind cursor.old) result cursor.new }
 {
     if !cursor.sees(Class::Clause(ClauseWord::Kind)) {
         return Ok(None);
@@ -330,7 +330,7 @@ pub fn read_tabular(
     cursor: &mut Cursor<'_>,
     budget: usize,
 ) -> Result<Box<Tabular>, Stop>
-    ensures { Gives (λ b. tabular_of b.value) (spec.tabular budget cursor.old) result cursor.new }
+    ensures { IsOutcome (λ b. tabular_of b.value) (spec.tabular budget cursor.old) result cursor.new }
 {
     if budget == 0 {
         return Err(Stop::Syntax);

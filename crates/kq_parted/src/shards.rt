@@ -15,7 +15,7 @@ use kq_value::{Memory, Value};
 use std::alloc::Global;
 use std::sync::Arc;
 
-/// How many shards there are.
+// How many shards there are.
 pub(crate) const SHARDS: usize = 64;
 
 fn shard_of(hash: u64) -> usize
@@ -39,7 +39,7 @@ fn numbers_in(alloc: Global, groups: &Groups, shard: usize) -> Result<Vec<u32>, 
     Ok(numbers)
 }
 
-/// The shards of no rows: the first has the groups that are there over no rows too, and the others have none.
+// The shards of no rows: the first has the groups that are there over no rows too, and the others have none.
 pub(crate) fn empty_shards(
     alloc: Global,
     first: Arc<Groups, Global>,
@@ -55,7 +55,7 @@ pub(crate) fn empty_shards(
     Ok(shards)
 }
 
-/// The same shards again.
+// The same shards again.
 pub(crate) fn shared_shards(
     alloc: Global,
     shards: &[Arc<Groups, Global>],
@@ -95,7 +95,7 @@ fn folded_shard(
     Ok(Arc::new(alloc, groups)?)
 }
 
-/// The shards with the groups.
+// The shards with the groups.
 pub(crate) fn folded_shards(
     alloc: Global,
     width: usize,
@@ -116,7 +116,7 @@ pub(crate) fn folded_shards(
     Ok(all)
 }
 
-/// The rows of the shards, one shard after another.
+// The rows of the shards, one shard after another.
 pub(crate) fn rows_of(alloc: Global, shards: &[Arc<Groups, Global>]) -> Result<Rows, EvalFault>
     requires { AreFinishable (map arc_value shards.now) }
     ensures { Answers (rows_in (map arc_value shards.now)) result }

@@ -30,11 +30,11 @@ module _ {X : Type 0} (P : X → Type 0) where
 abbrev pub Same : List Value → List Value → List ℕ → Type 0
 Same q r js = All (λ j. cell_of q j ≡ cell_of r j) js
 
-abbrev pub Reads : Expr → Type 0
-Reads e = (s : Surroundings) (q r : List Value) → Same q r (columns_read e) → val e s q ≡ val e s r
+abbrev pub ReadsOnly : Expr → Type 0
+ReadsOnly e = (s : Surroundings) (q r : List Value) → Same q r (columns_read e) → val e s q ≡ val e s r
 
 abbrev Parts : Type 0
-Parts = List ((e : Expr) × Reads e)
+Parts = List ((e : Expr) × ReadsOnly e)
 
 abbrev val_all : Parts → List Meaning
 val_all es = map val (map (λ e. e.0) es)
@@ -46,10 +46,10 @@ module _ (s : Surroundings) (q r : List Value) where
   abbrev same : ℕ → Type 0
   same j = cell_of q j ≡ cell_of r j
 
-  one : (e : (e : Expr) × Reads e) (es : Parts) → Same q r (read_all (e ∷ es)) → val e.0 s q ≡ val e.0 s r
+  one : (e : (e : Expr) × ReadsOnly e) (es : Parts) → Same q r (read_all (e ∷ es)) → val e.0 s q ≡ val e.0 s r
   one e es h = e.1 s q r (first_all same (columns_read e.0) (read_all es) h)
 
-  others : (e : (e : Expr) × Reads e) (es : Parts) → Same q r (read_all (e ∷ es)) → Same q r (read_all es)
+  others : (e : (e : Expr) × ReadsOnly e) (es : Parts) → Same q r (read_all (e ∷ es)) → Same q r (read_all es)
   others e es h = other_all same (columns_read e.0) (read_all es) h
 
   all_values : (es : Parts) → Same q r (read_all es) → values (val_all es) s q ≡ values (val_all es) s r
@@ -75,20 +75,20 @@ module _ (s : Surroundings) (q r : List Value) where
   all_called f.Coalesce es h = all_present es h
   all_called function es h = ap (λ c. and_then c (applied function s.now)) (all_values es h)
 
-  level : (y : Expr-F ((e : Expr) × Reads e))
-      → Same q r (reads_step (map-Expr Expr (List ℕ) columns_read (map-Expr ((e : Expr) × Reads e) Expr (λ e. e.0) y)))
-      → val_step (map-Expr Expr Meaning val (map-Expr ((e : Expr) × Reads e) Expr (λ e. e.0) y)) s q
-      ≡ val_step (map-Expr Expr Meaning val (map-Expr ((e : Expr) × Reads e) Expr (λ e. e.0) y)) s r
+  level : (y : Expr-F ((e : Expr) × ReadsOnly e))
+      → Same q r (reads_step (map-Expr Expr (List ℕ) columns_read (map-Expr ((e : Expr) × ReadsOnly e) Expr (λ e. e.0) y)))
+      → val_step (map-Expr Expr Meaning val (map-Expr ((e : Expr) × ReadsOnly e) Expr (λ e. e.0) y)) s q
+      ≡ val_step (map-Expr Expr Meaning val (map-Expr ((e : Expr) × ReadsOnly e) Expr (λ e. e.0) y)) s r
   level (Expr-F.Literal v) h = refl
   level (Expr-F.Column j) h = ap Is (All-head same j [] h)
   level (Expr-F.Cell i) h = refl
   level (Expr-F.Call function args) h = all_called function args.items h
 
-here : (y : Expr-F ((e : Expr) × Reads e)) → Reads (roll-Expr (map-Expr ((e : Expr) × Reads e) Expr (λ e. e.0) y))
+here : (y : Expr-F ((e : Expr) × ReadsOnly e)) → ReadsOnly (roll-Expr (map-Expr ((e : Expr) × ReadsOnly e) Expr (λ e. e.0) y))
 here y s q r h =
-    let x = map-Expr ((e : Expr) × Reads e) Expr (λ e. e.0) y in
+    let x = map-Expr ((e : Expr) × ReadsOnly e) Expr (λ e. e.0) y in
     let read = subst (λ (js : List ℕ). Same q r js) (fold-roll-Expr (List ℕ) reads_step x) h in
     ap (λ (m : Meaning). m s q) (fold-roll-Expr Meaning val_step x) ∙ level s q r y read ∙ ap (λ (m : Meaning). m s r) (sym (fold-roll-Expr Meaning val_step x))
 
-pub reads_alone : (e : Expr) → Reads e
-reads_alone = ind-Expr Reads (λ x y is. subst (λ (z : Expr-F Expr). Reads (roll-Expr z)) is (here y))
+pub reads_alone : (e : Expr) → ReadsOnly e
+reads_alone = ind-Expr ReadsOnly (λ x y is. subst (λ (z : Expr-F Expr). ReadsOnly (roll-Expr z)) is (here y))

@@ -36,21 +36,21 @@ module _ (es : List Term) (gs : List Aggregating) (cs : List Field) (s : Surroun
   pub groups_end : (r : Ran) (a : Arrived) (g : Grouping) → length cs ≡ length es + all_made gs → ArriveAs es gs cs s r a → a ≡ arrived.Groups g → Ending g
   groups_end r a g long arrives is = ending r g long (subst (ArriveAs es gs cs s r) is arrives)
 
-  abbrev Ends : ℕ → Ran → Outcome → Type 0
-  Ends stage r o = EndsAs (λ rows. GroupsTo es gs cs s rows stage) r (ended.Gave o)
+  abbrev EndsIn : ℕ → Ran → Outcome → Type 0
+  EndsIn stage r o = EndsAs (λ rows. GroupsTo es gs cs s rows stage) r (ended.Gave o)
 
-  grouped_to : (stage : ℕ) (r : Ran) (g : Grouping) (o : Outcome) → ArriveAs es gs cs s r (arrived.Groups g) → o ≡ in_stage stage false (rows_from g.states g.keys 0) → Ends stage r o
+  grouped_to : (stage : ℕ) (r : Ran) (g : Grouping) (o : Outcome) → ArriveAs es gs cs s r (arrived.Groups g) → o ≡ in_stage stage false (rows_from g.states g.keys 0) → EndsIn stage r o
   grouped_to stage (came rows) g o of is = record { came = rows_from g.states g.keys 0; grouped_so = grouped_all es gs cs s rows g of; is = is }
   grouped_to stage (failed n) g o of is = absurd of
 
-  pub ends_in_groups : (stage : ℕ) (r : Ran) (a : Arrived) (g : Grouping) (o : Outcome) → ArriveAs es gs cs s r a → a ≡ arrived.Groups g → o ≡ in_stage stage false (rows_from g.states g.keys 0) → Ends stage r o
+  pub ends_in_groups : (stage : ℕ) (r : Ran) (a : Arrived) (g : Grouping) (o : Outcome) → ArriveAs es gs cs s r a → a ≡ arrived.Groups g → o ≡ in_stage stage false (rows_from g.states g.keys 0) → EndsIn stage r o
   ends_in_groups stage r a g o arrives is made = grouped_to stage r g o (subst (ArriveAs es gs cs s r) is arrives) made
 
-  lost_to : (stage : ℕ) (r : Ran) → ArriveAs es gs cs s r arrived.Overflow → Ends stage r (outcome.Overflow stage)
+  lost_to : (stage : ℕ) (r : Ran) → ArriveAs es gs cs s r arrived.Overflow → EndsIn stage r (outcome.Overflow stage)
   lost_to stage (came rows) lost = record { came = Overflow; grouped_so = summarized_lost es gs cs s rows lost; is = refl }
   lost_to stage (failed n) lost = absurd lost
 
-  pub ends_in_overflow : (stage : ℕ) (r : Ran) (a : Arrived) → ArriveAs es gs cs s r a → a ≡ arrived.Overflow → Ends stage r (outcome.Overflow stage)
+  pub ends_in_overflow : (stage : ℕ) (r : Ran) (a : Arrived) → ArriveAs es gs cs s r a → a ≡ arrived.Overflow → EndsIn stage r (outcome.Overflow stage)
   ends_in_overflow stage r a arrives is = lost_to stage r (subst (ArriveAs es gs cs s r) is arrives)
 
   failed_so : (stage : ℕ) (r : Ran) (n : ℕ) → ArriveAs es gs cs s r (arrived.Failed n) → EndsAs (λ rows. GroupsTo es gs cs s rows stage) r (ended.Failed n)

@@ -23,7 +23,7 @@ use Rattle.kq_piecewise.specs.Operators.{values_at}
 use Rattle.kq_pipe.specs.Outcomes.{Row}
 use Rattle.kq_pipe.specs.Typed.{IsTypedTable}
 use Rattle.kq_grouping.proofs.Arguments.{each_parts}
-use Rattle.kq_grouping.proofs.Columns.{length-AreTyped, made_by}
+use Rattle.kq_grouping.proofs.Columns.{length-AreTyped, width_made}
 use Rattle.kq_pipe.proofs.TypedOutcomes.{staged_typed}
 use Rattle.kq_pipe.proofs.TypedRows.{GivesRow, GivesRows, Surrounds, each_typed, values_typed}
 
@@ -89,7 +89,7 @@ fit_types : (lets from : List Field) (gs : List Aggregating) (made : List Field)
 fit_types lets from [] made s rows args around fit all e = let is : args ≡ [] = cc in subst (λ (those : List (List Row)). FitTypes lets from [] [] those made) (sym is) fit
 fit_types lets from (g ∷ gs) made s rows args around (own, more, apart, fits, fit) all e =
     let (first, others, one, rest, is) = each_parts (arguments_over s rows g) (each (arguments_over s rows) gs) args e in
-    let many = made_by lets from g own fits in
+    let many = width_made lets from g own fits in
     let front : take (columns_made g) (map ty_of made) ≡ map ty_of own =
     ap (λ (cs : List Field). take (columns_made g) (map ty_of cs)) apart ∙ ap (λ (n : ℕ). take n (map ty_of (own ++ more))) (sym many) ∙ front_types own more in
     let behind : drop (columns_made g) (map ty_of made) ≡ map ty_of more =

@@ -24,7 +24,7 @@ use kq_rows::Rows;
 use kq_value::{Field, Memory, Value};
 use std::alloc::{AllocError, Global};
 
-/// What became of rows that came, or the number of the operator that failed, from 0.
+// What became of rows that came, or the number of the operator that failed, from 0.
 #[derive(Drop)]
 pub(crate) enum Ended {
     Gave(Outcome),

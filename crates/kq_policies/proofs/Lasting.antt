@@ -19,7 +19,7 @@ use Rattle.kq_model.specs.Derived.{Cascade, IsDerived}
 use Rattle.kq_model.specs.Force.{policy_at}
 use Rattle.kq_model.specs.History.{History, Log, Numbered, commits_of, log, tables, tables_from, tables_with}
 use Rattle.kq_model.specs.Policies.{policies, policies_from, policies_with, rules}
-use Rattle.kq_model.specs.Records.{given_by, records_from}
+use Rattle.kq_model.specs.Records.{batch_records, records_from}
 use Rattle.kq_model.proofs.Lasting.{AreKept, IsDerived-later, IsKept}
 use Rattle.kq_model.proofs.Unique.{records_from-append}
 use Rattle.kq_plan.specs.declared.work.LeafKind.TheVariants as kind
@@ -163,12 +163,12 @@ policies_quiet ts l more q = policies_from-append [] l (log more) ∙ policies_s
 
 -- ---- rows
 
-passed_over : (ts : List ℕ) (t at ordinal : ℕ) (b : Batch) (bs : List Batch) → is_one_of b.table ts ≡ false → is_one_of t ts ≡ true → given_by t at ordinal bs ≡ []
-    → ((nat_eq b.table t ≡ true) × (b.table ≡ t)) ⊎ ((nat_eq b.table t ≡ false) × (b.table ≢ t)) → given_by t at ordinal (b ∷ bs) ≡ []
+passed_over : (ts : List ℕ) (t at ordinal : ℕ) (b : Batch) (bs : List Batch) → is_one_of b.table ts ≡ false → is_one_of t ts ≡ true → batch_records t at ordinal bs ≡ []
+    → ((nat_eq b.table t ≡ true) × (b.table ≡ t)) ⊎ ((nat_eq b.table t ≡ false) × (b.table ≢ t)) → batch_records t at ordinal (b ∷ bs) ≡ []
 passed_over ts t at ordinal b bs none one rest (inl here) = absurd (never (is_one_of t ts) (ap (λ (k : ℕ). is_one_of k ts) (sym here.1) ∙ none) one)
 passed_over ts t at ordinal b bs none one rest (inr there) = rw there.0 rest
 
-none_by : (ts : List ℕ) (t at ordinal : ℕ) (bs : List Batch) → gives_one ts bs ≡ false → is_one_of t ts ≡ true → given_by t at ordinal bs ≡ []
+none_by : (ts : List ℕ) (t at ordinal : ℕ) (bs : List Batch) → gives_one ts bs ≡ false → is_one_of t ts ≡ true → batch_records t at ordinal bs ≡ []
 none_by ts t at ordinal [] none one = refl
 none_by ts t at ordinal (b ∷ bs) none one =
     let parts = or_none (is_one_of b.table ts) (gives_one ts bs) none in

@@ -24,7 +24,7 @@ use kq_value::{Field, Memory, Schema, Text};
 use std::alloc::Global;
 use std::marker::Model;
 
-/// The tables of a snapshot as a plan reads them over the rows of a batch of one of them, its source.
+// The tables of a snapshot as a plan reads them over the rows of a batch of one of them, its source.
 #[derive(Drop)]
 pub(crate) struct Beside<'a> {
     snapshot: &'a Snapshot,

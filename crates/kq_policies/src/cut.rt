@@ -5,7 +5,7 @@ use kq_rows::Rows;
 use kq_value::Memory;
 use std::alloc::Global;
 
-/// Copies of rows, each cut to its first cells, so many or all.
+// Copies of rows, each cut to its first cells, so many or all.
 pub(crate) fn cut(alloc: Global, rows: &Rows, count: usize) -> Result<Rows, Memory>
     ensures { IfOk result (λ few. few ≡ map (take count) rows.now) }
 {

@@ -12,7 +12,7 @@ use kq_value::{Memory, Schema, Tags};
 use std::alloc::Global;
 use std::sync::Arc;
 
-/// Rows of a table as the records of one extent. Nothing looks at its id, its cursor or its tags.
+// Rows of a table as the records of one extent. Nothing looks at its id, its cursor or its tags.
 pub(crate) fn lay_out(
     alloc: Global,
     snapshot: &Snapshot,

@@ -15,7 +15,7 @@ use kq_rows::Rows;
 use kq_value::{Field, Memory, Tags};
 use std::alloc::Global;
 
-/// The policies of a snapshot, with its tables.
+// The policies of a snapshot, with its tables.
 #[derive(Drop)]
 struct Policies<'a> {
     snapshot: &'a Snapshot,

@@ -19,7 +19,7 @@ use kq_pipe::{Outcome, run_plan};
 use kq_rows::Rows;
 use std::alloc::Global;
 
-/// What the query of an entry gives over a batch of its source, by the entry's place.
+// What the query of an entry gives over a batch of its source, by the entry's place.
 pub(crate) fn run_due(
     alloc: Global,
     snapshot: &Snapshot,

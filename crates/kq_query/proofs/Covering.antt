@@ -1,4 +1,4 @@
--- What a view covers: what it covers up to its mark, and what came behind that.
+-- What a view covers: what it covers up to its cursor, and what came behind that.
 use Rattle.std.proofs.Common.{◌≡◌, ◌≤◌, ◌+◌, ℕ, Bool, true, false, not, ◌&&◌, cond, nat_lt, List, [], ◌∷◌, ◌++◌, All, length, map, take, refl, sym, ap, ◌∙◌, subst, arith}
 use Rattle.std.specs.List.{filter, sum_by}
 use Rattle.std.specs.List.Sorted.{IsPermutation}

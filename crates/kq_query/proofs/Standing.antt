@@ -16,10 +16,10 @@ use Rattle.kq_group.specs.Groups.{Grouping}
 use Rattle.kq_grouping.specs.Bodies.{AnswersMade, IsViewBody, StandsFor, columns_read}
 use Rattle.kq_model.specs.declared.table.Table.{Table}
 use Rattle.kq_model.specs.declared.view.View.{View}
-use Rattle.kq_model.specs.History.{History, Log, Viewed, cursor, log, mark, tables, views}
+use Rattle.kq_model.specs.History.{History, Log, Viewed, cursor, log, view_cursor, tables, views}
 use Rattle.kq_model.specs.Records.{records, rows_in, schema_of}
 use Rattle.kq_model.specs.Views.{covered}
-use Rattle.kq_model.proofs.Views.{IsOver, marked, over}
+use Rattle.kq_model.proofs.Views.{IsOver, materialized, over}
 use Rattle.kq_pipe.specs.Operators.{AnswersOne}
 use Rattle.kq_pipe.specs.Outcomes.{Row}
 use Rattle.kq_plan.specs.declared.work.LeafKind.{LeafKind}
@@ -57,25 +57,25 @@ view_over c n v sound is = let one = numbered (hist c) n v is in subst (IsOver (
 pub view_part : (h : History) (n : ℕ) (v : View) (g : Grouping) → view_numbered h n ≡ Some v → ((w : Viewed) → slice_get (views (log h)) n ≡ Some w → HoldsPart h n w.view g) → HoldsPart h n v g
 view_part h n v g is holds = let one = numbered h n v is in subst (λ (x : View). HoldsPart h n x g) one.is (holds one.viewed one.at)
 
-pub view_from : (c : CatalogView) (n : ℕ) (v : View) → Sound c → view_numbered (hist c) n ≡ Some v → v.base ≤ mark (hist c) n
+pub view_from : (c : CatalogView) (n : ℕ) (v : View) → Sound c → view_numbered (hist c) n ≡ Some v → v.base ≤ view_cursor (hist c) n
 view_from c n v sound is =
     let one = numbered (hist c) n v is in
-    subst (λ (x : View). x.base ≤ mark (hist c) n) one.is (marked c.limits (hist c) sound.lawful n one.viewed one.at).from
+    subst (λ (x : View). x.base ≤ view_cursor (hist c) n) one.is (materialized c.limits (hist c) sound.lawful n one.viewed one.at).from
 
-pub view_up : (c : CatalogView) (n : ℕ) (v : View) (k : LeafKind) → Sound c → view_numbered (hist c) n ≡ Some v → mark (hist c) n ≤ read_to (hist c) k n
+pub view_up : (c : CatalogView) (n : ℕ) (v : View) (k : LeafKind) → Sound c → view_numbered (hist c) n ≡ Some v → view_cursor (hist c) n ≤ read_to (hist c) k n
 view_up c n v k sound is = by_kind k
   where
-    within : mark (hist c) n ≤ cursor (hist c)
-    within = let one = numbered (hist c) n v is in (marked c.limits (hist c) sound.lawful n one.viewed one.at).within
+    within : view_cursor (hist c) n ≤ cursor (hist c)
+    within = let one = numbered (hist c) n v is in (materialized c.limits (hist c) sound.lawful n one.viewed one.at).within
 
-    by_kind : (k : LeafKind) → mark (hist c) n ≤ read_to (hist c) k n
+    by_kind : (k : LeafKind) → view_cursor (hist c) n ≤ read_to (hist c) k n
     by_kind kind.Table = within
     by_kind kind.View = within
     by_kind kind.Part = omega arith
 
 -- as the code comes to it
-pub reaches : (h : History) (k : LeafKind) (n to above last : ℕ) → to ≡ up_to k above last → above ≡ mark h n → last ≡ cursor h → to ≡ read_to h k n
-reaches h k n to above last is from up = is ∙ ap (λ (m : ℕ). up_to k m last) from ∙ ap (up_to k (mark h n)) up
+pub reaches : (h : History) (k : LeafKind) (n to above last : ℕ) → to ≡ up_to k above last → above ≡ view_cursor h n → last ≡ cursor h → to ≡ read_to h k n
+reaches h k n to above last is from up = is ∙ ap (λ (m : ℕ). up_to k m last) from ∙ ap (up_to k (view_cursor h n)) up
 
 -- ---- its table
 
@@ -113,13 +113,13 @@ module _ (h : History) (n : ℕ) (v : View) (k : LeafKind) (held : HeldExtents) 
   columns = columns_read (planned_of v.body)
 
   abbrev delta : List Row
-  delta = rows_between (mark h n) (read_to h k n) columns (held_records held)
+  delta = rows_between (view_cursor h n) (read_to h k n) columns (held_records held)
 
-  pub gives_rows : (r : Result (List Row) EvalFault) → v.base ≤ mark h n → mark h n ≤ read_to h k n → HoldsPart h n v part → All (HasTypes (schema_of (log h) v.source)) (rows_in h v.source)
+  pub gives_rows : (r : Result (List Row) EvalFault) → v.base ≤ view_cursor h n → view_cursor h n ≤ read_to h k n → HoldsPart h n v part → All (HasTypes (schema_of (log h) v.source)) (rows_in h v.source)
       → ((had : List Row) → StandsFor (planned_of v.body) had part → AnswersMade (planned_of v.body) (had ++ delta) r) → AnswersOne (ViewGives h k n v) r
   gives_rows r low high holds typed made =
       answers_gives over_table.name columns (planned_of v.body) over_table.body (covered (log h) v v.base (read_to h k n)) (covered_typed v (log h) over_table.columns v.base (read_to h k n) typed) (holds.order ++ delta)
-      (all_covered v (log h) over_table.columns held v.base (mark h n) (read_to h k n) holds.order low high holds.same same) r (made holds.order holds.stands)
+      (all_covered v (log h) over_table.columns held v.base (view_cursor h n) (read_to h k n) holds.order low high holds.same same) r (made holds.order holds.stands)
 
 -- ---- its columns
 

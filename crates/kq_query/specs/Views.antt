@@ -5,7 +5,7 @@ use Rattle.std.specs.Option.{option_map}
 use Rattle.kq_computed.specs.Computed.{Computed, Is, Overflow}
 use Rattle.kq_grouping.specs.Bodies.{columns_made}
 use Rattle.kq_model.specs.declared.view.View.{View}
-use Rattle.kq_model.specs.History.{History, Viewed, cursor, log, mark, views}
+use Rattle.kq_model.specs.History.{History, Viewed, cursor, log, view_cursor, views}
 use Rattle.kq_model.specs.Records.{ExtentItem, extents}
 use Rattle.kq_model.specs.Views.{covered}
 use Rattle.kq_pipe.specs.declared.outcome.Outcome.{Outcome}
@@ -50,13 +50,13 @@ pub record BodyGives (p : Planned) (rows : List Row) (given : Computed (List Row
   pub gives : Gives p (alone_world rows) (pos 0) outcome
   pub told : Tells (columns_made p) outcome given
 
--- up to which cursor a leaf reads the records of a view: a part up to the view's mark, and the view up to the last commit
+-- up to which cursor a leaf reads the records of a view: a part up to the view's cursor, and the view up to the last commit
 abbrev pub up_to : LeafKind → ℕ → ℕ → ℕ
-up_to kind.Part mark cursor = mark
-up_to _ mark cursor = cursor
+up_to kind.Part view_cursor cursor = view_cursor
+up_to _ view_cursor cursor = cursor
 
 abbrev pub read_to : History → LeafKind → ℕ → ℕ
-read_to h kind number = up_to kind (mark h number) (cursor h)
+read_to h kind number = up_to kind (view_cursor h number) (cursor h)
 
 -- a view gives what its body may give over the records that it covers, cut to the columns that its table had when it was made
 abbrev pub ViewGives : History → LeafKind → ℕ → View → Computed (List Row) → Type 0
@@ -72,7 +72,7 @@ has_later above i = list_any (λ (id : RecordId). nat_lt above id.cursor) i.reco
 abbrev pub records_later : History → ℕ → ℕ → ℕ
 records_later h t above = sum_by (λ (i : ExtentItem). if has_later above i then length i.records else 0) (extents h t)
 
--- how many records are looked at for the rows of a view: those of the extents that have one above its mark, and none for its part alone
+-- how many records are looked at for the rows of a view: those of the extents that have one above its cursor, and none for its part alone
 abbrev pub looked_at : History → LeafKind → ℕ → View → ℕ
 looked_at h kind.Part number v = 0
-looked_at h _ number v = records_later h v.source (mark h number)
+looked_at h _ number v = records_later h v.source (view_cursor h number)

@@ -21,7 +21,7 @@ use kq_scan::delta;
 use kq_value::{Field, Memory};
 use std::alloc::Global;
 
-/// The rows of a view by its number: over all records that it covers, or over those of its part alone. They come from its part and the records behind its mark; `read` rises by the number of records that were looked at.
+/// The rows of a view by its number: over all records that it covers, or over those of its part alone. They come from its part and the records behind its cursor; `read` rises by the number of records that were looked at.
 pub fn view_rows_of(
     snapshot: &Snapshot,
     number: u32,
@@ -39,7 +39,7 @@ pub fn view_rows_of(
     }
 }
 
-/// The same of a view that is at hand.
+// The same of a view that is at hand.
 pub(crate) fn rows_of_view(
     snapshot: &Snapshot,
     number: u32,
@@ -91,7 +91,7 @@ fn rows_behind(
     }
 }
 
-// The columns under which a body reads its table.
+/// The columns under which a body reads its table.
 pub fn columns_read(body: &Plan) -> &[Field]
     ensures { result.now ≡ columns_read (planned_of body.now) }
 {

@@ -6,7 +6,7 @@ ghost use Rattle.kq_reply.specs.Lines.{pieces};
 use kq_value::{Bytes, Memory};
 use std::alloc::Global;
 
-/// Lines one behind another, and the size of each.
+// Lines one behind another, and the size of each.
 #[derive(Drop)]
 pub(crate) struct Lines {
     pub(crate) bytes: Bytes,
@@ -28,7 +28,7 @@ fn cut<'a>(alloc: Global, bytes: &'a [u8], sizes: &[usize]) -> Result<Vec<&'a [u
     Ok(lines)
 }
 
-/// The pieces of these sizes, lent, in byte order.
+// The pieces of these sizes, lent, in byte order.
 pub(crate) fn sorted<'a>(
     alloc: Global,
     bytes: &'a [u8],

@@ -159,7 +159,7 @@ fn put_cause<K: Sink>(sink: &mut K, cause: Cause) -> Result<(), Failed>
     }
 }
 
-/// The words, and then the number in decimal.
+// The words, and then the number in decimal.
 fn put_counted<K: Sink>(sink: &mut K, words: &[u8], n: u64) -> Result<(), Failed>
     ensures puts { PutsAll (K.accepted sink.old) (K.accepted sink.new) result (counted words.now n) }
     ensures cause { HasCause (K.faults sink.old) (K.faults sink.new) result }
@@ -169,7 +169,7 @@ fn put_counted<K: Sink>(sink: &mut K, words: &[u8], n: u64) -> Result<(), Failed
     put_all(sink, digits.format(n).as_bytes())
 }
 
-/// The words, and then the name with its escapes.
+// The words, and then the name with its escapes.
 fn put_named<K: Sink>(sink: &mut K, words: &[u8], name: &Text) -> Result<(), Failed>
     ensures puts { PutsAll (K.accepted sink.old) (K.accepted sink.new) result (words.now ++ escaped name.now) }
     ensures cause { HasCause (K.faults sink.old) (K.faults sink.new) result }

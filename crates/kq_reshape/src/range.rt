@@ -9,7 +9,7 @@ use kq_rows::Rows;
 use kq_value::{Memory, Ty, Value};
 use std::alloc::{AllocError, Global};
 
-/// The most rows of a range.
+// The most rows of a range.
 const MOST_ROWS: u64 = 1_048_576;
 
 /// Why there are no rows of a range.

@@ -5,11 +5,11 @@ use Rattle.std.proofs.lemmas.Bool.Decides.{nat_tests}
 use Rattle.kq_script.specs.Script.{Block, Script, script_blocks, block_of, is_blank}
 use Rattle.kq_script.specs.Item.{IsItemOf}
 use Rattle.kq_script.specs.Open.{IsOpen, AreItem, open_run, open_line}
-use Rattle.kq_script.specs.Reading.{IsPrefix, IsReading, GoesOn, Outcome, Reads}
+use Rattle.kq_script.specs.Reading.{IsPrefix, IsReading, GoesOn, Outcome, ReadsItem}
 use Rattle.kq_script.specs.State.{IsAt, unread, HasLooked, HasEnded, GivesLast, IsDrained, IsAtEnd}
 use Rattle.kq_world.specs.Told.{Loses, IsEmpty}
-use Rattle.kq_world.specs.Outside.{SourceView, Gives, GivesFront}
-use Rattle.kq_world.proofs.Told.{Gives-none, Gives-trans}
+use Rattle.kq_world.specs.Outside.{SourceView, Delivers, DeliversFront}
+use Rattle.kq_world.proofs.Told.{Delivers-none, Delivers-trans}
 use Rattle.kq_script.specs.declared.block.OpenBlock.{OpenBlock}
 use Rattle.kq_script.specs.declared.reader.ScriptReader.{ScriptReader}
 use Rattle.kq_script.specs.declared.reader.Phase.{Phase}
@@ -55,7 +55,7 @@ GivesLast-none reader taken given h none one = sym (append-nil given) ∙ all_gi
 pub record Goes (command input : ℕ) (reader : ScriptReader) (first source source' : SourceView) (taken : List ℕ) (given : List Block) : Type 0 where
   pub before : List ℕ
   pub last : List ℕ
-  pub gives : Gives source source' (before ++ last)
+  pub gives : Delivers source source' (before ++ last)
   pub piece : length last ≤ 4096
   pub needed : (before ++ last ≡ []) ⊎ Script command (taken ++ before) false given
   pub reading : IsReading command input reader first source' (taken ++ (before ++ last)) given
@@ -64,7 +64,7 @@ pub Goes-start : (command input : ℕ) (reader : ScriptReader) (first source : S
 Goes-start command input reader first source taken given h = record {
   before = [];
   last = [];
-  gives = Gives-none source;
+  gives = Delivers-none source;
   piece = omega arith;
   needed = inl refl;
   reading = subst (λ bs. IsReading command input reader first source bs given) (sym (append-nil taken)) h;
@@ -140,9 +140,9 @@ outcome_item command input Lost reader first source taken given block is h = (bl
 outcome_item command input Finished reader first source taken given block is h = absurd is
 
 -- after a closed block
-pub Reads-item : (command input : ℕ) (old new : ScriptReader) (item : Item) (first source source' : SourceView) (taken : List ℕ) (given : List Block) → old.phase ≡ phases.Reading → Same old new → Looks old new (Some item)
-    → Goes command input old first source source' taken given → Reads command input (Ok item) new first source source' taken given
-Reads-item command input old new item first source source' taken given phase same looks h =
+pub ReadsItem-item : (command input : ℕ) (old new : ScriptReader) (item : Item) (first source source' : SourceView) (taken : List ℕ) (given : List Block) → old.phase ≡ phases.Reading → Same old new → Looks old new (Some item)
+    → Goes command input old first source source' taken given → ReadsItem command input (Ok item) new first source source' taken given
+ReadsItem-item command input old new item first source source' taken given phase same looks h =
     let all = taken ++ (h.before ++ h.last) in
     let on = looked_on command input old new (Some item) first source' all given phase same looks h.reading in
     let now : IsReading command input new first source' all (given ++ on.1.0 ∷ []) = subst (λ bs. IsReading command input new first source' all (given ++ bs)) on.1.2 on.3 in
@@ -173,8 +173,8 @@ Waits-looked command input old new first source source' taken given phase same l
     }
 
 -- a read gave all that the reader hasn't looked at
-gave_unread : (n : ℕ) (reader : ScriptReader) (source source' : SourceView) → length (unread reader) ≡ n → GivesFront source source' n (unread reader) → Gives source source' (unread reader)
-gave_unread n reader source source' size read = subst (Gives source source') (take_all n (unread reader) (omega arith)) read.gives
+gave_unread : (n : ℕ) (reader : ScriptReader) (source source' : SourceView) → length (unread reader) ≡ n → DeliversFront source source' n (unread reader) → Delivers source source' (unread reader)
+gave_unread n reader source source' size read = subst (Delivers source source') (take_all n (unread reader) (omega arith)) read.gives
 
 not_met : (a b : Bool) (n : ℕ) → 0 < n → b ≡ (a || (n == 0)) → b ≡ a
 not_met true b n some e = e
@@ -182,7 +182,7 @@ not_met false b n some e = e ∙ grind (arith, nat_tests)
 
 -- then the next piece is taken
 pub Goes-filled : (command input n : ℕ) (old new : ScriptReader) (first source source' source'' : SourceView) (taken : List ℕ) (given : List Block) → new.phase ≡ phases.Reading
-    → (new.block ≡ old.block) × (new.input ≡ old.input) → new.taken ≡ old.taken + n → length (unread new) ≡ n → n ≤ 4096 → 0 < n → GivesFront source' source'' n (unread new)
+    → (new.block ≡ old.block) × (new.input ≡ old.input) → new.taken ≡ old.taken + n → length (unread new) ≡ n → n ≤ 4096 → 0 < n → DeliversFront source' source'' n (unread new)
     → Waits command input old first source source' taken given → Goes command input new first source source'' taken given
 Goes-filled command input n old new first source source' source'' taken given phase same more size small some read h =
     let before = h.goes.before ++ h.goes.last in
@@ -203,14 +203,14 @@ Goes-filled command input n old new first source source' source'' taken given ph
       input_limit = same.1 ∙ r.input_limit;
       counted = omega (arith, r.counted);
       within = omega (arith, r.counted, r.input_limit, new.within);
-      gives = Gives-trans first source' source'' was bytes r.gives gave;
+      gives = Delivers-trans first source' source'' was bytes r.gives gave;
       prefix = looked_prefix command new (was ++ bytes) given source''.ended looked;
       state = subst (λ p. IsAt p command input new first source'' (was ++ bytes) given) (sym phase) (looked, not_met source'.ended source''.ended n some read.ended ∙ h.unmet);
     } in
     record {
       before = before;
       last = bytes;
-      gives = Gives-trans source source' source'' before bytes h.goes.gives gave;
+      gives = Delivers-trans source source' source'' before bytes h.goes.gives gave;
       piece = omega arith;
       needed = inr (h.looked.given_all ∙ ap (λ bs. script_blocks command bs false) h.all);
       reading = subst (λ bs. IsReading command input new first source'' bs given) all reading;
@@ -228,13 +228,13 @@ either_true true b e = refl
 either_true false b e = e
 
 -- a read of no bytes met the end
-pub met_end : (first source source' : SourceView) (taken buf : List ℕ) (n : ℕ) → Gives first source taken → GivesFront source source' n buf → n ≡ 0 → IsAtEnd first source'
+pub met_end : (first source source' : SourceView) (taken buf : List ℕ) (n : ℕ) → Delivers first source taken → DeliversFront source source' n buf → n ≡ 0 → IsAtEnd first source'
 met_end first source source' taken buf n h read none = record {
   ended = read.ended ∙ either_true source.ended (n == 0) (ap (λ m. m == 0) none);
   drained = drained first.left source.left source'.left taken h.left (subst (λ m. Loses source.left source'.left (take m buf)) none read.gives.left) (read.at_end none);
 }
 
-at_end : (command input : ℕ) (reader : ScriptReader) (first source : SourceView) (taken : List ℕ) (given : List Block) → reader.block.limit ≡ command → reader.input ≡ input → reader.taken ≡ length taken → length taken < input → Gives first source taken → IsAtEnd first source
+at_end : (command input : ℕ) (reader : ScriptReader) (first source : SourceView) (taken : List ℕ) (given : List Block) → reader.block.limit ≡ command → reader.input ≡ input → reader.taken ≡ length taken → length taken < input → Delivers first source taken → IsAtEnd first source
     → reader.phase ≡ phases.Ended → given ≡ script_blocks command taken true → IsReading command input reader first source taken given
 at_end command input reader first source taken given limit max count below gives ended phase all = record {
   command_limit = limit;
@@ -246,7 +246,7 @@ at_end command input reader first source taken given limit max count below gives
   state = subst (λ p. IsAt p command input reader first source taken given) (sym phase) (record { given_all = all; at_end = ended; below = below });
 }
 
-outcome_last : (command input : ℕ) (item : Item) (reader : ScriptReader) (first source : SourceView) (taken : List ℕ) (given : List Block) → reader.block.limit ≡ command → reader.input ≡ input → reader.taken ≡ length taken → length taken < input → Gives first source taken → IsAtEnd first source
+outcome_last : (command input : ℕ) (item : Item) (reader : ScriptReader) (first source : SourceView) (taken : List ℕ) (given : List Block) → reader.block.limit ≡ command → reader.input ≡ input → reader.taken ≡ length taken → length taken < input → Delivers first source taken → IsAtEnd first source
     → GivesLast command item reader.phase taken given → Outcome command input (Ok item) reader first source taken given
 outcome_last command input Finished reader first source taken given limit max count below gives ended h = (h.1, ended, below)
 outcome_last command input (Command bytes) reader first source taken given limit max count below gives ended h =
@@ -256,18 +256,18 @@ outcome_last command input (TooLong bytes) reader first source taken given limit
 outcome_last command input Lost reader first source taken given limit max count below gives ended h =
     (h.1, h.2, at_end command input reader first source taken (given ++ h.1 ∷ []) limit max count below gives ended h.0 h.3)
 
-pub Reads-ended : (command input n : ℕ) (old mid new : ScriptReader) (item : Item) (first source source' source'' : SourceView) (taken : List ℕ) (given : List Block)
-    → (mid.block ≡ old.block) × (mid.input ≡ old.input) → mid.taken ≡ old.taken + n → length (unread mid) ≡ n → n ≡ 0 → GivesFront source' source'' n (unread mid)
+pub ReadsItem-ended : (command input n : ℕ) (old mid new : ScriptReader) (item : Item) (first source source' source'' : SourceView) (taken : List ℕ) (given : List Block)
+    → (mid.block ≡ old.block) × (mid.input ≡ old.input) → mid.taken ≡ old.taken + n → length (unread mid) ≡ n → n ≡ 0 → DeliversFront source' source'' n (unread mid)
     → (new.taken ≡ mid.taken) × (new.input ≡ mid.input) × (new.block.limit ≡ mid.block.limit)
     → ((taken : List ℕ) (given : List Block) → HasLooked mid.block.limit mid taken given → unread mid ≡ [] → GivesLast mid.block.limit item new.phase taken given)
-    → mid.taken < mid.input → Waits command input old first source source' taken given → Reads command input (Ok item) new first source source'' taken given
-Reads-ended command input n old mid new item first source source' source'' taken given filled more size zero read same gives room h =
+    → mid.taken < mid.input → Waits command input old first source source' taken given → ReadsItem command input (Ok item) new first source source'' taken given
+ReadsItem-ended command input n old mid new item first source source' source'' taken given filled more size zero read same gives room h =
     let r = h.goes.reading in
     let bytes = h.goes.before ++ h.goes.last in
     let all = taken ++ bytes in
     let none : unread mid ≡ [] = nil_from_length (unread mid) (size ∙ zero) in
-    let gave : Gives source' source'' [] = subst (Gives source' source'') none (gave_unread n mid source' source'' size read) in
-    let total : Gives first source'' all = subst (Gives first source'') (append-nil all) (Gives-trans first source' source'' all [] r.gives gave) in
+    let gave : Delivers source' source'' [] = subst (Delivers source' source'') none (gave_unread n mid source' source'' size read) in
+    let total : Delivers first source'' all = subst (Delivers first source'') (append-nil all) (Delivers-trans first source' source'' all [] r.gives gave) in
     let limit = ap (λ (b : OpenBlock). b.limit) filled.0 ∙ r.command_limit in
     let looked : HasLooked command mid all given = record {
       looked = h.looked.looked;
@@ -284,7 +284,7 @@ Reads-ended command input n old mid new item first source source' source'' taken
     record {
       before = h.goes.before;
       last = h.goes.last;
-      gives = subst (Gives source source'') (append-nil bytes) (Gives-trans source source' source'' bytes [] h.goes.gives gave);
+      gives = subst (Delivers source source'') (append-nil bytes) (Delivers-trans source source' source'' bytes [] h.goes.gives gave);
       piece = h.goes.piece;
       needed = h.goes.needed;
       outcome = outcome;
@@ -292,9 +292,9 @@ Reads-ended command input n old mid new item first source source' source'' taken
     }
 
 -- the source failed, or as much was taken as may be
-pub Reads-fault : (command input : ℕ) (old new : ScriptReader) (first source source' source'' : SourceView) (taken : List ℕ) (given : List Block) → source'' ≡ source' → old.taken < old.input
-    → Waits command input old first source source' taken given → Reads command input (Err ReadFault) new first source source'' taken given
-Reads-fault command input old new first source source' source'' taken given same room h =
+pub ReadsItem-fault : (command input : ℕ) (old new : ScriptReader) (first source source' source'' : SourceView) (taken : List ℕ) (given : List Block) → source'' ≡ source' → old.taken < old.input
+    → Waits command input old first source source' taken given → ReadsItem command input (Err ReadFault) new first source source'' taken given
+ReadsItem-fault command input old new first source source' source'' taken given same room h =
     let r = h.goes.reading in
     let bytes = h.goes.before ++ h.goes.last in
     let below : length (taken ++ bytes) < input = omega (arith, r.counted, r.input_limit) in
@@ -303,15 +303,15 @@ Reads-fault command input old new first source source' source'' taken given same
     record {
       before = h.goes.before;
       last = h.goes.last;
-      gives = subst (λ (s : SourceView). Gives source s bytes) (sym same) h.goes.gives;
+      gives = subst (λ (s : SourceView). Delivers source s bytes) (sym same) h.goes.gives;
       piece = h.goes.piece;
       needed = h.goes.needed;
       outcome = outcome;
       at_limit = due command input (Err ReadFault) new first source'' (taken ++ bytes) given outcome;
     }
 
-pub Reads-full : (command input : ℕ) (old new : ScriptReader) (first source source' : SourceView) (taken : List ℕ) (given : List Block) → old.taken ≡ old.input → Waits command input old first source source' taken given → Reads command input (Err InputLimit) new first source source' taken given
-Reads-full command input old new first source source' taken given full h =
+pub ReadsItem-full : (command input : ℕ) (old new : ScriptReader) (first source source' : SourceView) (taken : List ℕ) (given : List Block) → old.taken ≡ old.input → Waits command input old first source source' taken given → ReadsItem command input (Err InputLimit) new first source source' taken given
+ReadsItem-full command input old new first source source' taken given full h =
     let r = h.goes.reading in
     let bytes = h.goes.before ++ h.goes.last in
     let all : length (taken ++ bytes) ≡ input = sym r.counted ∙ full ∙ r.input_limit in
@@ -319,16 +319,16 @@ Reads-full command input old new first source source' taken given full h =
     record { before = h.goes.before; last = h.goes.last; gives = h.goes.gives; piece = h.goes.piece; needed = h.goes.needed; outcome = (closed, all, h.unmet); at_limit = λ _ _. refl }
 
 -- the answer after the end
-pub Reads-again : (command input : ℕ) (old new : ScriptReader) (first source : SourceView) (taken : List ℕ) (given : List Block) → old.phase ≡ phases.Ended → IsReading command input old first source taken given → Reads command input (Ok Finished) new first source source taken given
-Reads-again command input old new first source taken given phase h =
+pub ReadsItem-again : (command input : ℕ) (old new : ScriptReader) (first source : SourceView) (taken : List ℕ) (given : List Block) → old.phase ≡ phases.Ended → IsReading command input old first source taken given → ReadsItem command input (Ok Finished) new first source source taken given
+ReadsItem-again command input old new first source taken given phase h =
     let ended : HasEnded command input first source taken given = subst (λ p. IsAt p command input old first source taken given) phase h.state in
     let all = sym (append-nil taken) in
     let outcome : Outcome command input (Ok Finished) new first source (taken ++ []) given = subst (λ bs. Outcome command input (Ok Finished) new first source bs given) all (ended.given_all, ended.at_end, ended.below) in
-    record { before = []; last = []; gives = Gives-none source; piece = omega arith; needed = inl refl; outcome = outcome; at_limit = due command input (Ok Finished) new first source (taken ++ []) given outcome }
+    record { before = []; last = []; gives = Delivers-none source; piece = omega arith; needed = inl refl; outcome = outcome; at_limit = due command input (Ok Finished) new first source (taken ++ []) given outcome }
 
 -- all bytes taken are those that the source gave from the first
-pub Reads-gives : (command input : ℕ) (result : Result Item ScriptFault) (old new : ScriptReader) (first source source' : SourceView) (taken : List ℕ) (given : List Block) → IsReading command input old first source taken given → (h : Reads command input result new first source source' taken given) → Gives first source' (taken ++ (h.before ++ h.last))
-Reads-gives command input result old new first source source' taken given r h = Gives-trans first source source' taken (h.before ++ h.last) r.gives h.gives
+pub ReadsItem-gives : (command input : ℕ) (result : Result Item ScriptFault) (old new : ScriptReader) (first source source' : SourceView) (taken : List ℕ) (given : List Block) → IsReading command input old first source taken given → (h : ReadsItem command input result new first source source' taken given) → Delivers first source' (taken ++ (h.before ++ h.last))
+ReadsItem-gives command input result old new first source source' taken given r h = Delivers-trans first source source' taken (h.before ++ h.last) r.gives h.gives
 
 -- what an item other than the end was: the next block
 pub Outcome-block : (command input : ℕ) (item : Item) (reader : ScriptReader) (first source : SourceView) (taken : List ℕ) (given : List Block) → (item ≡ Finished → ⊥) → Outcome command input (Ok item) reader first source taken given

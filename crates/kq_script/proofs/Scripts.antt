@@ -4,7 +4,7 @@ use Rattle.std.specs.List.{flat_map, slice_split}
 use Rattle.std.proofs.lemmas.List.{take_more}
 use Rattle.std.proofs.lemmas.List.Concat.{flat_map-append}
 use Rattle.kq_script.specs.Script.{Block, is_line_end, is_blank, block_of, all_but_last, lines_of, runs_of, script_blocks}
-use Rattle.kq_script.specs.Open.{IsOpen, AreItem, Adds, Gives, last_of, open_line, open_run}
+use Rattle.kq_script.specs.Open.{IsOpen, AreItem, Adds, AppendsItem, last_of, open_line, open_run}
 use Rattle.kq_script.specs.Reading.{IsPrefix}
 use Rattle.kq_script.specs.declared.block.OpenBlock.{OpenBlock}
 use Rattle.kq_script.specs.declared.item.Item.{Item}
@@ -57,7 +57,7 @@ no_item limit item none = subst (λ i. AreItem limit i []) (sym none) refl
 
 adds_by : (limit : ℕ) (block : OpenBlock) (bytes : List ℕ) (b : ℕ) (item : Option Item) (ends blank : Bool) → is_line_end b ≡ ends → is_blank (open_line bytes) ≡ blank
     → MatchBool ends (MatchBool blank (IsOpen block [] [] × AreItem limit item (block_of limit (open_run bytes))) (IsOpen block (open_run bytes ++ open_line bytes ∷ []) [] × (item ≡ None))) (IsOpen block (open_run bytes) (open_line bytes ++ b ∷ []) × (item ≡ None))
-    → IsOpen block (open_run (bytes ++ b ∷ [])) (open_line (bytes ++ b ∷ [])) × Gives limit item (script_blocks limit bytes false) (script_blocks limit (bytes ++ b ∷ []) false)
+    → IsOpen block (open_run (bytes ++ b ∷ [])) (open_line (bytes ++ b ∷ [])) × AppendsItem limit item (script_blocks limit bytes false) (script_blocks limit (bytes ++ b ∷ []) false)
 adds_by limit block bytes b item true true e f h =
     let run = ap (λ ls. last_of (runs_of ls)) (front-push_yes is_line_end bytes b e) ∙ last-push_yes is_blank (whole_lines bytes) (open_line bytes) f in
     (moved block [] (open_run (bytes ++ b ∷ [])) [] (open_line (bytes ++ b ∷ [])) run (last-push_yes is_line_end bytes b e) h.0, (block_of limit (open_run bytes), h.1, push_by limit bytes b true true e f))
@@ -70,20 +70,20 @@ adds_by limit block bytes b item false blank e f h =
 
 -- one byte more, from lines and runs to the script
 pub adds : (limit : ℕ) (block : OpenBlock) (bytes : List ℕ) (b : ℕ) (item : Option Item) → Adds limit block (open_run bytes) (open_line bytes) b item
-    → IsOpen block (open_run (bytes ++ b ∷ [])) (open_line (bytes ++ b ∷ [])) × Gives limit item (script_blocks limit bytes false) (script_blocks limit (bytes ++ b ∷ []) false)
+    → IsOpen block (open_run (bytes ++ b ∷ [])) (open_line (bytes ++ b ∷ [])) × AppendsItem limit item (script_blocks limit bytes false) (script_blocks limit (bytes ++ b ∷ []) false)
 adds limit block bytes b item h = adds_by limit block bytes b item (is_line_end b) (is_blank (open_line bytes)) refl refl h
 
 -- the next of some bytes
 pub adds_next : (limit : ℕ) (block : OpenBlock) (looked bytes : List ℕ) (i : ℕ) (item : Option Item) → i < length bytes → script_blocks limit (looked ++ take i bytes) false ≡ script_blocks limit looked false
     → Adds limit block (open_run (looked ++ take i bytes)) (open_line (looked ++ take i bytes)) (get_or bytes i 0) item
-    → IsOpen block (open_run (looked ++ take (i + 1) bytes)) (open_line (looked ++ take (i + 1) bytes)) × Gives limit item (script_blocks limit looked false) (script_blocks limit (looked ++ take (i + 1) bytes) false)
+    → IsOpen block (open_run (looked ++ take (i + 1) bytes)) (open_line (looked ++ take (i + 1) bytes)) × AppendsItem limit item (script_blocks limit looked false) (script_blocks limit (looked ++ take (i + 1) bytes) false)
 adds_next limit block looked bytes i item lt same h =
     let more : looked ++ take (i + 1) bytes ≡ (looked ++ take i bytes) ++ get_or bytes i 0 ∷ [] = ap (λ t. looked ++ t) (take_more bytes i 0 lt) ∙ sym (append_assoc looked (take i bytes) (get_or bytes i 0 ∷ [])) in
-    let Next : List ℕ → Type 0 = λ bs. IsOpen block (open_run bs) (open_line bs) × Gives limit item (script_blocks limit looked false) (script_blocks limit bs false) in
+    let Next : List ℕ → Type 0 = λ bs. IsOpen block (open_run bs) (open_line bs) × AppendsItem limit item (script_blocks limit looked false) (script_blocks limit bs false) in
     let h = adds limit block (looked ++ take i bytes) (get_or bytes i 0) item h in
     subst Next (sym more) (h.0, (h.1.0, h.1.1, h.1.2 ∙ ap (λ bs. bs ++ h.1.0) same))
 
-pub none_given : (limit : ℕ) (before after : List Block) → Gives limit None before after → after ≡ before
+pub none_given : (limit : ℕ) (before after : List Block) → AppendsItem limit None before after → after ≡ before
 none_given limit before after h = h.2 ∙ ap (λ bs. before ++ bs) h.1 ∙ append-nil before
 
 ended : (limit : ℕ) (blank : Bool) (lines : List (List ℕ)) (line : List ℕ) → is_blank line ≡ blank

@@ -48,5 +48,5 @@ Adds limit block run line byte item =
     (IsOpen block run (line ++ byte ∷ []) × (item ≡ None))
 
 -- the item is the block that comes after those before
-abbrev pub Gives : ℕ → Option Item → List Block → List Block → Type 0
-Gives limit item before after = (blocks : List Block) × AreItem limit item blocks × (after ≡ before ++ blocks)
+abbrev pub AppendsItem : ℕ → Option Item → List Block → List Block → Type 0
+AppendsItem limit item before after = (blocks : List Block) × AreItem limit item blocks × (after ≡ before ++ blocks)

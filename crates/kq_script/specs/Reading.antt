@@ -1,6 +1,6 @@
 -- What a reader has taken and given, and what a call adds.
 use Rattle.std.specs.Prelude.{◌≡◌, ◌≢◌, ◌≤◌, ◌<◌, ◌++◌, ◌⊎◌, ℕ, true, false, List, [], ◌∷◌, length, Result, Ok, Err}
-use Rattle.kq_world.specs.Outside.{SourceView, Gives, Rose}
+use Rattle.kq_world.specs.Outside.{SourceView, Delivers, Rose}
 use Rattle.kq_script.specs.Item.{IsItemOf}
 use Rattle.kq_script.specs.Script.{Block, Script, script_blocks}
 use Rattle.kq_script.specs.State.{IsAt, IsAtEnd}
@@ -26,7 +26,7 @@ pub record IsReading (command input : ℕ) (reader : ScriptReader) (first source
   pub input_limit : reader.input ≡ input
   pub counted : reader.taken ≡ length taken
   pub within : length taken ≤ input
-  pub gives : Gives first source taken
+  pub gives : Delivers first source taken
   pub prefix : IsPrefix given (script_blocks command taken source.ended)
   pub state : IsAt reader.phase command input reader first source taken given
 
@@ -39,10 +39,10 @@ Outcome command input (Err InputLimit) reader first source taken given = Script 
 
 -- one call: the bytes that the source gave are those taken. The last piece of them was taken only because the bytes
 -- before it left no closed block, and the fault at the limit comes wherever it is due
-pub record Reads (command input : ℕ) (result : Result Item ScriptFault) (reader : ScriptReader) (first source source' : SourceView) (taken : List ℕ) (given : List Block) : Type 0 where
+pub record ReadsItem (command input : ℕ) (result : Result Item ScriptFault) (reader : ScriptReader) (first source source' : SourceView) (taken : List ℕ) (given : List Block) : Type 0 where
   pub before : List ℕ
   pub last : List ℕ
-  pub gives : Gives source source' (before ++ last)
+  pub gives : Delivers source source' (before ++ last)
   pub piece : length last ≤ 4096
   pub needed : (before ++ last ≡ []) ⊎ Script command (taken ++ before) false given
   pub outcome : Outcome command input result reader first source' (taken ++ (before ++ last)) given

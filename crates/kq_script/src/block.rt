@@ -14,23 +14,23 @@ const LF: u8 = b'\n';
 pub struct OpenBlock {
     alloc: Global,
     pub limit: u64,
-    /// The first bytes, up to the limit.
+    // The first bytes, up to the limit.
     kept: Vec<u8>,
-    /// Memory couldn't hold them.
+    // Memory couldn't hold them.
     lost: bool,
     /// How many bytes there are.
     pub count: u64,
-    /// Where the line that stands open starts: after this many bytes.
+    // Where the line that stands open starts: after this many bytes.
     start: u64,
-    /// The whole lines are comments.
+    // The whole lines are comments.
     comment: bool,
-    /// The line that stands open.
+    // The line that stands open.
     line: Line,
 }
 
 impl OpenBlock {
     ghost use Rattle.kq_script.specs.Script.{block_of, is_blank, script_blocks};
-    ghost use Rattle.kq_script.specs.Open.{IsOpen, AreItem, Adds, Gives, open_run, open_line};
+    ghost use Rattle.kq_script.specs.Open.{IsOpen, AreItem, Adds, AppendsItem, open_run, open_line};
 
     pub fn new(alloc: Global, limit: u64) -> OpenBlock
         ensures limit { result.limit ≡ limit }
@@ -78,7 +78,7 @@ impl OpenBlock {
         ensures count { self.new.count ≤ self.old.count + result.0 }
         ensures adds { (looked : List ℕ) → IsOpen self.old (open_run looked) (open_line looked)
             → IsOpen self.new (open_run (looked ++ take result.0 bytes.now)) (open_line (looked ++ take result.0 bytes.now))
-            × Gives self.old.limit result.1 (script_blocks self.old.limit looked false) (script_blocks self.old.limit (looked ++ take result.0 bytes.now) false) }
+            × AppendsItem self.old.limit result.1 (script_blocks self.old.limit looked false) (script_blocks self.old.limit (looked ++ take result.0 bytes.now) false) }
     {
         for (i, byte) in bytes.iter().enumerate() {
             if let Some(item) = self.add(*byte) {
@@ -88,7 +88,7 @@ impl OpenBlock {
         (bytes.len(), None)
     }
 
-    /// Gives the last block, which the end closes.
+    /// AppendsItem the last block, which the end closes.
     pub fn finish(&mut self) -> Option<Item>
         requires { self.old.count < 2 ^ 64 - 1 }
         ensures limit { self.new.limit ≡ self.old.limit }
@@ -102,7 +102,7 @@ impl OpenBlock {
         self.close()
     }
 
-    /// Counts a byte, and keeps it within the limit.
+    // Counts a byte, and keeps it within the limit.
     fn put(&mut self, byte: u8)
         requires { self.old.count < 2 ^ 64 - 1 }
         ensures count { self.new.count ≡ self.old.count + 1 }
@@ -121,7 +121,7 @@ impl OpenBlock {
         }
     }
 
-    /// The line is one of the whole lines.
+    // The line is one of the whole lines.
     fn end_line(&mut self)
         requires { self.old.count < 2 ^ 64 - 1 }
         ensures limit { self.new.limit ≡ self.old.limit }
@@ -135,7 +135,7 @@ impl OpenBlock {
         self.line = Line::Spaces;
     }
 
-    /// Starts anew, and gives the block of the whole lines.
+    // Starts anew, and gives the block of the whole lines.
     fn close(&mut self) -> Option<Item>
         ensures limit { self.new.limit ≡ self.old.limit }
         ensures count { self.new.count ≡ 0 }
@@ -147,7 +147,7 @@ impl OpenBlock {
         mem::replace(self, next).into_item()
     }
 
-    /// The block of the whole lines, if they are one.
+    // The block of the whole lines, if they are one.
     fn into_item(self) -> Option<Item>
         ensures item { (run : List (List ℕ)) (line : List ℕ) → IsOpen self run line
             → AreItem self.limit result (block_of self.limit run) }

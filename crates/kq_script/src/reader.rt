@@ -8,7 +8,7 @@ use kq_value::Memory;
 use kq_world::{Failed, Source};
 use std::alloc::Global;
 
-/// How many bytes are asked for at once.
+// How many bytes are asked for at once.
 const PIECE: usize = 4096;
 
 /// How far a reader has come.
@@ -26,14 +26,14 @@ pub enum Phase {
 #[derive(Drop)]
 pub struct ScriptReader {
     block: OpenBlock,
-    /// The last piece taken stands in its front.
+    // The last piece taken stands in its front.
     piece: Vec<u8>,
-    /// From here to `end` the piece wasn't looked at yet.
+    // From here to `end` the piece wasn't looked at yet.
     at: usize,
     end: usize,
-    /// How many bytes were taken.
+    // How many bytes were taken.
     taken: u64,
-    /// How many may be.
+    // How many may be.
     input: u64,
     phase: Phase,
     ghost full: { vec_len piece ≡ 4096 },
@@ -45,7 +45,7 @@ pub struct ScriptReader {
 
 impl ScriptReader {
     ghost use Rattle.kq_script.specs.Script.{Block};
-    ghost use Rattle.kq_script.specs.Reading.{IsReading, GoesOn, Reads, CausedBy};
+    ghost use Rattle.kq_script.specs.Reading.{IsReading, GoesOn, ReadsItem, CausedBy};
     ghost use Rattle.kq_script.specs.State.{HasLooked, GivesLast, unread};
     ghost use Rattle.kq_script.specs.Open.{AreItem};
 
@@ -74,7 +74,7 @@ impl ScriptReader {
         ensures goes_on { IfOk result (λ item. item ≢ Item.Finished → GoesOn self.new) }
         ensures reads { (command input : ℕ) (first : SourceView) (taken : List ℕ) (given : List Block)
             → IsReading command input self.old first (S.told source.old) taken given
-            → Reads command input result self.new first (S.told source.old) (S.told source.new) taken given }
+            → ReadsItem command input result self.new first (S.told source.old) (S.told source.new) taken given }
     {
         match self.phase {
             Phase::Reading => self.read_on(source),
@@ -86,14 +86,14 @@ impl ScriptReader {
         }
     }
 
-    /// Reads piece by piece, up to the first closed block or the end.
+    // ReadsItem piece by piece, up to the first closed block or the end.
     fn read_on<S: Source>(&mut self, source: &mut S) -> Result<Item, ScriptFault>
         requires { self.old.phase ≡ Phase.Reading }
         ensures cause { CausedBy (S.faults source.old) (S.faults source.new) result }
         ensures goes_on { IfOk result (λ item. item ≢ Item.Finished → GoesOn self.new) }
         ensures reads { (command input : ℕ) (first : SourceView) (taken : List ℕ) (given : List Block)
             → IsReading command input self.old first (S.told source.old) taken given
-            → Reads command input result self.new first (S.told source.old) (S.told source.new) taken given }
+            → ReadsItem command input result self.new first (S.told source.old) (S.told source.new) taken given }
     {
         loop {
             if let Some(item) = self.closed_block() {
@@ -114,7 +114,7 @@ impl ScriptReader {
         }
     }
 
-    /// Looks at what is left of the piece, up to the first closed block.
+    // Looks at what is left of the piece, up to the first closed block.
     fn closed_block(&mut self) -> Option<Item>
         ensures same { (self.new.taken ≡ self.old.taken) × (self.new.input ≡ self.old.input)
             × (self.new.phase ≡ self.old.phase) × (self.new.block.limit ≡ self.old.block.limit) }
@@ -128,7 +128,7 @@ impl ScriptReader {
         item
     }
 
-    /// Takes the next piece, where the last one was looked at.
+    // Takes the next piece, where the last one was looked at.
     fn fill<S: Source>(&mut self, source: &mut S) -> Result<usize, Failed>
         requires room { self.old.taken < self.old.input }
         requires looked { self.old.at ≡ self.old.end }
@@ -147,7 +147,7 @@ impl ScriptReader {
         Ok(n)
     }
 
-    /// Gives the last block, which the end closes, or says that there is none.
+    // Gives the last block, which the end closes, or says that there is none.
     fn last_block(&mut self) -> Item
         requires { self.old.block.count < 2 ^ 64 - 1 }
         ensures same { (self.new.taken ≡ self.old.taken) × (self.new.input ≡ self.old.input)
@@ -169,7 +169,7 @@ impl ScriptReader {
     }
 }
 
-/// Reads into the front of the piece, of which `room` bytes may be taken.
+// ReadsItem into the front of the piece, of which `room` bytes may be taken.
 fn read_piece<S: Source>(source: &mut S, piece: &mut [u8], room: usize) -> Result<usize, Failed>
     requires some { 0 < room }
     requires within { room ≤ length piece.old }

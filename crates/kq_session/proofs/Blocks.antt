@@ -7,7 +7,7 @@ use Rattle.kq_model.specs.History.{History}
 use Rattle.kq_command.specs.declared.command.Command.{Command}
 use Rattle.kq_command.specs.declared.command.CommandFault.{CommandFault}
 use Rattle.kq_command.specs.declared.command.CommandFault.TheVariants.{NotText, Syntax, Deep, Unsupported, Memory}
-use Rattle.kq_command.specs.Reads.{Reads}
+use Rattle.kq_command.specs.Reads.{ReadsAs}
 use Rattle.kq_reply.specs.Number.{number_of}
 use Rattle.kq_reply.specs.declared.refusal.Refusal.{Refusal}
 use Rattle.kq_reply.specs.declared.refusal.Refusal.TheVariants as refusals
@@ -28,18 +28,18 @@ Refuses-append h more place own reply r refuses = record {
   reason = refuses.reason;
 }
 
-FitsRead-append : (limits : Limits) (h more : History) (mark : By) (read : Result Command CommandFault) (now : ℤ) (place : ℕ) (own : Bool) (reply : Reply) → FitsRead limits h mark read now place own reply → FitsRead limits (h ++ more) mark read now place own reply
-FitsRead-append limits h more mark (Ok asked) now place own reply fits = Fits-append limits h more mark asked now place own reply fits
-FitsRead-append limits h more mark (Err fault) now place own reply fits = Refuses-append h more place own reply (refusal_of fault) fits
+FitsRead-append : (limits : Limits) (h more : History) (request : By) (read : Result Command CommandFault) (now : ℤ) (place : ℕ) (own : Bool) (reply : Reply) → FitsRead limits h request read now place own reply → FitsRead limits (h ++ more) request read now place own reply
+FitsRead-append limits h more request (Ok asked) now place own reply fits = Fits-append limits h more request asked now place own reply fits
+FitsRead-append limits h more request (Err fault) now place own reply fits = Refuses-append h more place own reply (refusal_of fault) fits
 
 -- what fits a history fits each that begins with it
-pub FitsBlock-append : (limits : Limits) (h more : History) (mark : By) (block : Block) (now : ℤ) (place : ℕ) (own : Bool) (reply : Reply) → FitsBlock limits h mark block now place own reply → FitsBlock limits (h ++ more) mark block now place own reply
-FitsBlock-append limits h more mark (command text) now place own reply fits = record {
+pub FitsBlock-append : (limits : Limits) (h more : History) (request : By) (block : Block) (now : ℤ) (place : ℕ) (own : Bool) (reply : Reply) → FitsBlock limits h request block now place own reply → FitsBlock limits (h ++ more) request block now place own reply
+FitsBlock-append limits h more request (command text) now place own reply fits = record {
   read = fits.read;
   reads = fits.reads;
-  fits = FitsRead-append limits h more mark fits.read now place own reply fits.fits;
+  fits = FitsRead-append limits h more request fits.read now place own reply fits.fits;
 }
-FitsBlock-append limits h more mark (too_long bytes) now place own reply fits = record {
+FitsBlock-append limits h more request (too_long bytes) now place own reply fits = record {
   within = omega (arith, fits.within, length-append h more);
   not_own = fits.not_own;
   refused = fits.refused;
@@ -69,7 +69,7 @@ early (Unsupported at) = refl
 early Memory = refl
 
 -- a text that was refused
-pub Steps-text : (limits : Limits) (p : PassView) (by : By) (text : List ℕ) (now : ℤ) (f : CommandFault) (outcome : Outcome) → outcome ≡ record { place = length p.seen; own = false; reply = replies.Refused (refusal_of f) } → Reads text (Err f) → Steps limits p p by (command text) now outcome
+pub Steps-text : (limits : Limits) (p : PassView) (by : By) (text : List ℕ) (now : ℤ) (f : CommandFault) (outcome : Outcome) → outcome ≡ record { place = length p.seen; own = false; reply = replies.Refused (refusal_of f) } → ReadsAs text (Err f) → Steps limits p p by (command text) now outcome
 Steps-text limits p by text now f outcome is reads = Steps-refused limits p by (command text) now (refusal_of f) outcome is (early f) (record {
   read = Err f;
   reads = reads;
@@ -89,7 +89,7 @@ Steps-memory limits p by text now outcome is = Steps-refused limits p by (comman
 })
 
 -- the engine answered the command that the text reads as
-pub Steps-applied : (limits : Limits) (old new : PassView) (work : Work) (text : List ℕ) (outcome : Outcome) → Reads text (Ok work.command) → Applies limits old new work outcome → Steps limits old new work.by (command text) work.now outcome
+pub Steps-applied : (limits : Limits) (old new : PassView) (work : Work) (text : List ℕ) (outcome : Outcome) → ReadsAs text (Ok work.command) → Applies limits old new work outcome → Steps limits old new work.by (command text) work.now outcome
 Steps-applied limits old new work text outcome reads applies = record {
   of = applies.of;
   worth = applies.worth;

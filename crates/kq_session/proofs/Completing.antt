@@ -9,7 +9,7 @@ use Rattle.kq_model.specs.declared.limits.Limits.{Limits}
 use Rattle.kq_model.specs.History.{History, log}
 use Rattle.kq_command.specs.declared.command.Command.{Command}
 use Rattle.kq_command.specs.declared.command.CommandFault.{CommandFault}
-use Rattle.kq_command.specs.Reads.{Reads}
+use Rattle.kq_command.specs.Reads.{ReadsAs}
 use Rattle.kq_reply.specs.Number.{number_of, kind_of}
 use Rattle.kq_reply.specs.declared.refusal.Refusal.{Refusal}
 use Rattle.kq_reply.specs.declared.refusal.Refusal.TheVariants as refusals
@@ -17,7 +17,7 @@ use Rattle.kq_reply.specs.declared.reply.Reply.{Reply}
 use Rattle.kq_reply.specs.declared.reply.Reply.TheVariants as replies
 use Rattle.kq_script.specs.Script.{Block, command, too_long}
 use Rattle.kq_engine.specs.Fits.{FitsNow, IsDue}
-use Rattle.kq_engine.specs.Shared.{made_by}
+use Rattle.kq_engine.specs.Shared.{commit_count}
 use Rattle.kq_engine.proofs.Accepting.{Accept-commit}
 use Rattle.kq_session.specs.declared.end.End.{End}
 use Rattle.kq_session.specs.declared.end.End.TheVariants.{Finished, Short, SourceFault, SinkFault, InputLimit}
@@ -26,7 +26,7 @@ use Rattle.kq_session.specs.Blocks.{FitsRead, FitsBlock, Refuses, refusal_of}
 use Rattle.kq_session.specs.Complete.{AreAllBlocks, Completes, IsComplete, IsRefused, IsServed, IsValid}
 use Rattle.kq_session.specs.Ends.{status_of, wants_memory}
 use Rattle.kq_session.specs.Objects.{Objects, SessionView}
-use Rattle.kq_session.specs.Session.{Exchange, AreExchanges, Ends, Explained, blocks_of, texts_of, input_bytes}
+use Rattle.kq_session.specs.Session.{Exchange, AreExchanges, SessionEnds, Explained, blocks_of, texts_of, input_bytes}
 use Rattle.kq_session.specs.Exchanges.{Rises}
 
 -- ---- one exchange
@@ -60,9 +60,9 @@ refused_alone limits answers h now block place own reply r valid due refuses = g
     by_reason q is (inr e) = same_refusal q refusals.Memory (sym is ∙ e)
 
 -- what the engine answered
-granted_now : (limits : Limits) (h : History) (mark : By) (text : List ℕ) (asked : Command) (now : ℤ) (place : ℕ) (own : Bool) (reply : Reply) → Reads text (Ok asked) → FitsNow limits (take place h) mark asked now own reply → IsValid limits (take (place - made_by own) h) now (command text) → IsGranted reply
-granted_now limits h mark text asked now place true reply reads fits valid = inl (Accept-commit limits (log fits.0) asked reply fits.1 fits.3)
-granted_now limits h mark text asked now place false reply reads fits valid = granted reply (λ r is. by_answer r is fits)
+granted_now : (limits : Limits) (h : History) (request : By) (text : List ℕ) (asked : Command) (now : ℤ) (place : ℕ) (own : Bool) (reply : Reply) → ReadsAs text (Ok asked) → FitsNow limits (take place h) request asked now own reply → IsValid limits (take (place - commit_count own) h) now (command text) → IsGranted reply
+granted_now limits h request text asked now place true reply reads fits valid = inl (Accept-commit limits (log fits.0) asked reply fits.1 fits.3)
+granted_now limits h request text asked now place false reply reads fits valid = granted reply (λ r is. by_answer r is fits)
   where
     here : IsValid limits (take place h) now (command text)
     here = subst (λ (n : ℕ). IsValid limits (take n h) now (command text)) (sub-zero place) valid
@@ -71,15 +71,15 @@ granted_now limits h mark text asked now place false reply reads fits valid = gr
     by_answer r is (inl e) = same_refusal r refusals.Memory (sym is ∙ e)
     by_answer r is (inr due) = here r (Ok asked, reads, subst (λ (a : Reply). IsDue limits (take place h) now asked a) is due)
 
-granted_read : (limits : Limits) (h : History) (mark : By) (text : List ℕ) (read : Result Command CommandFault) (now : ℤ) (place : ℕ) (own : Bool) (reply : Reply) → Reads text read → FitsRead limits h mark read now place own reply → IsValid limits (take (place - made_by own) h) now (command text) → IsGranted reply
-granted_read limits h mark text (Ok asked) now place own reply reads fits valid = granted_now limits h mark text asked now place own reply reads fits.at valid
-granted_read limits h mark text (Err fault) now place own reply reads fits valid =
-    refused_alone limits (take (place - made_by own) h) h now (command text) place own reply (refusal_of fault) valid (λ q is. (Err fault, reads, is)) fits
+granted_read : (limits : Limits) (h : History) (request : By) (text : List ℕ) (read : Result Command CommandFault) (now : ℤ) (place : ℕ) (own : Bool) (reply : Reply) → ReadsAs text read → FitsRead limits h request read now place own reply → IsValid limits (take (place - commit_count own) h) now (command text) → IsGranted reply
+granted_read limits h request text (Ok asked) now place own reply reads fits valid = granted_now limits h request text asked now place own reply reads fits.at valid
+granted_read limits h request text (Err fault) now place own reply reads fits valid =
+    refused_alone limits (take (place - commit_count own) h) h now (command text) place own reply (refusal_of fault) valid (λ q is. (Err fault, reads, is)) fits
 
-granted_block : (limits : Limits) (h : History) (mark : By) (block : Block) (now : ℤ) (place : ℕ) (own : Bool) (reply : Reply) → FitsBlock limits h mark block now place own reply → IsValid limits (take (place - made_by own) h) now block → IsGranted reply
-granted_block limits h mark (command text) now place own reply fits valid = granted_read limits h mark text fits.read now place own reply fits.reads fits.fits valid
-granted_block limits h mark (too_long bytes) now place own reply fits valid =
-    refused_alone limits (take (place - made_by own) h) h now (too_long bytes) place own reply (refusals.TooLong bytes) valid (λ q is. is) (record { within = fits.within; not_own = fits.not_own; reason = inl fits.refused })
+granted_block : (limits : Limits) (h : History) (request : By) (block : Block) (now : ℤ) (place : ℕ) (own : Bool) (reply : Reply) → FitsBlock limits h request block now place own reply → IsValid limits (take (place - commit_count own) h) now block → IsGranted reply
+granted_block limits h request (command text) now place own reply fits valid = granted_read limits h request text fits.read now place own reply fits.reads fits.fits valid
+granted_block limits h request (too_long bytes) now place own reply fits valid =
+    refused_alone limits (take (place - commit_count own) h) h now (too_long bytes) place own reply (refusals.TooLong bytes) valid (λ q is. is) (record { within = fits.within; not_own = fits.not_own; reason = inl fits.refused })
 
 AreExchanges-served : (limits : Limits) (h : History) (actor n q : ℕ) (ts : List Exchange) → AreExchanges limits h actor n q ts → All (IsServed limits h) ts
 AreExchanges-served limits h actor n q [] all = All-nil (IsServed limits h)
@@ -92,7 +92,7 @@ AreExchanges-served limits h actor n q (t ∷ ts) all =
 
 -- ---- a session
 
-complete_with : (limits : Limits) (h : History) (actor : ℕ) (before : Contents) (s : SessionView) (end : End) (ends : Ends limits h actor before s.objects.contents s.receipts end)
+complete_with : (limits : Limits) (h : History) (actor : ℕ) (before : Contents) (s : SessionView) (end : End) (ends : SessionEnds limits h actor before s.objects.contents s.receipts end)
     → (s.status ≡ 0) ⊎ (s.status ≡ 1) → s.status ≡ status_of end s.receipts → AreAllBlocks end ends.bytes s.objects.contents.source.ended (blocks_of ends.exchanges) → Adds before.accepted s.objects.contents.accepted (texts_of ends.exchanges) → IsComplete limits h actor before s
 complete_with limits h actor before s end ends status by_end blocks written = record {
   status = status;
@@ -116,7 +116,7 @@ zero_or_one : (b : Bool) → IsGood (cond b 1 0)
 zero_or_one true = inr refl
 zero_or_one false = inl refl
 
-pub complete_by : (limits : Limits) (h : History) (actor : ℕ) (before : Objects) (s : SessionView) (end : End) → Ends limits h actor before.contents s.objects.contents s.receipts end → s.status ≡ status_of end s.receipts → ¬ (s.status ≡ 3) → ¬ (s.status ≡ 4) → length s.objects.contents.source.taken < length before.contents.source.taken + input_bytes → IsComplete limits h actor before.contents s
+pub complete_by : (limits : Limits) (h : History) (actor : ℕ) (before : Objects) (s : SessionView) (end : End) → SessionEnds limits h actor before.contents s.objects.contents s.receipts end → s.status ≡ status_of end s.receipts → ¬ (s.status ≡ 3) → ¬ (s.status ≡ 4) → length s.objects.contents.source.taken < length before.contents.source.taken + input_bytes → IsComplete limits h actor before.contents s
 complete_by limits h actor before s Finished ends is source sink few =
     complete_with limits h actor before.contents s Finished ends (subst IsGood (sym is) (zero_or_one (wants_memory s.receipts))) is (ends.at_end.ended, ends.blocks.0) ends.written
 complete_by limits h actor before s Short ends is source sink few = complete_with limits h actor before.contents s Short ends (inr is) is ends.blocks ends.written

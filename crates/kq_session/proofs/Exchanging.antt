@@ -1,12 +1,12 @@
 -- What the reader gives makes a exchange.
 use Rattle.std.proofs.Common.{◌≡◌, ◌≢◌, ℕ, Bool, true, false, List, [], ◌∷◌, ◌++◌, Some, Result, Ok, refl, ap, sym, ◌∙◌, subst, arith, append-nil}
-use Rattle.kq_world.specs.Outside.{SourceView, Gives, Rose}
+use Rattle.kq_world.specs.Outside.{SourceView, Delivers, Rose}
 use Rattle.kq_world.proofs.Faults.{Rose-later, same-later}
-use Rattle.kq_world.proofs.Told.{Gives-none}
+use Rattle.kq_world.proofs.Told.{Delivers-none}
 use Rattle.kq_model.specs.declared.event.By.{By}
 use Rattle.kq_model.specs.declared.limits.Limits.{Limits}
 use Rattle.kq_script.specs.Script.{Block, script_blocks}
-use Rattle.kq_script.specs.Reading.{GoesOn as MayGoOn, IsPrefix, IsReading, Reads as ReadsOn}
+use Rattle.kq_script.specs.Reading.{GoesOn as MayGoOn, IsPrefix, IsReading, ReadsItem as ReadsOn}
 use Rattle.kq_script.specs.State.{IsAt}
 use Rattle.kq_script.specs.declared.reader.Phase.{Phase}
 use Rattle.kq_script.specs.declared.reader.Phase.TheVariants as phases
@@ -18,7 +18,7 @@ use Rattle.kq_session.specs.declared.end.End.{End}
 use Rattle.kq_session.specs.declared.end.End.TheVariants as ends
 use Rattle.kq_session.specs.declared.receipt.Receipt.{Receipt}
 use Rattle.kq_session.specs.Session.{AreAllAtEnd, AreBlocks, IsLeft, command_bytes, input_bytes}
-use Rattle.kq_session.specs.Exchanges.{State, Progress, IsAfter, Idle, Reads, Replies, Rises, Went}
+use Rattle.kq_session.specs.Exchanges.{State, Progress, IsAfter, Idle, ReadsItem, Replies, Rises, Went}
 
 -- the session, whose source tells this now, and which keeps these receipts
 abbrev pub read_on : State → SourceView → List Receipt → State
@@ -46,7 +46,7 @@ Idle-short p s receipts reader reading same = record {
   same_pass = refl;
   same_receipts = same;
   bytes = [];
-  gave = Gives-none s.contents.source;
+  gave = Delivers-none s.contents.source;
   blocks = subst (λ (l : List ℕ). IsPrefix p.given (script_blocks command_bytes l s.contents.source.ended)) (sym (append-nil p.taken)) reading.prefix;
   at_end = tt;
   all_at_end = subst (λ (l : List ℕ). AreAllAtEnd p.first.ended s.contents.source.ended l p.given) (sym (append-nil p.taken)) (given_at_end reader p.first s.contents.source p.taken p.given reading);
@@ -55,7 +55,7 @@ Idle-short p s receipts reader reading same = record {
 }
 
 -- what was read was no block, and nothing was answered
-pub Idle-read : (p : Progress) (s : State) (now : SourceView) (receipts : List Receipt) (bytes : List ℕ) (end : End) → Gives s.contents.source now bytes → AreBlocks end (p.taken ++ bytes) now.ended p.given → IsLeft end p.first now → AreAllAtEnd p.first.ended now.ended (p.taken ++ bytes) p.given → receipts ≡ s.receipts → Idle p s (read_on s now receipts) end
+pub Idle-read : (p : Progress) (s : State) (now : SourceView) (receipts : List Receipt) (bytes : List ℕ) (end : End) → Delivers s.contents.source now bytes → AreBlocks end (p.taken ++ bytes) now.ended p.given → IsLeft end p.first now → AreAllAtEnd p.first.ended now.ended (p.taken ++ bytes) p.given → receipts ≡ s.receipts → Idle p s (read_on s now receipts) end
 Idle-read p s now receipts bytes end gave blocks at_end all same = record {
   same_pass = refl;
   same_receipts = same;
@@ -69,22 +69,22 @@ Idle-read p s now receipts bytes end gave blocks at_end all same = record {
 }
 
 -- an item that isn't the end is a block
-pub Reads-item : (p : Progress) (old now : SourceView) (reader : ScriptReader) (item : Item) → item ≢ Finished → ReadsOn command_bytes input_bytes (Ok item) reader p.first old now p.taken p.given → (block : Block) × IsItemOf command_bytes item block × Reads p old now reader block
-Reads-item p old now reader (Command bytes) not reads = (reads.outcome.0, reads.outcome.1, record { bytes = reads.before ++ reads.last; gave = reads.gives; reading = reads.outcome.2 })
-Reads-item p old now reader (TooLong bytes) not reads = (reads.outcome.0, reads.outcome.1, record { bytes = reads.before ++ reads.last; gave = reads.gives; reading = reads.outcome.2 })
-Reads-item p old now reader Lost not reads = (reads.outcome.0, reads.outcome.1, record { bytes = reads.before ++ reads.last; gave = reads.gives; reading = reads.outcome.2 })
-Reads-item p old now reader Finished not reads = absurd (not refl)
+pub ReadsItem-item : (p : Progress) (old now : SourceView) (reader : ScriptReader) (item : Item) → item ≢ Finished → ReadsOn command_bytes input_bytes (Ok item) reader p.first old now p.taken p.given → (block : Block) × IsItemOf command_bytes item block × ReadsItem p old now reader block
+ReadsItem-item p old now reader (Command bytes) not reads = (reads.outcome.0, reads.outcome.1, record { bytes = reads.before ++ reads.last; gave = reads.gives; reading = reads.outcome.2 })
+ReadsItem-item p old now reader (TooLong bytes) not reads = (reads.outcome.0, reads.outcome.1, record { bytes = reads.before ++ reads.last; gave = reads.gives; reading = reads.outcome.2 })
+ReadsItem-item p old now reader Lost not reads = (reads.outcome.0, reads.outcome.1, record { bytes = reads.before ++ reads.last; gave = reads.gives; reading = reads.outcome.2 })
+ReadsItem-item p old now reader Finished not reads = absurd (not refl)
 
 -- a block that was read and answered
 pub Went-reply : {E : Type 0} (limits : Limits) (by : By) (p : Progress) (s new : State) (reader : ScriptReader) (now : SourceView) (receipts : List Receipt) (item : Item) (result : Result (Unit {0}) E)
     → item ≢ Finished → ReadsOn command_bytes input_bytes (Ok item) reader p.first s.contents.source now p.taken p.given → receipts ≡ s.receipts → new.contents.source ≡ now
     → Replies limits by item (read_on s now receipts) new result → Went limits by p s new reader result
 Went-reply limits by p s new reader now receipts item result not reads same is_now replies =
-    let read = Reads-item p s.contents.source now reader item not reads in
+    let read = ReadsItem-item p s.contents.source now reader item not reads in
     let done = replies command_bytes read.0 read.1 in
     record {
       block = read.0;
-      reads = subst (λ (v : SourceView). Reads p s.contents.source v reader read.0) (sym is_now) read.2;
+      reads = subst (λ (v : SourceView). ReadsItem p s.contents.source v reader read.0) (sym is_now) read.2;
       replied = record {
         exchange = done.exchange;
         same_block = done.same_block;

@@ -32,23 +32,23 @@ Follows-below : (q q' n n' : ℕ) (ms : List CommitAt) → q ≤ q' → n ≤ n'
 Follows-below q q' n n' [] low few follows = tt
 Follows-below q q' n n' (m ∷ ms) low few follows = (omega (arith, low, follows.0), omega (arith, few, follows.1), follows.2)
 
-FitsRead-own : (limits : Limits) (h : History) (mark : By) (read : Result Command CommandFault) (now : ℤ) (place : ℕ) (reply : Reply) → FitsRead limits h mark read now place true reply → IsIn (record { place = place; by = mark }) (commits_at h)
-FitsRead-own limits h mark (Ok asked) now place reply fits = Fits-own limits h mark asked now place reply fits
-FitsRead-own limits h mark (Err fault) now place reply fits = absurd (not_own fits.not_own) where
+FitsRead-own : (limits : Limits) (h : History) (request : By) (read : Result Command CommandFault) (now : ℤ) (place : ℕ) (reply : Reply) → FitsRead limits h request read now place true reply → IsIn (record { place = place; by = request }) (commits_at h)
+FitsRead-own limits h request (Ok asked) now place reply fits = Fits-own limits h request asked now place reply fits
+FitsRead-own limits h request (Err fault) now place reply fits = absurd (not_own fits.not_own) where
   not_own : true ≡ false → ⊥
   not_own e = cc
 
-FitsBlock-own : (limits : Limits) (h : History) (mark : By) (block : Block) (now : ℤ) (place : ℕ) (reply : Reply) → FitsBlock limits h mark block now place true reply → IsIn (record { place = place; by = mark }) (commits_at h)
-FitsBlock-own limits h mark (command text) now place reply fits = FitsRead-own limits h mark fits.read now place reply fits.fits
-FitsBlock-own limits h mark (too_long bytes) now place reply fits = absurd cc
+FitsBlock-own : (limits : Limits) (h : History) (request : By) (block : Block) (now : ℤ) (place : ℕ) (reply : Reply) → FitsBlock limits h request block now place true reply → IsIn (record { place = place; by = request }) (commits_at h)
+FitsBlock-own limits h request (command text) now place reply fits = FitsRead-own limits h request fits.read now place reply fits.fits
+FitsBlock-own limits h request (too_long bytes) now place reply fits = absurd cc
 
 -- one receipt before the others
-own_more : (limits : Limits) (h : History) (mark : By) (block : Block) (now : ℤ) (place : ℕ) (own : Bool) (reply : Reply) (q n : ℕ) (ms : List CommitAt) → q ≤ place → mark.number ≡ n + 1 → FitsBlock limits h mark block now place own reply → AreOwned place (n + 1) (commits_at h) ms → AreOwned q n (commits_at h) (own_commit own place mark ++ ms)
-own_more limits h mark block now place true reply q n ms low number fits rest = record {
+own_more : (limits : Limits) (h : History) (request : By) (block : Block) (now : ℤ) (place : ℕ) (own : Bool) (reply : Reply) (q n : ℕ) (ms : List CommitAt) → q ≤ place → request.number ≡ n + 1 → FitsBlock limits h request block now place own reply → AreOwned place (n + 1) (commits_at h) ms → AreOwned q n (commits_at h) (own_commit own place request ++ ms)
+own_more limits h request block now place true reply q n ms low number fits rest = record {
   follows = (low, omega (arith, number), subst (λ (k : ℕ). Follows place k ms) (sym number) rest.follows);
-  in_it = (FitsBlock-own limits h mark block now place reply fits, rest.in_it);
+  in_it = (FitsBlock-own limits h request block now place reply fits, rest.in_it);
 }
-own_more limits h mark block now place false reply q n ms low number fits rest = record {
+own_more limits h request block now place false reply q n ms low number fits rest = record {
   follows = Follows-below q place n (n + 1) ms low (omega arith) rest.follows;
   in_it = rest.in_it;
 }

@@ -5,8 +5,8 @@ use Rattle.kq_turn.proofs.Beginnings.{IsPrefix-refl, IsPrefix-trans}
 use Rattle.std.proofs.lemmas.List.Sums.{sum_by-append}
 use Rattle.std.proofs.lemmas.List.{map_push, flat_map_more, length_push, take-append-le}
 use Rattle.kq_world.specs.Told.{Adds}
-use Rattle.kq_world.specs.Outside.{Contents, Gives}
-use Rattle.kq_world.proofs.Told.{Adds-none, Adds-trans, Gives-none, Gives-trans}
+use Rattle.kq_world.specs.Outside.{Contents, Delivers}
+use Rattle.kq_world.proofs.Told.{Adds-none, Adds-trans, Delivers-none, Delivers-trans}
 use Rattle.kq_model.specs.declared.limits.Limits.{Limits}
 use Rattle.kq_model.specs.declared.event.By.{By}
 use Rattle.kq_model.specs.History.{History}
@@ -17,14 +17,14 @@ use Rattle.kq_script.specs.Script.{Block, script_blocks}
 use Rattle.kq_script.specs.Reading.{IsReading, IsPrefix as Begins}
 use Rattle.kq_script.specs.declared.reader.ScriptReader.{ScriptReader}
 use Rattle.kq_engine.specs.Merges.{NamesAll}
-use Rattle.kq_engine.specs.Shared.{PassView, made_by}
+use Rattle.kq_engine.specs.Shared.{PassView, commit_count}
 use Rattle.kq_engine.proofs.Telling.{NamesAll-since}
 use Rattle.kq_session.specs.declared.end.End.{End}
 use Rattle.kq_session.specs.declared.end.End.TheVariants.{Finished, Short, SourceFault, SinkFault, InputLimit}
 use Rattle.kq_session.specs.declared.receipt.Receipt.{Receipt}
 use Rattle.kq_session.specs.Blocks.{FitsBlock, Steps, AreTakes}
 use Rattle.kq_session.specs.Objects.{SessionView}
-use Rattle.kq_session.specs.Session.{Exchange, IsExchange, ComesAfter, AreExchanges, AreWritten, Ends, Explained, GoesOn, blocks_of, moments_of, texts_of, owns, AreTaken, command_bytes, input_bytes}
+use Rattle.kq_session.specs.Session.{Exchange, IsExchange, ComesAfter, AreExchanges, AreWritten, SessionEnds, Explained, GoesOn, blocks_of, moments_of, texts_of, owns, AreTaken, command_bytes, input_bytes}
 use Rattle.kq_session.specs.Exchanges.{State, Progress, Went, Idle, ExchangeBy, Comes}
 use Rattle.kq_session.proofs.Blocks.{FitsBlock-append}
 use Rattle.kq_session.proofs.Exchanging.{given_at_end, open_still}
@@ -66,8 +66,8 @@ AreTaken-push (x ∷ receipts) r taken takes all last =
     let more = all.1 in
     (all.0, more ++ takes, ap (λ (l : List ℕ). l ++ takes) all.2 ∙ append_assoc all.0 more takes, all.3, AreTaken-push receipts r more takes all.4 last)
 
-owns-push : (receipts : List Receipt) (r : Receipt) → owns (receipts ++ r ∷ []) ≡ owns receipts + made_by r.own
-owns-push receipts r = sum_by-append (λ (x : Receipt). made_by x.own) receipts (r ∷ []) ∙ ap (λ (k : ℕ). owns receipts + k) (zero-add (made_by r.own))
+owns-push : (receipts : List Receipt) (r : Receipt) → owns (receipts ++ r ∷ []) ≡ owns receipts + commit_count r.own
+owns-push receipts r = sum_by-append (λ (x : Receipt). commit_count x.own) receipts (r ∷ []) ∙ ap (λ (k : ℕ). owns receipts + k) (zero-add (commit_count r.own))
 
 -- no receipt yet
 pub GoesOn-none : (p : PassView) → GoesOn p p []
@@ -99,7 +99,7 @@ pub record SoFar (limits : Limits) (actor : ℕ) (start now : State) (reader : S
   pub bytes : List ℕ
   pub of_exchanges : now.receipts ≡ map (λ (t : Exchange). t.receipt) exchanges
   pub each : AreExchanges limits now.pass.seen actor 0 0 exchanges
-  pub gave : Gives start.contents.source now.contents.source bytes
+  pub gave : Delivers start.contents.source now.contents.source bytes
   pub reading : IsReading command_bytes input_bytes reader start.contents.source now.contents.source bytes (blocks_of exchanges)
   pub moments : Adds start.contents.readings now.contents.readings (moments_of exchanges)
   pub written : Adds start.contents.accepted now.contents.accepted (texts_of exchanges)
@@ -112,7 +112,7 @@ SoFar-none limits actor s reader fresh reading = record {
   bytes = [];
   of_exchanges = fresh;
   each = tt;
-  gave = Gives-none s.contents.source;
+  gave = Delivers-none s.contents.source;
   reading = reading;
   moments = Adds-none s.contents.readings;
   written = Adds-none s.contents.accepted;
@@ -132,7 +132,7 @@ record More (limits : Limits) (actor : ℕ) (start now : State) (reader : Script
   pub bytes : List ℕ
   pub of_exchanges : now.receipts ≡ map (λ (t : Exchange). t.receipt) exchanges
   pub each : AreExchanges limits now.pass.seen actor 0 0 exchanges
-  pub gave : Gives start.contents.source now.contents.source bytes
+  pub gave : Delivers start.contents.source now.contents.source bytes
   pub reading : IsReading command_bytes input_bytes reader start.contents.source now.contents.source bytes (blocks_of exchanges)
   pub moments : Adds start.contents.readings now.contents.readings (moments_of exchanges)
   pub goes_on : GoesOn start.pass now.pass now.receipts
@@ -158,7 +158,7 @@ more_by limits actor n start old new was reader so_far result went =
             within = step.within;
             kind = answered.kind;
           });
-      gave = Gives-trans start.contents.source old.contents.source new.contents.source so_far.bytes went.reads.bytes so_far.gave went.reads.gave;
+      gave = Delivers-trans start.contents.source old.contents.source new.contents.source so_far.bytes went.reads.bytes so_far.gave went.reads.gave;
       reading = subst (IsReading command_bytes input_bytes reader start.contents.source new.contents.source (so_far.bytes ++ went.reads.bytes)) (ap (λ (b : Block). blocks_of exchanges ++ b ∷ []) (sym went.replied.same_block) ∙ sym (map_push (λ (u : Exchange). u.block) exchanges t)) went.reads.reading;
       moments = subst (Adds start.contents.readings new.contents.readings) (sym (map_push (λ (u : Exchange). u.receipt.moment) exchanges t)) (Adds-trans start.contents.readings old.contents.readings new.contents.readings (moments_of exchanges) _ so_far.moments answered.moment);
       goes_on = subst (GoesOn start.pass new.pass) (sym answered.receipt) (GoesOn-push limits start.pass old.pass new.pass (record { actor = actor; number = n }) t.block old.receipts r t.reply so_far.goes_on answered.kind step);
@@ -184,14 +184,14 @@ SoFar-push limits actor n start old new was reader so_far went =
     }
 
 -- nothing was answered any more
-Ends-idle : (limits : Limits) (actor n : ℕ) (start old new : State) (was : ScriptReader) (end : End) (so_far : SoFar limits actor start old was n) → Idle (progress so_far) old new end
-    → ((exchanges : List Exchange) → Adds start.contents.accepted new.contents.accepted (texts_of exchanges) → AreWritten end start.contents.accepted new.contents.accepted exchanges) → Ends limits new.pass.seen actor start.contents new.contents new.receipts end
-Ends-idle limits actor n start old new was end so_far idle all_written = record {
+SessionEnds-idle : (limits : Limits) (actor n : ℕ) (start old new : State) (was : ScriptReader) (end : End) (so_far : SoFar limits actor start old was n) → Idle (progress so_far) old new end
+    → ((exchanges : List Exchange) → Adds start.contents.accepted new.contents.accepted (texts_of exchanges) → AreWritten end start.contents.accepted new.contents.accepted exchanges) → SessionEnds limits new.pass.seen actor start.contents new.contents new.receipts end
+SessionEnds-idle limits actor n start old new was end so_far idle all_written = record {
   exchanges = so_far.exchanges;
   bytes = so_far.bytes ++ idle.bytes;
   of_exchanges = idle.same_receipts ∙ so_far.of_exchanges;
   each = subst (λ (p : PassView). AreExchanges limits p.seen actor 0 0 so_far.exchanges) (sym idle.same_pass) so_far.each;
-  gave = Gives-trans start.contents.source old.contents.source new.contents.source so_far.bytes idle.bytes so_far.gave idle.gave;
+  gave = Delivers-trans start.contents.source old.contents.source new.contents.source so_far.bytes idle.bytes so_far.gave idle.gave;
   blocks = idle.blocks;
   at_end = idle.at_end;
   all_at_end = idle.all_at_end;
@@ -205,7 +205,7 @@ GoesOn-idle first old new receipts more goes_on same same_receipts = subst (λ (
 idle_comes : (limits : Limits) (actor n : ℕ) (start old new : State) (was : ScriptReader) (end : End) (so_far : SoFar limits actor start old was n) → Idle (progress so_far) old new end
     → ((exchanges : List Exchange) → Adds start.contents.accepted new.contents.accepted (texts_of exchanges) → AreWritten end start.contents.accepted new.contents.accepted exchanges) → Comes limits actor start new end
 idle_comes limits actor n start old new was end so_far idle all_written = record {
-  ends = Ends-idle limits actor n start old new was end so_far idle all_written;
+  ends = SessionEnds-idle limits actor n start old new was end so_far idle all_written;
   goes_on = GoesOn-idle start.pass old.pass new.pass old.receipts new.receipts so_far.goes_on idle.same_pass idle.same_receipts;
 }
 
@@ -241,13 +241,13 @@ no_blocks : (ended : Bool) → Begins [] (script_blocks command_bytes [] ended)
 no_blocks ended = (script_blocks command_bytes [] ended, refl)
 
 -- there was no room for the first receipt
-pub Ends-none : (limits : Limits) (actor : ℕ) (h : History) (o : Contents) → Ends limits h actor o o [] Short
-Ends-none limits actor h o = record {
+pub SessionEnds-none : (limits : Limits) (actor : ℕ) (h : History) (o : Contents) → SessionEnds limits h actor o o [] Short
+SessionEnds-none limits actor h o = record {
   exchanges = [];
   bytes = [];
   of_exchanges = refl;
   each = tt;
-  gave = Gives-none o.source;
+  gave = Delivers-none o.source;
   blocks = no_blocks o.source.ended;
   at_end = tt;
   all_at_end = open_still o.source.ended o.source.ended [] [] refl;

@@ -8,7 +8,7 @@ use Rattle.kq_model.specs.History.{History}
 use Rattle.kq_command.specs.declared.command.Command.{Command}
 use Rattle.kq_command.specs.declared.command.CommandFault.{CommandFault}
 use Rattle.kq_command.specs.declared.command.CommandFault.TheVariants.{NotText, Syntax, Deep, Unsupported, Memory}
-use Rattle.kq_command.specs.Reads.{Reads}
+use Rattle.kq_command.specs.Reads.{ReadsAs}
 use Rattle.kq_reply.specs.declared.refusal.Refusal.{Refusal}
 use Rattle.kq_reply.specs.declared.refusal.Refusal.TheVariants as refusals
 use Rattle.kq_reply.specs.declared.reply.Reply.{Reply}
@@ -18,7 +18,7 @@ use Rattle.kq_script.specs.Script.{Block, command, too_long}
 use Rattle.kq_engine.specs.declared.work.Outcome.{Outcome}
 use Rattle.kq_engine.specs.Fits.{Fits}
 use Rattle.kq_engine.specs.Merges.{NamesAll}
-use Rattle.kq_engine.specs.Shared.{PassView, made_by}
+use Rattle.kq_engine.specs.Shared.{PassView, commit_count}
 
 -- refused for the text alone, or for want of memory
 pub record Refuses (h : History) (place : ℕ) (own : Bool) (reply : Reply) (r : Refusal) : Type 0 where
@@ -42,19 +42,19 @@ refusal_of Memory = refusals.Memory
 
 -- the reply to what a text reads as
 abbrev pub FitsRead : Limits → History → By → Result Command CommandFault → ℤ → ℕ → Bool → Reply → Type 0
-FitsRead limits h mark (Ok asked) now place own reply = Fits limits h mark asked now place own reply
-FitsRead limits h mark (Err fault) now place own reply = Refuses h place own reply (refusal_of fault)
+FitsRead limits h request (Ok asked) now place own reply = Fits limits h request asked now place own reply
+FitsRead limits h request (Err fault) now place own reply = Refuses h place own reply (refusal_of fault)
 
 -- the reply to a text fits the command that the text reads as, or is the refusal of the text
-pub record FitsText (limits : Limits) (h : History) (mark : By) (text : List ℕ) (now : ℤ) (place : ℕ) (own : Bool) (reply : Reply) : Type 0 where
+pub record FitsText (limits : Limits) (h : History) (request : By) (text : List ℕ) (now : ℤ) (place : ℕ) (own : Bool) (reply : Reply) : Type 0 where
   pub read : Result Command CommandFault
-  pub reads : Reads text read
-  pub fits : FitsRead limits h mark read now place own reply
+  pub reads : ReadsAs text read
+  pub fits : FitsRead limits h request read now place own reply
 
 -- the reply to a block
 abbrev pub FitsBlock : Limits → History → By → Block → ℤ → ℕ → Bool → Reply → Type 0
-FitsBlock limits h mark (command text) now place own reply = FitsText limits h mark text now place own reply
-FitsBlock limits h mark (too_long bytes) now place own reply = RefusesLength h place own reply bytes
+FitsBlock limits h request (command text) now place own reply = FitsText limits h request text now place own reply
+FitsBlock limits h request (too_long bytes) now place own reply = RefusesLength h place own reply bytes
 
 -- the refusals of a text alone, and for want of memory: Memory, Syntax, Deep, TooLong, Unsupported and NotText
 abbrev pub is_early : ℕ → Bool
@@ -72,7 +72,7 @@ pub record Steps (limits : Limits) (old new : PassView) (by : By) (block : Block
   pub of : new.of ≡ old.of
   pub worth : new.worth ≡ old.worth
   pub seen : IsPrefix old.seen new.seen
-  pub made : new.made ≡ old.made + made_by outcome.own
+  pub made : new.made ≡ old.made + commit_count outcome.own
   pub takes : List ℕ
   pub taken : new.taken ≡ old.taken ++ takes
   pub enough : AreTakes (kind_of outcome.reply) outcome.place takes

@@ -1,19 +1,19 @@
 -- What a session comes to that nothing troubled: each command of its script has its reply.
 use Rattle.std.specs.Prelude.{◌≡◌, ◌⊎◌, ◌<◌, ◌+◌, ◌-◌, ℕ, ℤ, Bool, true, List, length, take, map, All, Result, Ok, Err}
 use Rattle.kq_world.specs.Told.{Adds}
-use Rattle.kq_world.specs.Outside.{Contents, Gives, Rose}
+use Rattle.kq_world.specs.Outside.{Contents, Delivers, Rose}
 use Rattle.kq_model.specs.declared.limits.Limits.{Limits}
 use Rattle.kq_model.specs.History.{History}
 use Rattle.kq_command.specs.declared.command.Command.{Command}
 use Rattle.kq_command.specs.declared.command.CommandFault.{CommandFault}
-use Rattle.kq_command.specs.Reads.{Reads}
+use Rattle.kq_command.specs.Reads.{ReadsAs}
 use Rattle.kq_reply.specs.declared.refusal.Refusal.{Refusal}
 use Rattle.kq_reply.specs.declared.refusal.Refusal.TheVariants as refusals
 use Rattle.kq_reply.specs.declared.reply.Reply.TheVariants as replies
 use Rattle.kq_script.specs.Script.{Block, command, too_long, script_blocks}
 use Rattle.kq_script.specs.Reading.{IsPrefix as Begins}
 use Rattle.kq_engine.specs.Fits.{IsDue}
-use Rattle.kq_engine.specs.Shared.{made_by}
+use Rattle.kq_engine.specs.Shared.{commit_count}
 use Rattle.kq_session.specs.declared.end.End.{End}
 use Rattle.kq_session.specs.declared.end.End.TheVariants.{Finished, Short, SourceFault, SinkFault, InputLimit}
 use Rattle.kq_session.specs.declared.receipt.Receipt.{Receipt}
@@ -31,7 +31,7 @@ RefusesRead limits h now (Err fault) r = r ≡ refusal_of fault
 
 -- the refusal is due over this history at a moment to the block
 abbrev pub IsRefused : Limits → History → ℤ → Block → Refusal → Type 0
-IsRefused limits h now (command text) r = (read : Result Command CommandFault) × Reads text read × RefusesRead limits h now read r
+IsRefused limits h now (command text) r = (read : Result Command CommandFault) × ReadsAs text read × RefusesRead limits h now read r
 IsRefused limits h now (too_long bytes) r = r ≡ refusals.TooLong bytes
 
 -- no refusal is due to the block but want of memory
@@ -40,7 +40,7 @@ IsValid limits h now block = (r : Refusal) → IsRefused limits h now block r �
 
 -- the history that answers a command: the one up to its place, without its own commit
 abbrev pub answering : History → Receipt → History
-answering h r = take (r.place - made_by r.own) h
+answering h r = take (r.place - commit_count r.own) h
 
 -- a valid command has a reply that is no refusal, or one for want of memory
 pub record IsServed (limits : Limits) (h : History) (t : Exchange) : Type 0 where
@@ -70,7 +70,7 @@ pub record IsComplete (limits : Limits) (h : History) (actor : ℕ) (before : Co
   pub bytes : List ℕ
   pub of_exchanges : s.receipts ≡ map (λ (t : Exchange). t.receipt) exchanges
   pub each : AreExchanges limits h actor 0 0 exchanges
-  pub gave : Gives before.source s.objects.contents.source bytes
+  pub gave : Delivers before.source s.objects.contents.source bytes
   pub end : End
   pub by_end : s.status ≡ status_of end s.receipts
   pub blocks : AreAllBlocks end bytes s.objects.contents.source.ended (blocks_of exchanges)

@@ -1,7 +1,7 @@
 -- What one exchange of a session does.
 use Rattle.std.specs.Prelude.{◌≡◌, ◌≤◌, ℕ, ℤ, List, [], ◌∷◌, ◌++◌, Option, Some, None, Result, Ok, Err}
 use Rattle.kq_world.specs.Told.{Adds}
-use Rattle.kq_world.specs.Outside.{SourceView, Contents, Gives, PutsAll, Rose, contents}
+use Rattle.kq_world.specs.Outside.{SourceView, Contents, Delivers, PutsAll, Rose, contents}
 use Rattle.kq_world.specs.declared.outside.Failed.{Failed}
 use Rattle.kq_model.specs.declared.event.By.{By}
 use Rattle.kq_model.specs.declared.limits.Limits.{Limits}
@@ -18,7 +18,7 @@ use Rattle.kq_session.specs.declared.end.End.TheVariants.{Finished, Short, Sourc
 use Rattle.kq_session.specs.declared.receipt.Receipt.{Receipt}
 use Rattle.kq_session.specs.declared.session.Session.{Session}
 use Rattle.kq_session.specs.Blocks.{Steps}
-use Rattle.kq_session.specs.Session.{Exchange, Ends, GoesOn, AreBlocks, AreAllAtEnd, IsLeft, command_bytes, input_bytes}
+use Rattle.kq_session.specs.Session.{Exchange, SessionEnds, GoesOn, AreBlocks, AreAllAtEnd, IsLeft, command_bytes, input_bytes}
 
 -- a session at one moment: its pass, what its objects tell, and its receipts
 pub record State : Type 0 where
@@ -59,9 +59,9 @@ abbrev pub Replies : {E : Type 0} → Limits → By → Item → State → State
 Replies limits by item old new result = (limit : ℕ) (block : Block) → IsItemOf limit item block → Replied limits by old new block result
 
 -- a block was read from the source
-pub record Reads (p : Progress) (old new : SourceView) (reader : ScriptReader) (block : Block) : Type 0 where
+pub record ReadsBlock (p : Progress) (old new : SourceView) (reader : ScriptReader) (block : Block) : Type 0 where
   pub bytes : List ℕ
-  pub gave : Gives old new bytes
+  pub gave : Delivers old new bytes
   pub reading : IsReading command_bytes input_bytes reader p.first new (p.taken ++ bytes) (p.given ++ block ∷ [])
 
 -- no block was answered
@@ -69,7 +69,7 @@ pub record Idle (p : Progress) (old new : State) (end : End) : Type 0 where
   pub same_pass : new.pass ≡ old.pass
   pub same_receipts : new.receipts ≡ old.receipts
   pub bytes : List ℕ
-  pub gave : Gives old.contents.source new.contents.source bytes
+  pub gave : Delivers old.contents.source new.contents.source bytes
   pub blocks : AreBlocks end (p.taken ++ bytes) new.contents.source.ended p.given
   pub at_end : IsLeft end p.first new.contents.source
   pub all_at_end : AreAllAtEnd p.first.ended new.contents.source.ended (p.taken ++ bytes) p.given
@@ -79,7 +79,7 @@ pub record Idle (p : Progress) (old new : State) (end : End) : Type 0 where
 -- a block was read and answered
 pub record Went {E : Type 0} (limits : Limits) (by : By) (p : Progress) (old new : State) (reader : ScriptReader) (result : Result (Unit {0}) E) : Type 0 where
   pub block : Block
-  pub reads : Reads p old.contents.source new.contents.source reader block
+  pub reads : ReadsBlock p old.contents.source new.contents.source reader block
   pub replied : Replied limits by old new block result
 
 -- by its end, where it has one
@@ -100,7 +100,7 @@ TakesExchange told accepted readings limits by was reader old new end =
 -- what a session comes to from its start
 pub record Comes (limits : Limits) (actor : ℕ) (old new : State) (end : End) : Type 0 where
   pub goes_on : GoesOn old.pass new.pass new.receipts
-  pub ends : Ends limits new.pass.seen actor old.contents new.contents new.receipts end
+  pub ends : SessionEnds limits new.pass.seen actor old.contents new.contents new.receipts end
 
 -- the count of faults never falls, rose where this holds, and stays where it doesn't
 pub record Rises (before now : ℕ) (fault : Type 0) : Type 0 where

@@ -3,7 +3,7 @@ use Rattle.std.specs.Prelude.{◌≡◌, ◌<◌, ◌≤◌, ◌+◌, ℕ, ℤ, 
 use Rattle.std.specs.List.{flat_map}
 use mathlib.Core.List.{IsPrefix}
 use Rattle.kq_world.specs.Told.{Adds}
-use Rattle.kq_world.specs.Outside.{SourceView, Contents, Gives}
+use Rattle.kq_world.specs.Outside.{SourceView, Contents, Delivers}
 use Rattle.kq_model.specs.declared.limits.Limits.{Limits}
 use Rattle.kq_model.specs.History.{History, CommitAt}
 use Rattle.kq_reply.specs.declared.reply.Reply.{Reply}
@@ -93,12 +93,12 @@ AreWritten SinkFault before now exchanges =
 AreWritten InputLimit before now exchanges = Adds before now (texts_of exchanges)
 
 -- a session's exchanges explain what its source gave, what its sink took, what its clock read, its receipts and how it ended
-pub record Ends (limits : Limits) (h : History) (actor : ℕ) (before now : Contents) (receipts : List Receipt) (end : End) : Type 0 where
+pub record SessionEnds (limits : Limits) (h : History) (actor : ℕ) (before now : Contents) (receipts : List Receipt) (end : End) : Type 0 where
   pub exchanges : List Exchange
   pub bytes : List ℕ
   pub of_exchanges : receipts ≡ map (λ (t : Exchange). t.receipt) exchanges
   pub each : AreExchanges limits h actor 0 0 exchanges
-  pub gave : Gives before.source now.source bytes
+  pub gave : Delivers before.source now.source bytes
   pub blocks : AreBlocks end bytes now.source.ended (blocks_of exchanges)
   pub at_end : IsLeft end before.source now.source
   pub all_at_end : AreAllAtEnd before.source.ended now.source.ended bytes (blocks_of exchanges)
@@ -108,7 +108,7 @@ pub record Ends (limits : Limits) (h : History) (actor : ℕ) (before now : Cont
 -- the session of an actor, whose objects told this at first, is explained by a history
 pub record Explained (limits : Limits) (h : History) (actor : ℕ) (before : Contents) (s : SessionView) : Type 0 where
   pub end : End
-  pub ends : Ends limits h actor before s.objects.contents s.receipts end
+  pub ends : SessionEnds limits h actor before s.objects.contents s.receipts end
   pub by_end : s.status ≡ status_of end s.receipts
 
 -- the commits of an actor's receipts with `own`

@@ -16,7 +16,7 @@ use kq_value::Bytes;
 use kq_world::Gate;
 use std::sync::Wait;
 
-/// The outcome of a block: what the engine answers to its command, or the refusal of its text.
+// The outcome of a block: what the engine answers to its command, or the refusal of its text.
 pub(crate) fn answer<R: Wait, G: Gate>(
     service: &Service<R, G>,
     pass: &mut Pass,

@@ -23,7 +23,7 @@ pub enum End {
 const MEMORY: u8 = 1;
 
 impl End {
-    /// The session's status.
+    // The session's status.
     pub(crate) fn status(self, receipts: &[Receipt]) -> u8
         ensures { result ≡ status_of self receipts.now }
     {

@@ -26,7 +26,7 @@ const COMMAND_BYTES: u64 = 16_777_216;
 // The most bytes that a session takes.
 const INPUT_BYTES: u64 = 4_294_967_296;
 
-/// A session that is under way.
+// A session that is under way.
 #[derive(Drop)]
 pub(crate) struct Session<S: Drop, K: Drop, C: Drop> {
     pub pass: Pass,

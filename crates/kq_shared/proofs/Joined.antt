@@ -4,9 +4,9 @@ use Rattle.std.proofs.lemmas.List.{take_more, take_all, length-take}
 use Rattle.std.proofs.lemmas.List.Concat.{flat_map-append}
 use Rattle.std.proofs.Math.Seq.{set-append_seam}
 use Rattle.kq_shared.specs.declared.parts.Part.{Part}
-use Rattle.kq_shared.specs.Pieces.{items_by, items_in}
+use Rattle.kq_shared.specs.Pieces.{part_items, items_in}
 
-pub items_in-joined : {T : Type 0} (parts : List (Part T)) (n : ℕ) (a b p : Part T) → length parts ≡ n + 2 → a ≡ get_or parts n a → b ≡ get_or parts (n + 1) b → items_by p ≡ items_by a ++ items_by b
+pub items_in-joined : {T : Type 0} (parts : List (Part T)) (n : ℕ) (a b p : Part T) → length parts ≡ n + 2 → a ≡ get_or parts n a → b ≡ get_or parts (n + 1) b → part_items p ≡ part_items a ++ part_items b
     → items_in (set (take (n + 1) parts) n p) ≡ items_in parts
 items_in-joined {T} parts n a b p two is_a is_b joined =
     let front = take n parts in
@@ -15,7 +15,7 @@ items_in-joined {T} parts n a b p two is_a is_b joined =
     sym (take_all (n + 1 + 1) parts (omega arith)) ∙ take_more parts (n + 1) b (omega arith) ∙ ap (λ x. take (n + 1) parts ++ x ∷ []) (sym is_b) ∙ ap (λ xs. xs ++ b ∷ []) with_a in
     let n_is : length front ≡ n = omega (arith, length-take n parts) in
     let put : set (take (n + 1) parts) n p ≡ front ++ p ∷ [] = ap (λ xs. set xs n p) with_a ∙ ap (λ k. set (front ++ a ∷ []) k p) (sym n_is) ∙ set-append_seam front a [] p in
-    ap items_in put ∙ flat_map-append (λ (x : Part T). items_by x) front (p ∷ [])
-    ∙ ap (λ xs. items_in front ++ xs) (append-nil (items_by p) ∙ joined ∙ ap (λ xs. items_by a ++ xs) (sym (append-nil (items_by b))))
-    ∙ sym (flat_map-append (λ (x : Part T). items_by x) front (a ∷ b ∷ []))
+    ap items_in put ∙ flat_map-append (λ (x : Part T). part_items x) front (p ∷ [])
+    ∙ ap (λ xs. items_in front ++ xs) (append-nil (part_items p) ∙ joined ∙ ap (λ xs. part_items a ++ xs) (sym (append-nil (part_items b))))
+    ∙ sym (flat_map-append (λ (x : Part T). part_items x) front (a ∷ b ∷ []))
     ∙ ap items_in (sym (append_assoc front (a ∷ []) (b ∷ [])) ∙ sym with_b)

@@ -5,25 +5,25 @@ use Rattle.std.specs.Arc.{arc_value}
 use Rattle.kq_shared.specs.declared.piece.Piece.{Piece, Leaf, Pair'}
 use Rattle.kq_shared.specs.declared.parts.Part.{Part}
 
-abbrev pub items_of : {T : Type 0} → Piece T → List T
-items_of (Leaf handles) = map arc_value handles.items
-items_of (Pair' p left count q right) = items_of left ++ items_of right
+abbrev pub piece_items : {T : Type 0} → Piece T → List T
+piece_items (Leaf handles) = map arc_value handles.items
+piece_items (Pair' p left count q right) = piece_items left ++ piece_items right
 
 -- the numbers in the piece are those of the items on the left
 abbrev pub HasCounts : {T : Type 0} → Piece T → Type 0
 HasCounts (Leaf handles) = Unit {0}
-HasCounts (Pair' p left count q right) = (count ≡ length (items_of left)) × HasCounts left × HasCounts right
+HasCounts (Pair' p left count q right) = (count ≡ length (piece_items left)) × HasCounts left × HasCounts right
 
-abbrev pub items_by : {T : Type 0} → Part T → List T
-items_by p = items_of (arc_value p.piece)
+abbrev pub part_items : {T : Type 0} → Part T → List T
+part_items p = piece_items (arc_value p.piece)
 
 -- the items of parts, one after another
 abbrev pub items_in : {T : Type 0} → List (Part T) → List T
-items_in parts = flat_map (λ p. items_by p) parts
+items_in parts = flat_map (λ p. part_items p) parts
 
 -- the part knows how many items it has
 pub record IsCounted {T : Type 0} (p : Part T) : Type 0 where
-  pub len : p.len ≡ length (items_by p)
+  pub len : p.len ≡ length (part_items p)
   pub counts : HasCounts (arc_value p.piece)
 
 abbrev pub AreCounted : {T : Type 0} → List (Part T) → Type 0
@@ -33,7 +33,7 @@ AreCounted parts = All (λ p. IsCounted p) parts
 pub record LeadsTo {T : Type 0} (parts : List (Part T)) (at index rest : ℕ) : Type 0 where
   pub within : index ≤ length parts
   pub before : length (items_in (take index parts)) + rest ≡ at
-  pub inside : (p : Part T) → slice_get parts index ≡ Some p → rest < length (items_by p)
+  pub inside : (p : Part T) → slice_get parts index ≡ Some p → rest < length (part_items p)
 
 -- the length is that of all items, and its parts know theirs
 pub record IsWhole {T : Type 0} (parts : List (Part T)) (tail : List T) (len : ℕ) : Type 0 where

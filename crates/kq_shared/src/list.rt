@@ -10,10 +10,10 @@ use std::alloc::{AllocError, Global};
 use std::marker::Model;
 use std::sync::Arc;
 
-/// How many items the tail has when it becomes a piece.
+// How many items the tail has when it becomes a piece.
 const LEAF: usize = 32;
 
-/// The greatest length, as a vector's. No memory holds more handles.
+// The greatest length, as a vector's. No memory holds more handles.
 const MOST: usize = 0x7fff_ffff_ffff_ffff;
 
 /// Items in order. Two lists share what they have in common, so that a second list of the same items costs little.
@@ -119,7 +119,7 @@ impl<T: Drop> SharedList<T> {
         Ok(())
     }
 
-    /// Lets go of the first piece where its items are all among the first so many, and tells how many it had.
+    // Lets go of the first piece where its items are all among the first so many, and tells how many it had.
     pub(crate) fn shed(&mut self, most: usize) -> usize
         ensures within { result ≤ most }
         ensures items { self.new ≡ drop result self.old }

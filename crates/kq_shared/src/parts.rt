@@ -1,21 +1,21 @@
 // The pieces of a list, and its tail.
 ghost use Rattle.std.specs.Prelude.{◌≡◌, ◌≤◌, ◌++◌, ◌<◌, ◌^◌, ◌+◌, ◌-◌, ◌∷◌, [], length, map, take, drop, IfOk, OnOk, OnErr, vec_len, vec_capacity};
 ghost use Rattle.std.specs.Arc.{arc_value};
-ghost use Rattle.kq_shared.specs.Pieces.{items_of, HasCounts, items_in, AreCounted, LeadsTo};
+ghost use Rattle.kq_shared.specs.Pieces.{piece_items, HasCounts, items_in, AreCounted, LeadsTo};
 
 use crate::Memory;
 use crate::piece::{Piece, leaf, pair, shared_handles};
 use std::alloc::Global;
 use std::sync::Arc;
 
-/// A piece, with the number of its items.
+// A piece, with the number of its items.
 #[derive(Drop)]
 pub(crate) struct Part<T> {
     pub piece: Arc<Piece<T>, Global>,
     pub len: usize,
 }
 
-/// The same parts again.
+// The same parts again.
 pub(crate) fn shared_parts<T: Drop>(
     alloc: Global,
     parts: &[Part<T>],
@@ -34,7 +34,7 @@ pub(crate) fn shared_parts<T: Drop>(
     Ok(all)
 }
 
-/// The part in which a place lies, and how far in it.
+// The part in which a place lies, and how far in it.
 pub(crate) fn part_at<T: Drop>(parts: &[Part<T>], at: usize) -> (usize, usize)
     requires { AreCounted parts.now }
     ensures { LeadsTo parts.now at result.0 result.1 }
@@ -87,7 +87,7 @@ fn join_equal<T: Drop>(alloc: Global, parts: &mut Vec<Part<T>>) -> Result<(), Me
     Ok(())
 }
 
-/// Makes a part of the tail, which is empty then.
+// Makes a part of the tail, which is empty then.
 pub(crate) fn seal<T: Drop>(
     alloc: Global,
     parts: &mut Vec<Part<T>>,

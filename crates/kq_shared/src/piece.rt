@@ -1,14 +1,14 @@
 // Pieces of lists, which nothing changes once they stand.
 ghost use Rattle.std.specs.Prelude.{◌≡◌, ◌++◌, ◌<◌, ◌^◌, ◌+◌, ◌∷◌, [], length, map, take, drop, IfOk, slice_set};
 ghost use Rattle.std.specs.Arc.{arc_value};
-ghost use Rattle.kq_shared.specs.Pieces.{items_of, HasCounts};
+ghost use Rattle.kq_shared.specs.Pieces.{piece_items, HasCounts};
 ghost use Rattle.kq_shared.specs.Standing.{StandsAt};
 
 use crate::Memory;
 use std::alloc::Global;
 use std::sync::Arc;
 
-/// Items in order. The number is how many stand on the left.
+// Items in order. The number is how many stand on the left.
 #[derive(Drop)]
 pub(crate) enum Piece<T> {
     Leaf(Vec<Arc<T, Global>>),
@@ -16,12 +16,12 @@ pub(crate) enum Piece<T> {
 }
 
 impl<T: Drop> Piece<T> {
-    /// Some items in a row, from a place on.
+    // Some items in a row, from a place on.
     pub(crate) fn slice_from(&self, at: usize) -> &[Arc<T, Global>]
         requires counts { HasCounts self.now }
-        requires within { at < length (items_of self.now) }
+        requires within { at < length (piece_items self.now) }
         ensures some { 0 < length result.now }
-        ensures items { StandsAt (items_of self.now) at (map arc_value result.now) }
+        ensures items { StandsAt (piece_items self.now) at (map arc_value result.now) }
     {
         match self {
             Piece::Leaf(handles) => handles.as_slice().split_at(at).1,
@@ -35,7 +35,7 @@ impl<T: Drop> Piece<T> {
         }
     }
 
-    /// A piece with another item at a place, which shares all that it can.
+    // A piece with another item at a place, which shares all that it can.
     pub(crate) fn with_item(
         &self,
         alloc: Global,
@@ -43,9 +43,9 @@ impl<T: Drop> Piece<T> {
         item: Arc<T, Global>,
     ) -> Result<Arc<Piece<T>, Global>, Memory>
         requires counts { HasCounts self.now }
-        requires within { at < length (items_of self.now) }
+        requires within { at < length (piece_items self.now) }
         ensures counts { IfOk result (λ p. HasCounts (arc_value p)) }
-        ensures items { IfOk result (λ p. items_of (arc_value p) ≡ slice_set (items_of self.now) at (arc_value item)) }
+        ensures items { IfOk result (λ p. piece_items (arc_value p) ≡ slice_set (piece_items self.now) at (arc_value item)) }
     {
         match self {
             Piece::Leaf(handles) => leaf(alloc, handles_with(alloc, handles.as_slice(), at, item)?),
@@ -63,34 +63,34 @@ impl<T: Drop> Piece<T> {
     }
 }
 
-/// A piece of these items.
+// A piece of these items.
 pub(crate) fn leaf<T: Drop>(
     alloc: Global,
     handles: Vec<Arc<T, Global>>,
 ) -> Result<Arc<Piece<T>, Global>, Memory>
     ensures counts { IfOk result (λ p. HasCounts (arc_value p)) }
-    ensures items { IfOk result (λ p. items_of (arc_value p) ≡ map arc_value handles.items) }
+    ensures items { IfOk result (λ p. piece_items (arc_value p) ≡ map arc_value handles.items) }
 {
     Ok(Arc::new(alloc, Piece::Leaf(handles))?)
 }
 
-/// A piece of two.
+// A piece of two.
 pub(crate) fn pair<T: Drop>(
     alloc: Global,
     left: Arc<Piece<T>, Global>,
     count: usize,
     right: Arc<Piece<T>, Global>,
 ) -> Result<Arc<Piece<T>, Global>, Memory>
-    requires count { count ≡ length (items_of (arc_value left)) }
+    requires count { count ≡ length (piece_items (arc_value left)) }
     requires left { HasCounts (arc_value left) }
     requires right { HasCounts (arc_value right) }
     ensures counts { IfOk result (λ p. HasCounts (arc_value p)) }
-    ensures items { IfOk result (λ p. items_of (arc_value p) ≡ items_of (arc_value left) ++ items_of (arc_value right)) }
+    ensures items { IfOk result (λ p. piece_items (arc_value p) ≡ piece_items (arc_value left) ++ piece_items (arc_value right)) }
 {
     Ok(Arc::new(alloc, Piece::Pair(left, count, right))?)
 }
 
-/// The same handles, in a vector with this much room in all, or as much as they take.
+// The same handles, in a vector with this much room in all, or as much as they take.
 pub(crate) fn shared_handles<T: Drop>(
     alloc: Global,
     handles: &[Arc<T, Global>],

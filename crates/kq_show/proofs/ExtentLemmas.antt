@@ -17,7 +17,7 @@ use Rattle.kq_value.specs.declared.value.Value.TheVariants.{Null, Long}
 use Rattle.kq_value.proofs.SameLemmas.{Same-from_permutation}
 use Rattle.kq_extent.specs.Seen.{ExtentView, HeldExtents, held_extents}
 use Rattle.kq_model.specs.Records.{ExtentItem, is_small_item}
-use Rattle.kq_catalog.specs.Held.{AreItems, item_by}
+use Rattle.kq_catalog.specs.Held.{AreItems, extent_item}
 use Rattle.kq_show.specs.Cells.{number_cell, number_or_null}
 use Rattle.kq_show.specs.ExtentRows.{cursors, extent_columns, extent_row, greatest, held_row, least, strings}
 
@@ -39,23 +39,23 @@ extent_row-typed e =
     (number_cell-typed e.id, (number_cell-typed (length e.records), (number_or_null-typed (least (cursors e)), (number_or_null-typed (greatest (cursors e)), ((refl, tt), tt)))))
 
 pub held_rows-typed : (es : List ExtentView) → All (HasTypes extent_columns) (map held_row es)
-held_rows-typed es = All-map (HasTypes extent_columns) held_row es (λ k d lt. extent_row-typed (item_by (get_or es k d)))
+held_rows-typed es = All-map (HasTypes extent_columns) held_row es (λ k d lt. extent_row-typed (extent_item (get_or es k d)))
 
 -- ---- the extents of a history are those that are held, in some order
 
-as_items : (es : List ExtentView) → map held_row es ≡ map extent_row (map item_by es)
+as_items : (es : List ExtentView) → map held_row es ≡ map extent_row (map extent_item es)
 as_items [] = refl
 as_items (e ∷ es) = ap (λ rows. held_row e ∷ rows) (as_items es)
 
 pub rows-same : (items : List ExtentItem) (held : HeldExtents) → AreItems items held → Same (map held_row (held_extents held)) (map extent_row items)
 rows-same items held are =
     let big : ExtentItem → Bool = λ i. not (is_small_item i) in
-    let split : map item_by (held_extents held) ≡ filter is_small_item items ++ filter big items =
-    map-append item_by held.small held.big ∙ ap (λ l. l ++ map item_by held.big) are.small ∙ ap (λ l. filter is_small_item items ++ l) are.big in
-    let same : IsPermutation items (map item_by (held_extents held)) =
+    let split : map extent_item (held_extents held) ≡ filter is_small_item items ++ filter big items =
+    map-append extent_item held.small held.big ∙ ap (λ l. l ++ map extent_item held.big) are.small ∙ ap (λ l. filter is_small_item items ++ l) are.big in
+    let same : IsPermutation items (map extent_item (held_extents held)) =
     subst (λ l. IsPermutation items l) (sym split) (IsPermutation-filter_both is_small_item big (λ i. refl) items) in
-    rw (as_items (held_extents held)) (Same-from_permutation (map extent_row (map item_by (held_extents held))) (map extent_row items)
-    (IsPermutation-map extent_row (map item_by (held_extents held)) items (IsPermutation-sym items (map item_by (held_extents held)) same)))
+    rw (as_items (held_extents held)) (Same-from_permutation (map extent_row (map extent_item (held_extents held))) (map extent_row items)
+    (IsPermutation-map extent_row (map extent_item (held_extents held)) items (IsPermutation-sym items (map extent_item (held_extents held)) same)))
 
 -- ---- tags
 

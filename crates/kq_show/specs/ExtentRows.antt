@@ -10,7 +10,7 @@ use Rattle.kq_value.specs.Tree.{Trees, no_items, item, string}
 use Rattle.kq_extent.specs.Seen.{ExtentView}
 use Rattle.kq_model.specs.History.{History}
 use Rattle.kq_model.specs.Records.{ExtentItem, extents}
-use Rattle.kq_catalog.specs.Held.{item_by}
+use Rattle.kq_catalog.specs.Held.{extent_item}
 use Rattle.kq_show.specs.Cells.{column, number_cell, number_or_null}
 
 abbrev pub extent_columns : List Field
@@ -51,7 +51,7 @@ extent_row e =
     ∷ Dynamic (dyn.List (strings e.tags)) ∷ []
 
 abbrev pub held_row : ExtentView → List Value
-held_row e = extent_row (item_by e)
+held_row e = extent_row (extent_item e)
 
 -- a row for each extent of a table
 abbrev pub extent_rows : History → ℕ → List (List Value)

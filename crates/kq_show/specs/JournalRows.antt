@@ -52,7 +52,7 @@ cursor_of cursor (operation.Commit c) = cursor
 cursor_of cursor (operation.Fold view to) = to
 cursor_of cursor (operation.Merge table old new) = cursor
 
--- the event's place, its kind, its cursor, its mark, and its table or view
+-- the event's place, its kind, its cursor, its request id, and its table or view
 abbrev pub event_row : Log → ℕ → ℕ → Event → List Value
 event_row l place cursor e =
     number_cell place ∷ Text (kind_of e.operation) ∷ number_cell (cursor_of cursor e.operation) ∷ number_cell e.by.actor ∷ number_cell e.by.number

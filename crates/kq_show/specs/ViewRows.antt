@@ -7,7 +7,7 @@ use Rattle.kq_value.specs.declared.ty.Ty.TheVariants as ty
 use Rattle.kq_value.specs.declared.value.Value.{Value}
 use Rattle.kq_value.specs.declared.value.Value.TheVariants.{Text}
 use Rattle.kq_model.specs.declared.view.View.{View}
-use Rattle.kq_model.specs.History.{History, Viewed, log, mark, views}
+use Rattle.kq_model.specs.History.{History, Viewed, log, view_cursor, views}
 use Rattle.kq_show.specs.Cells.{column, number_cell}
 use Rattle.kq_show.specs.JournalRows.{name_of}
 
@@ -18,7 +18,7 @@ view_columns =
 
 -- its name, that of its table, its query, the cursor above which it covers records, and the one up to which it is materialized
 abbrev pub view_row : History → ℕ → View → List Value
-view_row h number v = Text v.name ∷ Text (name_of (log h) v.source) ∷ Text v.text ∷ number_cell v.base ∷ number_cell (mark h number) ∷ []
+view_row h number v = Text v.name ∷ Text (name_of (log h) v.source) ∷ Text v.text ∷ number_cell v.base ∷ number_cell (view_cursor h number) ∷ []
 
 -- a row for the view that there is
 abbrev pub rows_for : History → ℕ → Option View → List (List Value)

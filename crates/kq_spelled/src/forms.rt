@@ -44,14 +44,14 @@ fn trim_end(text: &str) -> &str
     &text[..end]
 }
 
-/// The text without white space at its ends.
+// The text without white space at its ends.
 pub(crate) fn trim(text: &str) -> &str
     ensures { result.now ≡ trimmed white text.now }
 {
     trim_end(trim_start(text))
 }
 
-/// What a text is as a type whose values take no memory.
+// What a text is as a type whose values take no memory.
 pub(crate) fn plain_form(ty: Ty, text: &str) -> Option<Value>
     ensures { result ≡ plain_form ty text.now }
 {
@@ -74,7 +74,7 @@ fn dynamic(alloc: Global, text: &str) -> Result<Value, Memory>
     }
 }
 
-/// What a text is as a type, where it has a form of it.
+// What a text is as a type, where it has a form of it.
 pub(crate) fn form(alloc: Global, ty: Ty, text: &str) -> Result<Option<Value>, Memory>
     ensures { IfOk result (λ v. v ≡ form_of ty text.now) }
 {
@@ -85,7 +85,7 @@ pub(crate) fn form(alloc: Global, ty: Ty, text: &str) -> Result<Option<Value>, M
     }
 }
 
-/// Whether a text has a form of a type, as every text has of string and dynamic.
+// Whether a text has a form of a type, as every text has of string and dynamic.
 pub(crate) fn has_form(ty: Ty, text: &str) -> bool
     ensures { result ≡ is_some (form_of ty text.now) }
 {

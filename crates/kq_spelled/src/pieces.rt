@@ -13,7 +13,7 @@ pub fn piece<'a>(text: &'a str, symbol: Symbol) -> &'a str
     cut(text, symbol.from, symbol.to)
 }
 
-/// What stands between two places; nothing where the text can't be cut there.
+// What stands between two places; nothing where the text can't be cut there.
 pub(crate) fn cut(text: &str, from: usize, to: usize) -> &str
     ensures { result.now ≡ the_cut text.now from to }
 {

@@ -92,30 +92,30 @@ module _ (by : Case) (s t : List ℕ) (i j n : ℕ) (within : i + j + n ≤ leng
   length-range = let rest = length-drop (i + j) s in length-take-le n (drop (i + j) s) (omega arith)
 
   -- whether the byte stands in them
-  abbrev Reads : ℕ → Type 0
-  Reads k = folded by (slice_index t j) ≡ seen by (take n (drop (i + j) s)) k
+  abbrev HasSame : ℕ → Type 0
+  HasSame k = folded by (slice_index t j) ≡ seen by (take n (drop (i + j) s)) k
 
-  read-from : (d : ℕ) → d < n → HasByte by s t j (i + d) → Reads d
+  read-from : (d : ℕ) → d < n → HasByte by s t j (i + d) → HasSame d
   read-from d h has =
       let place : i + d + j ≡ i + j + d = omega arith in
       sym (seen-folded by t j) ∙ has ∙ ap (seen by s) place ∙ sym (seen-range by s (i + j) n d h)
 
-  has-from : (d : ℕ) → d < n → Reads d → HasByte by s t j (i + d)
+  has-from : (d : ℕ) → d < n → HasSame d → HasByte by s t j (i + d)
   has-from d h reads =
       let place : i + j + d ≡ i + d + j = omega arith in
       seen-folded by t j ∙ reads ∙ seen-range by s (i + j) n d h ∙ ap (seen by s) place
 
-  unread : (d : ℕ) → Nowhere Reads 0 d → d ≤ n → Nowhere (HasByte by s t j) i (i + d)
+  unread : (d : ℕ) → Nowhere HasSame 0 d → d ≤ n → Nowhere (HasByte by s t j) i (i + d)
   unread d nowhere fits k low high has =
       let place : i + (k - i) ≡ k = omega arith in
       nowhere (k - i) (omega arith) (omega arith) (read-from (k - i) (omega arith) (subst (HasByte by s t j) (sym place) has))
 
-  pub candidates-none : (end : ℕ) → i + n ≡ end → Nowhere Reads 0 (length (take n (drop (i + j) s))) → Nowhere (HasByte by s t j) i end
+  pub candidates-none : (end : ℕ) → i + n ≡ end → Nowhere HasSame 0 (length (take n (drop (i + j) s))) → Nowhere (HasByte by s t j) i end
   candidates-none end is nowhere =
       let all = length-range in
       subst (Nowhere (HasByte by s t j) i) is (unread n (λ k low high. nowhere k low (omega arith)) (omega arith))
 
-  pub candidate-some : (end d : ℕ) → i + n ≡ end → NoneBefore Reads 0 (length (take n (drop (i + j) s))) d → Reads d
+  pub candidate-some : (end d : ℕ) → i + n ≡ end → NoneBefore HasSame 0 (length (take n (drop (i + j) s))) d → HasSame d
       → NoneBefore (HasByte by s t j) i end (i + d) × HasByte by s t j (i + d)
   candidate-some end d is first here =
       let all = length-range in

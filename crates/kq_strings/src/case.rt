@@ -5,14 +5,14 @@ ghost use Rattle.kq_strings.specs.Case.{seen, folded};
 
 use memchr::{memchr, memchr2};
 
-/// Whether upper and lower case of ASCII letters are told apart.
+// Whether upper and lower case of ASCII letters are told apart.
 #[derive(Clone, Copy)]
 pub(crate) enum Case {
     Exact,
     Ignored,
 }
 
-/// The byte at a place of `text`, and for all that are taken for the same one of them.
+// The byte at a place of `text`, and for all that are taken for the same one of them.
 #[inline]
 pub(crate) fn seen_at(by: Case, text: &[u8], place: usize) -> u8
     requires { place < length text.now }
@@ -24,7 +24,7 @@ pub(crate) fn seen_at(by: Case, text: &[u8], place: usize) -> u8
     }
 }
 
-/// The first place of `text` whose byte is taken for the same as `byte`.
+// The first place of `text` whose byte is taken for the same as `byte`.
 #[inline]
 pub(crate) fn find_byte(by: Case, byte: u8, text: &[u8]) -> Option<usize>
     ensures { IsFirst (λ k. folded by byte ≡ seen by text.now k) 0 (length text.now) result }

@@ -5,7 +5,7 @@ ghost use Rattle.kq_strings.specs.Case.{in_case, seen, StandsBetween};
 
 use crate::case::{Case, seen_at};
 
-/// Whether `part` stands in `text` from the place `at` on.
+// Whether `part` stands in `text` from the place `at` on.
 pub(crate) fn stands_at(by: Case, text: &[u8], part: &[u8], at: usize) -> bool
     requires { at ≤ length text.now }
     ensures { result ≡ occurs_at (in_case by text.now) (in_case by part.now) at }
@@ -17,8 +17,8 @@ pub(crate) fn stands_at(by: Case, text: &[u8], part: &[u8], at: usize) -> bool
     }
 }
 
-/// The first of the places of `part` from `start` up to `end` at which it differs from what stands in `text` from the
-/// place `at` on; `end` where there is none.
+// The first of the places of `part` from `start` up to `end` at which it differs from what stands in `text` from the
+// place `at` on; `end` where there is none.
 #[inline]
 pub(crate) fn first_difference(
     by: Case,

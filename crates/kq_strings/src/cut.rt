@@ -8,8 +8,8 @@ use crate::case::Case;
 use crate::compare::first_difference;
 use crate::suffix::{Order, Suffix, greatest_suffix};
 
-/// A part in two. What is after the cut is compared first: where it differs, the search goes on behind the difference, and
-/// where it doesn't, by `shift` places, at which the first `known` bytes of the part are known to stand.
+// A part in two. What is after the cut is compared first: where it differs, the search goes on behind the difference, and
+// where it doesn't, by `shift` places, at which the first `known` bytes of the part are known to stand.
 #[derive(Clone, Copy)]
 pub(crate) struct Cut {
     pub(crate) critical: usize,
@@ -18,7 +18,7 @@ pub(crate) struct Cut {
 }
 
 impl Cut {
-    /// The cut before the later of the greatest suffixes by the two orders.
+    // The cut before the later of the greatest suffixes by the two orders.
     pub(crate) fn of(by: Case, part: &[u8]) -> Cut
         requires { 0 < length part.now }
         ensures { IsCutOf (seen by part.now) (length part.now) result }

@@ -10,14 +10,14 @@ use crate::cut::Cut;
 use crate::terms::is_term;
 use memchr::arch::all::packedpair::{DefaultFrequencyRank, HeuristicFrequencyRank};
 
-/// Which occurrences count.
+// Which occurrences count.
 #[derive(Clone, Copy)]
 pub(crate) enum Occurrence {
     Any,
     Term,
 }
 
-/// Whether an occurrence of `part` at `at` counts.
+// Whether an occurrence of `part` at `at` counts.
 fn counts(occurrence: Occurrence, text: &[u8], part: &[u8], at: usize) -> bool
     requires fits { at + length part.now ≤ length text.now }
     requires some { 0 < length part.now }
@@ -29,7 +29,7 @@ fn counts(occurrence: Occurrence, text: &[u8], part: &[u8], at: usize) -> bool
     }
 }
 
-/// The place of the byte of `part` that is rarest in most texts.
+// The place of the byte of `part` that is rarest in most texts.
 fn rarest_offset(by: Case, part: &[u8]) -> usize
     requires { 0 < length part.now }
     ensures { result < length part.now }
@@ -44,7 +44,7 @@ fn rarest_offset(by: Case, part: &[u8]) -> usize
     rarest
 }
 
-/// The first of the places from `at` on at which `part` fits and its byte at `offset` stands.
+// The first of the places from `at` on at which `part` fits and its byte at `offset` stands.
 fn next_candidate(by: Case, text: &[u8], part: &[u8], at: usize, offset: usize) -> Option<usize>
     requires fits { at + length part.now ≤ length text.now }
     requires inside { offset < length part.now }
@@ -55,8 +55,8 @@ fn next_candidate(by: Case, text: &[u8], part: &[u8], at: usize, offset: usize) 
     Some(at + distance)
 }
 
-/// Whether an occurrence of `part` that counts stands in `text`. Takes no memory, and time in the sum of the lengths,
-/// whatever they hold: places at which a rare byte stands are tried until as many bytes are compared as the text has.
+// Whether an occurrence of `part` that counts stands in `text`. Takes no memory, and time in the sum of the lengths,
+// whatever they hold: places at which a rare byte stands are tried until as many bytes are compared as the text has.
 pub(crate) fn is_found(occurrence: Occurrence, by: Case, text: &[u8], part: &[u8]) -> bool
     requires { 0 < length part.now }
     ensures { result ≡ found occurrence (in_case by text.now) (in_case by part.now) }
@@ -80,8 +80,8 @@ pub(crate) fn is_found(occurrence: Occurrence, by: Case, text: &[u8], part: &[u8
     false
 }
 
-/// The same where none below `start` counts, by the method of Crochemore and Perrin, which compares each byte of the text a
-/// few times at most. Occurrences may overlap, so what is known of the next one is kept.
+// The same where none below `start` counts, by the method of Crochemore and Perrin, which compares each byte of the text a
+// few times at most. Occurrences may overlap, so what is known of the next one is kept.
 fn is_found_from(occurrence: Occurrence, by: Case, text: &[u8], part: &[u8], start: usize) -> bool
     requires some { 0 < length part.now }
     requires within { start ≤ length text.now }

@@ -8,7 +8,7 @@ ghost use Rattle.kq_written.specs.Strings.{split, replace_string};
 use kq_value::{Dyn, DynList, Memory, Text};
 use std::alloc::Global;
 
-/// What stands before the first occurrence of `part` and what after it, or none where there is none or `part` is empty.
+// What stands before the first occurrence of `part` and what after it, or none where there is none or `part` is empty.
 fn cut<'a>(text: &'a str, part: &str) -> Option<(&'a str, &'a str)>
     ensures pieces { MatchOption result (split text.now part.now ≡ text.now ∷ [])
         (λ x. split text.now part.now ≡ x.0.now ∷ split x.1.now part.now) }

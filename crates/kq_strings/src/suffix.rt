@@ -8,7 +8,7 @@ ghost use Rattle.kq_strings.specs.Suffixes.{Precedes};
 use crate::case::{Case, seen_at};
 use std::cmp::Ordering;
 
-/// An order of bytes.
+// An order of bytes.
 #[derive(Clone, Copy)]
 pub(crate) enum Order {
     Rising,
@@ -26,14 +26,14 @@ impl Order {
     }
 }
 
-/// Where a suffix begins, and its least period.
+// Where a suffix begins, and its least period.
 #[derive(Clone, Copy)]
 pub(crate) struct Suffix {
     pub(crate) start: usize,
     pub(crate) period: usize,
 }
 
-/// The greatest suffix of `text`. Takes time in its length: a candidate is dropped with all that it repeated.
+// The greatest suffix of `text`. Takes time in its length: a candidate is dropped with all that it repeated.
 pub(crate) fn greatest_suffix(order: Order, by: Case, text: &[u8]) -> Suffix
     requires { 0 < length text.now }
     ensures { IsSuffixAt (Precedes order) (seen by text.now) (length text.now) result.start result.period }

@@ -2,7 +2,7 @@
 ghost use Rattle.std.specs.Prelude.{◌≡◌, ◌+◌, ◌≤◌, ◌<◌, length};
 ghost use Rattle.kq_written.specs.Strings.{are_joined as joined, is_term_at};
 
-/// Whether what stands at `at` doesn't go on before it, nor after it.
+// Whether what stands at `at` doesn't go on before it, nor after it.
 pub(crate) fn is_term(text: &[u8], part: &[u8], at: usize) -> bool
     requires fits { at + length part.now ≤ length text.now }
     requires some { 0 < length part.now }

@@ -2,7 +2,7 @@
 use Rattle.std.proofs.Common.{◌≡◌, ℕ, ◌≤◌, Bool, true, false, nat_lt, if◌then◌else◌, List, [], ◌∷◌, ◌++◌, ◌⊎◌, inl, inr, length, Ok, Err, refl, sym, ◌∙◌, ap, subst, append_assoc, append-nil, length-append, arith}
 use Rattle.std.proofs.lemmas.Bool.Decides.{nat_tests}
 use Rattle.kq_syntax.specs.Choices.{Right, scalar, table, either, Chosen, combine}
-use Rattle.kq_syntax.specs.Forms.{Stops, Alike, Reads, Stuck, Outcome, Parser, Meets}
+use Rattle.kq_syntax.specs.Forms.{Stops, Alike, Parses, Stuck, Outcome, Parser, Meets}
 use Rattle.kq_syntax.proofs.Laws.{Exact, nothing, stops_nothing, alike_front}
 
 -- ---- lists
@@ -40,7 +40,7 @@ longer (x ∷ f) (y ∷ g) r s e le =
 -- ---- the choice
 
 module _ {T X Y : Type 0} (f : X → List T → Type 0) (g : Y → List T → Type 0) (ends : (x : X) (y : Y) (u v z w : List T) → f x u → g y v → u ++ z ≡ v ++ w → u ≡ v) (decides_f : (u : List T) → ((x : X) × f x u) ⊎ ((x : X) → f x u → ⊥)) (decides_g : (u : List T) → ((y : Y) × g y u) ⊎ ((y : Y) → g y u → ⊥)) (more : T → Bool) where
-  both_read : (ts : List T) (x : X) (y : Y) (r s : List T) → Reads f nothing ts x r → Reads g nothing ts y s → Reads (Chosen f g) more ts (either x y) r
+  both_read : (ts : List T) (x : X) (y : Y) (r s : List T) → Parses f nothing ts x r → Parses g nothing ts y s → Parses (Chosen f g) more ts (either x y) r
   both_read ts x y r s a b =
       let front : a.front ≡ b.front = ends x y a.front b.front r s a.spelled b.spelled (sym a.split ∙ b.split) in
       let rest : r ≡ s = cancel_front a.front r s (sym a.split ∙ b.split ∙ ap (λ l. l ++ s) (sym front)) in
@@ -64,7 +64,7 @@ module _ {T X Y : Type 0} (f : X → List T → Type 0) (g : Y → List T → Ty
             let same : u ≡ a.front = cancel_back u a.front z ahead e (same_length u a.front z ahead e q.1) in
             absurd (c.1 x (subst (f x) (sym same) a.spelled))
 
-  scalar_read : (ts : List T) (x : X) (r s : List T) → Reads f nothing ts x r → Stuck g nothing ts s → Reads (Chosen f g) more ts (scalar x) r
+  scalar_read : (ts : List T) (x : X) (r s : List T) → Parses f nothing ts x r → Stuck g nothing ts s → Parses (Chosen f g) more ts (scalar x) r
   scalar_read ts x r s a b = record {
     front = a.front;
     split = a.split;
@@ -97,7 +97,7 @@ module _ {T X Y : Type 0} (f : X → List T → Type 0) (g : Y → List T → Ty
         completed_by m (inl h) = record { front = a.front; split = a.split; value = either a.value h.0; missing = a.missing; completed = (a.completed, h.1); never = never_at m }
         completed_by m (inr h) = record { front = a.front; split = a.split; value = scalar a.value; missing = a.missing; completed = (a.completed, h); never = never_at m }
 
-  table_read : (ts : List T) (y : Y) (r s : List T) → Stuck f nothing ts r → Reads g nothing ts y s → Reads (Chosen f g) more ts (table y) s
+  table_read : (ts : List T) (y : Y) (r s : List T) → Stuck f nothing ts r → Parses g nothing ts y s → Parses (Chosen f g) more ts (table y) s
   table_read ts y r s a b = record {
     front = b.front;
     split = b.split;

@@ -1,6 +1,6 @@
 -- What the readers of forms do, form by form.
 use Rattle.std.proofs.Common.{◌≡◌, ℕ, zero, suc, ◌≤◌, ◌+◌, ◌-◌, Bool, true, false, if◌then◌else◌, List, [], ◌∷◌, ◌++◌, ◌⊎◌, inl, inr, length, Ok, Err, Option, Some, None, refl, sym, ◌∙◌, ap, subst, append_assoc, length-append, arith}
-use Rattle.kq_syntax.specs.Forms.{Stops, Alike, Reads, Stuck, Outcome, Parser, Meets, one, some, ◌⨾◌, Bind, Then, Image, Many, Maybe, and_then, pure, starts, expect, bind, both, ◌<$>◌, choose, maybe, many, ◌>>=◌, skip, closed, separated, Separated}
+use Rattle.kq_syntax.specs.Forms.{Stops, Alike, Parses, Stuck, Outcome, Parser, Meets, one, some, ◌⨾◌, Bind, Then, Image, Many, Maybe, and_then, pure, starts, expect, bind, both, ◌<$>◌, choose, maybe, many, ◌>>=◌, skip, closed, separated, Separated}
 
 pub alike_front : {T : Type 0} (f r s : List T) → Alike r s → Alike (f ++ r) (f ++ s)
 alike_front [] r s h = h
@@ -21,7 +21,7 @@ abbrev pub Follows : {T B : Type 0} → (T → Bool) → (B → List T → Type 
 Follows {T = T} {B = B} m₁ second m₂ = (y : B) (v z : List T) → second y v → Stops m₂ z → Stops m₁ (v ++ z)
 
 module _ {T A B : Type 0} (first : A → List T → Type 0) (second : A → B → List T → Type 0) (m₁ m₂ : T → Bool) (follows : (x : A) → Follows m₁ (second x) m₂) where
-  bind_read : (ts : List T) (x : A) (mid : List T) (y : B) (rest : List T) → Reads first m₁ ts x mid → Reads (second x) m₂ mid y rest → Reads (Bind first second) m₂ ts (x, y) rest
+  bind_read : (ts : List T) (x : A) (mid : List T) (y : B) (rest : List T) → Parses first m₁ ts x mid → Parses (second x) m₂ mid y rest → Parses (Bind first second) m₂ ts (x, y) rest
   bind_read ts x mid y rest a b = record {
     front = a.front ++ b.front;
     split = a.split ∙ ap (λ l. a.front ++ l) b.split ∙ sym (append_assoc a.front b.front rest);
@@ -34,7 +34,7 @@ module _ {T A B : Type 0} (first : A → List T → Type 0) (second : A → B �
         ((λ i. (one_first.0 i, one_second.0 i)), one_second.1);
   }
 
-  bind_stuck_second : (ts : List T) (x : A) (mid rest : List T) → Reads first m₁ ts x mid → Stuck (second x) m₂ mid rest → Stuck (Bind first second) m₂ ts rest
+  bind_stuck_second : (ts : List T) (x : A) (mid rest : List T) → Parses first m₁ ts x mid → Stuck (second x) m₂ mid rest → Stuck (Bind first second) m₂ ts rest
   bind_stuck_second ts x mid rest a b = record {
     front = a.front ++ b.front;
     split = a.split ∙ ap (λ l. a.front ++ l) b.split ∙ sym (append_assoc a.front b.front rest);
@@ -60,7 +60,7 @@ module _ {T A B : Type 0} (first : A → List T → Type 0) (second : A → B �
         a.never p.0 s.left (s.right ++ z) ahead s.before (follows p.0 p.1 s.right z s.after stops) alike e';
   }
 
-  bind_second : (ts : List T) (x : A) (mid : List T) → Reads first m₁ ts x mid → (out : Outcome T B) → Meets (second x) m₂ mid out → Meets (Bind first second) m₂ ts (and_then out (λ y. pure (x, y)))
+  bind_second : (ts : List T) (x : A) (mid : List T) → Parses first m₁ ts x mid → (out : Outcome T B) → Meets (second x) m₂ mid out → Meets (Bind first second) m₂ ts (and_then out (λ y. pure (x, y)))
   bind_second ts x mid a (Ok p) b = bind_read ts x mid p.0 p.1 a b
   bind_second ts x mid a (Err rest) b = bind_stuck_second ts x mid rest a b
 
@@ -335,7 +335,7 @@ module _ {T A : Type 0} (form : A → List T → Type 0) (is m more : T → Bool
       let no : false ≡ true = sym (ap (starts is) e) ∙ lead in
       cc
 
-  many_at_end : (ts : List T) → length ts ≤ 0 → Reads (Many form) more ts [] ts
+  many_at_end : (ts : List T) → length ts ≤ 0 → Parses (Many form) more ts [] ts
   many_at_end [] l = record { front = []; split = refl; spelled = refl; only = λ y u z ahead s stops alike e. many_end y u z ahead s alike e }
   many_at_end (t ∷ ts) l = absurd (omega arith)
 

@@ -2,6 +2,6 @@ pub mod ClassLemmas
 pub mod Either
 pub mod Laws
 pub mod OtherwiseLaws
-pub mod SpanLaws
+pub mod LocatedLaws
 pub mod SwitchLaws
 pub mod Turns

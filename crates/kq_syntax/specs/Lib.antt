@@ -1,7 +1,7 @@
 pub mod Choices
 pub mod Classes
 pub mod Forms
-pub mod Gives
-pub mod Spans
+pub mod Outcomes
+pub mod Located
 pub mod Switching
 pub mod Words

@@ -2,7 +2,7 @@
 ghost use Rattle.std.specs.Prelude.{◌≡◌, length, true};
 ghost use Rattle.kq_syntax.specs.Forms.{starts, expect};
 ghost use Rattle.kq_syntax.specs.Classes.{class_of, of};
-ghost use Rattle.kq_syntax.specs.Gives.{Gives, kind_ahead};
+ghost use Rattle.kq_syntax.specs.Outcomes.{IsOutcome, kind_ahead};
 
 use crate::class::Class;
 use crate::kind::{Kind, Symbol};
@@ -105,7 +105,7 @@ impl<'a> Cursor<'a> {
 
     /// Takes the next symbol, where it is of the class.
     pub fn expect(&mut self, class: Class) -> Result<Symbol, Stop>
-        ensures { Gives (λ t. t) (expect (of (class_of class)) self.old) result self.new }
+        ensures { IsOutcome (λ t. t) (expect (of (class_of class)) self.old) result self.new }
     {
         match self.rest {
             [symbol, rest @ ..] if class.contains(symbol.kind) => {
@@ -118,7 +118,7 @@ impl<'a> Cursor<'a> {
 
     /// Takes the next symbol, whatever it is.
     pub fn take(&mut self) -> Result<Symbol, Stop>
-        ensures { Gives (λ t. t) (expect (λ _. true) self.old) result self.new }
+        ensures { IsOutcome (λ t. t) (expect (λ _. true) self.old) result self.new }
     {
         match self.rest {
             [symbol, rest @ ..] => {

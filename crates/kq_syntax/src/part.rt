@@ -3,7 +3,7 @@ ghost use Rattle.std.specs.Prelude.{◌≡◌, List, Result, map};
 ghost use Rattle.kq_syntax.specs.declared.kind.Symbol.{Symbol};
 ghost use Rattle.kq_syntax.specs.Classes.{class_of, of};
 ghost use Rattle.kq_syntax.specs.Forms.{skip, many, with_front};
-ghost use Rattle.kq_syntax.specs.Gives.{Gives};
+ghost use Rattle.kq_syntax.specs.Outcomes.{IsOutcome};
 
 use crate::class::Class;
 use crate::cursor::{Cursor, Stop};
@@ -23,7 +23,7 @@ pub trait Part {
 
     fn read(&self, cursor: &mut Cursor<'_>) -> Result<Self::Value, Stop>
         requires { callable self.now }
-        ensures { Gives view (reader self.now cursor.old) result cursor.new };
+        ensures { IsOutcome view (reader self.now cursor.old) result cursor.new };
 }
 
 /// The parts that follow, each of which starts with a symbol of the class, behind those that were found before. `turns` is
@@ -36,7 +36,7 @@ pub fn more<P: Part>(
     mut found: Vec<P::Value>,
 ) -> Result<Vec<P::Value>, Stop>
     requires { P.callable part.now }
-    ensures { Gives (λ v. map P.view v.items) (with_front (map P.view found.items) (many (of (class_of class)) (P.reader part.now) turns cursor.old)) result cursor.new }
+    ensures { IsOutcome (λ v. map P.view v.items) (with_front (map P.view found.items) (many (of (class_of class)) (P.reader part.now) turns cursor.old)) result cursor.new }
 {
     for _turn in 0..turns {
         if !cursor.sees(class) {

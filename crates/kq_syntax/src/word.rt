@@ -315,7 +315,7 @@ fn control_word_spelling(word: ControlWord) -> &'static str
     }
 }
 
-/// Nothing for a word that isn't one of the language.
+// Nothing for a word that isn't one of the language.
 fn spelling(word: Word) -> &'static str
     ensures { result.now ≡ spelled word }
 {

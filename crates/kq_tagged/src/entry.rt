@@ -7,7 +7,7 @@ ghost use Rattle.kq_tagged.specs.Trees.{goes_right, is_right};
 use kq_value::{Memory, Text};
 use std::alloc::Global;
 
-/// A tag of a table, and its cursor.
+// A tag of a table, and its cursor.
 #[derive(Drop)]
 pub(crate) struct Entry {
     pub table: u32,
@@ -16,7 +16,7 @@ pub(crate) struct Entry {
 }
 
 impl Entry {
-    /// The same entry, whose text is shared.
+    // The same entry, whose text is shared.
     pub(crate) fn clone_in(&self) -> Result<Entry, Memory>
         ensures { IfOk result (λ e. e ≡ self.now) }
     {
@@ -29,7 +29,7 @@ impl Entry {
     }
 }
 
-/// FNV-1a over the table's number and the tag's bytes, the upper half put into the lower.
+// FNV-1a over the table's number and the tag's bytes, the upper half put into the lower.
 pub(crate) fn key_hash(table: u32, tag: &Text) -> u64
     ensures { result ≡ key_hash table tag.now }
 {
@@ -40,7 +40,7 @@ pub(crate) fn key_hash(table: u32, tag: &Text) -> u64
     state ^ state >> 32
 }
 
-/// Whether a hash goes to the right at a level.
+// Whether a hash goes to the right at a level.
 pub(crate) fn goes_right(hash: u64, level: u32) -> bool
     requires { level < 64 }
     ensures { result ≡ goes_right level hash }
@@ -48,7 +48,7 @@ pub(crate) fn goes_right(hash: u64, level: u32) -> bool
     (hash >> level) % 2 == 1
 }
 
-/// The cursor of a tag of a table among some entries: that of the first.
+// The cursor of a tag of a table among some entries: that of the first.
 pub(crate) fn find_among(entries: &[Entry], table: u32, tag: &Text) -> Option<u64>
     ensures { result ≡ cursor_at entries.now table tag.now }
 {
@@ -60,7 +60,7 @@ pub(crate) fn find_among(entries: &[Entry], table: u32, tag: &Text) -> Option<u6
     None
 }
 
-/// The entries and one more, which comes last.
+// The entries and one more, which comes last.
 pub(crate) fn with_last(alloc: Global, entries: &[Entry], last: Entry) -> Result<Vec<Entry>, Memory>
     ensures { IfOk result (λ v. v.items ≡ entries.now ++ last ∷ []) }
 {
@@ -72,7 +72,7 @@ pub(crate) fn with_last(alloc: Global, entries: &[Entry], last: Entry) -> Result
     Ok(all)
 }
 
-/// The entries that go to the left at a level, and those that go to the right.
+// The entries that go to the left at a level, and those that go to the right.
 pub(crate) fn parted(
     alloc: Global,
     level: u32,

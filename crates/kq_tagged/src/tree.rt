@@ -9,13 +9,13 @@ use kq_value::{Memory, Text};
 use std::alloc::Global;
 use std::sync::Arc;
 
-/// How many entries a leaf has before it is cut in two.
+// How many entries a leaf has before it is cut in two.
 const FEW: usize = 8;
 
-/// How many bits a hash has, and so the greatest number of forks above a leaf.
+// How many bits a hash has, and so the greatest number of forks above a leaf.
 const LEVELS: u32 = 64;
 
-/// Some entries, or those whose hashes go to the left and those whose go to the right, by the bit of the level.
+// Some entries, or those whose hashes go to the left and those whose go to the right, by the bit of the level.
 #[derive(Drop)]
 pub(crate) enum Tree {
     Leaf(Vec<Entry>),
@@ -23,7 +23,7 @@ pub(crate) enum Tree {
 }
 
 impl Tree {
-    /// The cursor of a tag of a table, whose hash is given.
+    // The cursor of a tag of a table, whose hash is given.
     pub(crate) fn find(&self, level: u32, hash: u64, table: u32, tag: &Text) -> Option<u64>
         requires placed { ArePlaced level self.now }
         requires hash { hash ≡ key_hash table tag.now }
@@ -41,7 +41,7 @@ impl Tree {
         }
     }
 
-    /// A tree with one entry more, whose hash is given. It shares all that it can.
+    // A tree with one entry more, whose hash is given. It shares all that it can.
     pub(crate) fn with(
         &self,
         alloc: Global,

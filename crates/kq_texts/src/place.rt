@@ -18,7 +18,7 @@ pub fn str_len(value: &Value) -> Value
     }
 }
 
-/// The number of characters.
+// The number of characters.
 #[tactic(auto, using(std::proofs::lemmas::Str::chars_from_encodes))]
 fn char_count(text: &str) -> usize
     ensures count { result ≡ strings.strlen text.now }
@@ -56,7 +56,7 @@ pub fn sub_text_to(
     Ok(Value::Text(Text::from_str(alloc, text)?))
 }
 
-/// The characters from a place on, which counts from the end where it is negative.
+// The characters from a place on, which counts from the end where it is negative.
 fn rest_from(text: &str, from: i64) -> &str
     ensures { result.now ≡ strings.substring_from text.now from }
 {
@@ -69,7 +69,7 @@ fn rest_from(text: &str, from: i64) -> &str
     }
 }
 
-/// As many characters from a place on, or all where the number is negative.
+// As many characters from a place on, or all where the number is negative.
 fn part_from(text: &str, from: i64, count: i64) -> &str
     ensures { result.now ≡ strings.substring text.now from count }
 {
@@ -81,7 +81,7 @@ fn part_from(text: &str, from: i64, count: i64) -> &str
     }
 }
 
-/// The text without its first characters.
+// The text without its first characters.
 fn behind(text: &str, count: u64) -> &str
     ensures { result.now ≡ encode_utf8_all (drop count (chars text.now)) }
 {
@@ -94,7 +94,7 @@ fn behind(text: &str, count: u64) -> &str
     rest.as_str()
 }
 
-/// The first characters of a text.
+// The first characters of a text.
 fn front(text: &str, count: u64) -> &str
     ensures { result.now ≡ encode_utf8_all (take count (chars text.now)) }
 {
@@ -112,7 +112,7 @@ pub fn index_in(value: &Value, part: &Value) -> Value
     Value::Long(index_of(text.as_str(), part.as_str()))
 }
 
-/// The place of the first occurrence in characters, else -1.
+// The place of the first occurrence in characters, else -1.
 fn index_of(text: &str, part: &str) -> i64
     ensures { result ≡ strings.indexof text.now part.now }
 {

@@ -11,12 +11,12 @@ use crate::digits;
 use jiff_core::civil::Date;
 use kq_value::is_moment;
 
-/// The days of `jiff`, which count from -9999-01-01, before 0000-01-01.
+// The days of `jiff`, which count from -9999-01-01, before 0000-01-01.
 const DAYS_BEFORE_YEAR_0: u32 = 3_652_059;
 
 const DAY: i64 = TICKS_PER_DAY as i64;
 
-/// The ticks from 0000-01-01 to 0001-01-01.
+// The ticks from 0000-01-01 to 0001-01-01.
 const FIRST_DAY: i64 = 366 * DAY;
 
 /// The ticks of a datetime's text.
@@ -30,7 +30,7 @@ pub fn read_datetime(text: &str) -> Option<i64>
     moment(ticks_from(days, ticks))
 }
 
-/// The ticks from 0001-01-01 of a day from 0000-01-01, and ticks more.
+// The ticks from 0001-01-01 of a day from 0000-01-01, and ticks more.
 fn ticks_from(days: u32, ticks: i64) -> i64
     requires days_in { days ≤ 3652424 }
     requires above { neg_ℤ (pos 864000000000) ≤ℤ ticks }
@@ -40,14 +40,14 @@ fn ticks_from(days: u32, ticks: i64) -> i64
     i64::from(days) * DAY - FIRST_DAY + ticks
 }
 
-/// The ticks, where a datetime has them.
+// The ticks, where a datetime has them.
 fn moment(ticks: i64) -> Option<i64>
     ensures { result ≡ (if is_moment_value ticks then Some ticks else None) }
 {
     if is_moment(ticks) { Some(ticks) } else { None }
 }
 
-/// `yyyy-MM-dd`, as its days from 0000-01-01.
+// `yyyy-MM-dd`, as its days from 0000-01-01.
 fn date_days(text: &[u8]) -> Option<u32>
     ensures value { result ≡ date_value text.now }
     ensures bound { IfSome result (λ days. days ≤ 3652424) }
@@ -64,7 +64,7 @@ fn date_days(text: &[u8]) -> Option<u32>
     }
 }
 
-/// What follows a date: nothing, or `T` or a space, a time and a zone.
+// What follows a date: nothing, or `T` or a space, a time and a zone.
 fn after_date(text: &[u8]) -> Option<i64>
     ensures value { result ≡ after_value text.now }
     ensures above { IfSome result (λ z. neg_ℤ (pos 864000000000) ≤ℤ z) }
@@ -88,7 +88,7 @@ fn is_separator(byte: u8) -> bool
     byte == b'T' || byte == b' '
 }
 
-/// How many bytes the time has that the text begins with.
+// How many bytes the time has that the text begins with.
 fn time_len(text: &[u8]) -> usize
     ensures { result ≡ prefix_len is_of_time text.now }
 {
@@ -102,7 +102,7 @@ fn is_time_byte(byte: u8) -> bool
     byte.is_ascii_digit() || byte == b':' || byte == b'.'
 }
 
-/// `HH:mm`, `HH:mm:ss`, or that with a fraction.
+// `HH:mm`, `HH:mm:ss`, or that with a fraction.
 fn time_ticks(text: &[u8]) -> Option<u64>
     ensures value { result ≡ time_value text.now }
     ensures bound { IfSome result (λ ticks. ticks < 864000000000) }
@@ -121,7 +121,7 @@ fn time_ticks(text: &[u8]) -> Option<u64>
     Some(clock_ticks(hours, minutes, seconds)? + fraction)
 }
 
-/// The ticks of a time of day, if there is one.
+// The ticks of a time of day, if there is one.
 fn clock_ticks(hours: u64, minutes: u64, seconds: u64) -> Option<u64>
     ensures value { result ≡ (if is_clock hours minutes seconds then Some (clock_value hours minutes seconds) else None) }
     ensures bound { IfSome result (λ ticks. ticks + 10000000 ≤ 864000000000) }
@@ -133,7 +133,7 @@ fn clock_ticks(hours: u64, minutes: u64, seconds: u64) -> Option<u64>
     }
 }
 
-/// A point and one to nine decimals, or nothing.
+// A point and one to nine decimals, or nothing.
 fn fraction_ticks(text: &[u8]) -> Option<u64>
     ensures value { result ≡ (if is_fraction text.now then Some (fraction_value (drop 1 text.now)) else None) }
     ensures bound { IfSome result (λ ticks. ticks < 10000000) }
@@ -148,7 +148,7 @@ fn fraction_ticks(text: &[u8]) -> Option<u64>
     }
 }
 
-/// Nothing, `Z`, `+HH:mm` or `-HH:mm`, as the ticks that it is ahead.
+// Nothing, `Z`, `+HH:mm` or `-HH:mm`, as the ticks that it is ahead.
 fn zone_ticks(text: &[u8]) -> Option<i64>
     ensures value { result ≡ zone_value text.now }
     ensures above { IfSome result (λ z. neg_ℤ (pos 864000000000) ≤ℤ z) }
@@ -165,7 +165,7 @@ fn zone_ticks(text: &[u8]) -> Option<i64>
     Some(if ahead { ticks } else { -ticks })
 }
 
-/// Whether the text has a digit where the form has a zero, and else the form's own byte.
+// Whether the text has a digit where the form has a zero, and else the form's own byte.
 #[tactic(auto, using(crate::proofs::DatetimeLemmas::fits_lemmas))]
 fn fits(form: &[u8], text: &[u8]) -> bool
     ensures { result ≡ is_of_form form.now text.now }
@@ -191,7 +191,7 @@ fn fits_byte(form: u8, byte: u8) -> bool
     }
 }
 
-/// The number of up to four digits at a place.
+// The number of up to four digits at a place.
 #[tactic(auto, using(crate::proofs::DatetimeLemmas::number_lemmas))]
 fn number_at(text: &[u8], from: usize, count: usize) -> u64
     requires inside { from + count ≤ length text.now }

@@ -15,10 +15,10 @@ pub(crate) const TICKS_PER_HOUR: u64 = 36_000_000_000;
 
 pub(crate) const TICKS_PER_DAY: u64 = 864_000_000_000;
 
-/// The days of `jiff`, which count from -9999-01-01, before 0001-01-01.
+// The days of `jiff`, which count from -9999-01-01, before 0001-01-01.
 const DAYS_BEFORE: u32 = 3_652_425;
 
-/// The days from 0001-01-01 to the day of a datetime.
+// The days from 0001-01-01 to the day of a datetime.
 pub(crate) fn day_of(ticks: i64) -> u32
     requires { IsTrue (is_moment ticks) }
     ensures value { result ≡ day_number ticks }
@@ -27,7 +27,7 @@ pub(crate) fn day_of(ticks: i64) -> u32
     (ticks.unsigned_abs() / TICKS_PER_DAY) as u32
 }
 
-/// The date of the day that many days after 0001-01-01.
+// The date of the day that many days after 0001-01-01.
 pub(crate) fn date_of(day: u32) -> Date
     requires { day ≤ 3652058 }
     ensures { HasDate result (date_of_day day) }

@@ -8,14 +8,14 @@ ghost use Rattle.kq_written.specs.Datetimes.{fraction_ticks};
 ghost use Rattle.kq_written.specs.Timespans.{pieces};
 ghost use Rattle.kq_time.specs.Parts.{capped, IsParts};
 
-/// Whether the text is one digit or more, and nothing else.
+// Whether the text is one digit or more, and nothing else.
 pub(crate) fn is_numeral(text: &[u8]) -> bool
     ensures { result ≡ passes text.now }
 {
     !text.is_empty() && text.iter().all(|byte| byte.is_ascii_digit())
 }
 
-/// The number that digits write. The greatest one stands for all that are greater.
+// The number that digits write. The greatest one stands for all that are greater.
 #[tactic(auto, using(crate::proofs::PartLemmas::digit_lemmas))]
 pub(crate) fn number(digits: &[u8]) -> u64
     requires { all_ascii_digits digits.now ≡ true }
@@ -30,7 +30,7 @@ pub(crate) fn number(digits: &[u8]) -> u64
     number
 }
 
-/// The number of a text of digits.
+// The number of a text of digits.
 pub(crate) fn numeral(text: &[u8]) -> Option<u64>
     ensures { result ≡ option_map capped (numeral_of text.now) }
 {
@@ -41,7 +41,7 @@ pub(crate) fn numeral(text: &[u8]) -> Option<u64>
     }
 }
 
-/// The ticks of a second's decimals, of which seven count.
+// The ticks of a second's decimals, of which seven count.
 #[tactic(auto, using(crate::proofs::PartLemmas::fraction_lemmas))]
 pub(crate) fn fraction(decimals: &[u8]) -> u64
     requires { all_ascii_digits decimals.now ≡ true }
@@ -55,7 +55,7 @@ pub(crate) fn fraction(decimals: &[u8]) -> u64
     ticks
 }
 
-/// The decimal at a place, 0 past the last.
+// The decimal at a place, 0 past the last.
 #[tactic(auto, using(crate::proofs::PartLemmas::decimal_lemmas))]
 fn decimal_at(decimals: &[u8], place: usize) -> u8
     requires digits { all_ascii_digits decimals.now ≡ true }
@@ -69,7 +69,7 @@ fn decimal_at(decimals: &[u8], place: usize) -> u8
     }
 }
 
-/// The parts of a text between separators.
+// The parts of a text between separators.
 #[derive(Clone, Copy, Debug)]
 pub(crate) enum Parts<'a> {
     One(&'a [u8]),
@@ -94,7 +94,7 @@ pub(crate) fn parts_of(text: &[u8], separator: u8) -> Parts<'_>
     }
 }
 
-/// What stands before the first separator, and what stands after it.
+// What stands before the first separator, and what stands after it.
 fn cut(text: &[u8], separator: u8) -> Option<(&[u8], &[u8])>
     ensures { MatchOption result (pieces separator text.now ≡ text.now ∷ [])
         (λ p. pieces separator text.now ≡ p.0.now ∷ pieces separator p.1.now) }

@@ -9,7 +9,7 @@ ghost use Rattle.kq_time.specs.Dates.{civil_of};
 use crate::day::{self, TICKS_PER_DAY, TICKS_PER_HOUR, TICKS_PER_MINUTE, TICKS_PER_SECOND};
 use jiff_core::civil::Date;
 
-/// Room for the longest printed form, that of a datetime.
+// Room for the longest printed form, that of a datetime.
 type Buffer = [u8; 28];
 
 /// Writes `yyyy-MM-ddTHH:mm:ss.fffffffZ`, which takes all of the room.
@@ -41,7 +41,7 @@ pub fn put_timespan(ticks: i64, out: &mut Buffer) -> usize
     put_fraction(magnitude % TICKS_PER_SECOND, out, at)
 }
 
-/// Puts `-` in front where the number is below 0.
+// Puts `-` in front where the number is below 0.
 fn put_sign(negative: bool, out: &mut Buffer) -> usize
     ensures within { result ≤ 1 }
     ensures text { take result out.new ≡ (if negative then codes "-" else []) }
@@ -52,7 +52,7 @@ fn put_sign(negative: bool, out: &mut Buffer) -> usize
     0
 }
 
-/// Puts the days and a point, or nothing for 0.
+// Puts the days and a point, or nothing for 0.
 #[tactic(auto, using(crate::proofs::PrintLemmas::decimal_steps))]
 fn put_days(days: u64, out: &mut Buffer, at: usize) -> usize
     requires room { at + 9 ≤ 28 }
@@ -67,7 +67,7 @@ fn put_days(days: u64, out: &mut Buffer, at: usize) -> usize
     put_byte(b'.', out, at)
 }
 
-/// Puts a point and seven digits, or nothing for 0.
+// Puts a point and seven digits, or nothing for 0.
 fn put_fraction(ticks: u64, out: &mut Buffer, at: usize) -> usize
     requires { at + 8 ≤ 28 }
     ensures within { result ≤ at + 8 }
@@ -80,7 +80,7 @@ fn put_fraction(ticks: u64, out: &mut Buffer, at: usize) -> usize
     put_padded(ticks, 7, out, at)
 }
 
-/// Puts `yyyy-MM-dd`.
+// Puts `yyyy-MM-dd`.
 fn put_date(date: Date, out: &mut Buffer, at: usize) -> usize
     requires { at + 10 ≤ 28 }
     ensures next { result ≡ at + 10 }
@@ -93,7 +93,7 @@ fn put_date(date: Date, out: &mut Buffer, at: usize) -> usize
     put_padded(u64::from(date.day), 2, out, at)
 }
 
-/// Puts `hh:mm:ss` of a time of day.
+// Puts `hh:mm:ss` of a time of day.
 fn put_clock(ticks: u64, out: &mut Buffer, at: usize) -> usize
     requires { at + 8 ≤ 28 }
     ensures next { result ≡ at + 8 }
@@ -106,7 +106,7 @@ fn put_clock(ticks: u64, out: &mut Buffer, at: usize) -> usize
     put_padded(ticks / TICKS_PER_SECOND % 60, 2, out, at)
 }
 
-/// Puts a byte at a place, and gives the place after it.
+// Puts a byte at a place, and gives the place after it.
 fn put_byte(byte: u8, out: &mut Buffer, at: usize) -> usize
     requires { at < 28 }
     ensures next { result ≡ at + 1 }
@@ -116,7 +116,7 @@ fn put_byte(byte: u8, out: &mut Buffer, at: usize) -> usize
     at + 1
 }
 
-/// Puts the last decimal digits of a number.
+// Puts the last decimal digits of a number.
 fn put_padded(n: u64, width: usize, out: &mut Buffer, at: usize) -> usize
     requires { at + width ≤ 28 }
     ensures next { result ≡ at + width }
@@ -129,7 +129,7 @@ fn put_padded(n: u64, width: usize, out: &mut Buffer, at: usize) -> usize
     put_byte(digit(n), out, at)
 }
 
-/// Puts a number in decimal.
+// Puts a number in decimal.
 #[tactic(auto, using(crate::proofs::PrintLemmas::decimal_steps))]
 fn put_decimal(n: u64, out: &mut Buffer, at: usize) -> usize
     requires { at + length (decimal n) ≤ 28 }

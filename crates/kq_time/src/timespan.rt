@@ -33,28 +33,28 @@ fn begins_with_minus(text: &[u8]) -> bool
     !text.is_empty() && text[0] == b'-'
 }
 
-/// The number, where it is a long.
+// The number, where it is a long.
 fn long(number: u64) -> Option<i64>
     ensures { result ≡ if_passes is_long (pos number) }
 {
     0i64.checked_add_unsigned(number)
 }
 
-/// The number below 0, where it is a long.
+// The number below 0, where it is a long.
 fn negative_long(number: u64) -> Option<i64>
     ensures { result ≡ if_passes is_long (neg_ℤ (pos number)) }
 {
     0i64.checked_sub_unsigned(number)
 }
 
-/// A timespan without its sign.
+// A timespan without its sign.
 fn magnitude(text: &[u8]) -> Option<u64>
     ensures { result ≡ option_map capped (magnitude_ticks text.now) }
 {
     clock(text).or_else(|| token(text))
 }
 
-/// The sum of two amounts, where both are there. The greatest one stands for all that are greater.
+// The sum of two amounts, where both are there. The greatest one stands for all that are greater.
 fn total(first: Option<u64>, per_first: u64, second: Option<u64>, per_second: u64) -> Option<u64>
     ensures { result ≡ option_map capped (both first per_first second per_second) }
 {
@@ -68,7 +68,7 @@ fn total(first: Option<u64>, per_first: u64, second: Option<u64>, per_second: u6
     }
 }
 
-/// One or two digits, of a number up to `most`.
+// One or two digits, of a number up to `most`.
 fn short(text: &[u8], most: u64) -> Option<u64>
     requires { most ≤ 59 }
     ensures { result ≡ short_numeral most text.now }
@@ -81,7 +81,7 @@ fn short(text: &[u8], most: u64) -> Option<u64>
     }
 }
 
-/// Hours, or days, a point and hours.
+// Hours, or days, a point and hours.
 fn hours_ticks(text: &[u8]) -> Option<u64>
     ensures { result ≡ option_map capped (hours_value (pieces 46 text.now)) }
 {
@@ -97,7 +97,7 @@ fn hours_ticks(text: &[u8]) -> Option<u64>
     }
 }
 
-/// Seconds, or seconds, a point and decimals.
+// Seconds, or seconds, a point and decimals.
 fn seconds_ticks(text: &[u8]) -> Option<u64>
     ensures { result ≡ option_map capped (seconds_value (pieces 46 text.now)) }
 {
@@ -113,7 +113,7 @@ fn seconds_ticks(text: &[u8]) -> Option<u64>
     }
 }
 
-/// One to seven decimals of a second.
+// One to seven decimals of a second.
 fn decimals_of_second(text: &[u8]) -> Option<u64>
     ensures { result ≡ decimals_ticks text.now }
 {
@@ -124,7 +124,7 @@ fn decimals_of_second(text: &[u8]) -> Option<u64>
     }
 }
 
-/// `[d.]hh:mm:ss[.fffffff]`.
+// `[d.]hh:mm:ss[.fffffff]`.
 fn clock(text: &[u8]) -> Option<u64>
     ensures { result ≡ option_map capped (clock_parts_ticks (pieces 58 text.now)) }
 {
@@ -138,7 +138,7 @@ fn clock(text: &[u8]) -> Option<u64>
     }
 }
 
-/// An amount, and at once its unit.
+// An amount, and at once its unit.
 #[tactic(auto, using(crate::proofs::TimespanLemmas::token_lemmas))]
 fn token(text: &[u8]) -> Option<u64>
     ensures { result ≡ option_map capped (token_ticks text.now) }
@@ -147,7 +147,7 @@ fn token(text: &[u8]) -> Option<u64>
     amount_ticks(amount, unit_ticks(unit)?)
 }
 
-/// How many bytes the amount has that the text begins with.
+// How many bytes the amount has that the text begins with.
 fn amount_len(text: &[u8]) -> usize
     ensures { result ≡ prefix_len is_of_amount text.now }
 {
@@ -161,7 +161,7 @@ fn is_amount_byte(byte: u8) -> bool
     byte.is_ascii_digit() || byte == b'.'
 }
 
-/// The ticks of a unit.
+// The ticks of a unit.
 fn unit_ticks(unit: &[u8]) -> Option<u64>
     ensures value { result ≡ unit_value unit.now }
     ensures bounds { IfSome result (λ ticks. IsInRange 1 864000000000 ticks) }
@@ -178,7 +178,7 @@ fn unit_ticks(unit: &[u8]) -> Option<u64>
     }
 }
 
-/// Digits, or digits, a point and decimals, of a unit.
+// Digits, or digits, a point and decimals, of a unit.
 #[tactic(auto, using(crate::proofs::TimespanLemmas::amount_two))]
 fn amount_ticks(amount: &[u8], unit: u64) -> Option<u64>
     requires { IsInRange 1 864000000000 unit }
@@ -193,7 +193,7 @@ fn amount_ticks(amount: &[u8], unit: u64) -> Option<u64>
     }
 }
 
-/// Decimals of a unit, where they are a whole number of ticks.
+// Decimals of a unit, where they are a whole number of ticks.
 fn part_ticks(decimals: &[u8], unit: u64) -> Option<u64>
     requires { IsInRange 1 864000000000 unit }
     ensures value { result ≡ part_value unit decimals.now }

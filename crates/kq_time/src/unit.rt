@@ -45,7 +45,7 @@ pub fn part_of(unit: Unit, ticks: i64) -> i64
     }
 }
 
-/// The ticks from 0001-01-01 to the start of a day.
+// The ticks from 0001-01-01 to the start of a day.
 fn first_tick(day: u32) -> i64
     requires { day ≤ 3652058 }
     ensures { result ≡ pos (day * 864000000000) }
@@ -53,7 +53,7 @@ fn first_tick(day: u32) -> i64
     (u64::from(day) * TICKS_PER_DAY) as i64
 }
 
-/// The whole days since the last Sunday: day 0 is a Monday.
+// The whole days since the last Sunday: day 0 is a Monday.
 fn since_sunday(day: u32) -> u32
     requires { day ≤ 3652058 }
     ensures { result ≡ days_since_sunday day }

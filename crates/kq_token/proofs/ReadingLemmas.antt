@@ -7,7 +7,7 @@ use Rattle.kq_token.specs.declared.kind.TokenKind.{TokenKind}
 use Rattle.kq_token.specs.declared.token.Token.{Token}
 use Rattle.kq_token.specs.Bytes.{is_space, is_in_line, is_slash, starts}
 use Rattle.kq_token.specs.Lexed.{StandsIn}
-use Rattle.kq_token.specs.Reading.{IsToken, NoToken, Reads, start, blank, token, is_complete, is_ingestion, ends_in_mark, is_body_mark, blank_len, AreTokens, BreaksAt}
+use Rattle.kq_token.specs.Reading.{IsToken, NoToken, Tokenizes, start, blank, token, is_complete, is_ingestion, ends_in_mark, is_body_mark, blank_len, AreTokens, BreaksAt}
 
 blank_within_at : (space comment : Bool) (b : ℕ) (bs : List ℕ) → (if space then 1 else (if comment then 1 + prefix_len is_in_line bs else 0)) ≤ length (b ∷ bs)
 blank_within_at true comment b bs = omega arith
@@ -18,12 +18,12 @@ pub blank_within : (bytes : List ℕ) → blank_len bytes ≤ length bytes
 blank_within [] = omega arith
 blank_within (b ∷ bs) = blank_within_at (is_space b) (b == 47 && starts is_slash bs) b bs
 
-pub reads_within : {text : List ℕ} {tokens : List Token} {at : ℕ} → Reads text tokens at → at ≤ length text
+pub reads_within : {text : List ℕ} {tokens : List Token} {at : ℕ} → Tokenizes text tokens at → at ≤ length text
 reads_within start = omega arith
 reads_within {text} (blank {tokens} {at} r incomplete some) = omega (arith, reads_within r, blank_within (drop at text), length-drop at text)
 reads_within {text} (token {tokens} {at} r incomplete none t) = omega (arith, reads_within r, t.longest.within, length-drop at text)
 
-pub reads_stand : {text : List ℕ} {tokens : List Token} {at : ℕ} → Reads text tokens at → All (StandsIn text) tokens
+pub reads_stand : {text : List ℕ} {tokens : List Token} {at : ℕ} → Tokenizes text tokens at → All (StandsIn text) tokens
 reads_stand start = λ k d h. absurd (omega arith)
 reads_stand (blank r incomplete some) = reads_stand r
 reads_stand {text} (token {tokens} {at} {kind} {n} r incomplete none t) =
@@ -52,7 +52,7 @@ complete_unmarked text tokens h = by_ingestion (is_ingestion text tokens) h wher
 
 -- the loop's invariant
 pub record InReading (text : List ℕ) (tokens : List Token) (at : ℕ) : Type 0 where
-  pub reads : Reads text tokens at
+  pub reads : Tokenizes text tokens at
   pub incomplete : is_complete text tokens ≡ false
 
 take_all : (xs : List ℕ) (n : ℕ) → length xs ≤ n → take n xs ≡ xs
@@ -72,14 +72,14 @@ pub in_reading_blank : (text : List ℕ) (tokens : List Token) (at n : ℕ) → 
 in_reading_blank text tokens at n r e some =
     let same : n ≡ blank_len (drop at text) = e ∙ ap blank_len (slice_is text at) in
     let some' : 0 < blank_len (drop at text) = omega arith in
-    record { reads = subst (λ m. Reads text tokens (at + m)) (sym same) (blank r.reads r.incomplete some'); incomplete = r.incomplete }
+    record { reads = subst (λ m. Tokenizes text tokens (at + m)) (sym same) (blank r.reads r.incomplete some'); incomplete = r.incomplete }
 
-pub reads_token : (text : List ℕ) (tokens : List Token) (at n blank_n : ℕ) (kind : TokenKind) → InReading text tokens at → blank_n ≡ blank_len (take (length text - at) (drop at text)) → blank_n ≡ 0 → IsToken kind n (take (length text - at) (drop at text)) → Reads text (tokens ++ record { kind = kind; from = at; to = at + n } ∷ []) (at + n)
+pub reads_token : (text : List ℕ) (tokens : List Token) (at n blank_n : ℕ) (kind : TokenKind) → InReading text tokens at → blank_n ≡ blank_len (take (length text - at) (drop at text)) → blank_n ≡ 0 → IsToken kind n (take (length text - at) (drop at text)) → Tokenizes text (tokens ++ record { kind = kind; from = at; to = at + n } ∷ []) (at + n)
 reads_token text tokens at n blank_n kind r e none t =
     let none' : blank_len (drop at text) ≡ 0 = ap blank_len (sym (slice_is text at)) ∙ sym e ∙ none in
     token r.reads r.incomplete none' (subst (IsToken kind n) (slice_is text at) t)
 
-pub complete : (text : List ℕ) (tokens : List Token) (at : ℕ) → Reads text tokens at → is_complete text tokens ≡ true → AreTokens text tokens
+pub complete : (text : List ℕ) (tokens : List Token) (at : ℕ) → Tokenizes text tokens at → is_complete text tokens ≡ true → AreTokens text tokens
 complete text tokens at r c = record { end = at; reads = r; whole = λ f. let no : true ≡ false = sym c ∙ f in cc }
 
 pub at_end : (text : List ℕ) (tokens : List Token) (at : ℕ) → InReading text tokens at → length text ≤ at → AreTokens text tokens

@@ -2,7 +2,7 @@
 use Rattle.std.proofs.Common.{◌≡◌, ℕ, zero, suc, ◌<◌, ◌≤◌, ◌+◌, false, List, [], ◌∷◌, ◌++◌, ◌⊎◌, inl, inr, drop, refl, sym, ◌∙◌, ap, subst, arith, append-nil}
 use Rattle.kq_token.specs.declared.kind.TokenKind.{TokenKind}
 use Rattle.kq_token.specs.declared.token.Token.{Token}
-use Rattle.kq_token.specs.Reading.{IsToken, Reads, start, blank, token, is_complete, blank_len, AreTokens, BreaksAt}
+use Rattle.kq_token.specs.Reading.{IsToken, Tokenizes, start, blank, token, is_complete, blank_len, AreTokens, BreaksAt}
 use Rattle.kq_token.proofs.LeadLemmas.{longest_same}
 use Rattle.kq_token.proofs.ReadingLemmas.{reads_within}
 
@@ -47,7 +47,7 @@ first_step : {text : List ℕ} {ts : List Token} {at : ℕ} {us : List Token} {b
 first_step here = no_step refl refl
 first_step (more f incomplete p e c) = extend (first_step f) incomplete p e c
 
-from_start : {text : List ℕ} {us : List Token} {bt : ℕ} → Reads text us bt → From text [] 0 us bt
+from_start : {text : List ℕ} {us : List Token} {bt : ℕ} → Tokenizes text us bt → From text [] 0 us bt
 from_start start = here
 from_start (blank {tokens} r incomplete some) = more (from_start r) incomplete (a_blank some refl refl) (sym (append-nil tokens)) refl
 from_start (token {kind = kind} r incomplete none t) = more (from_start r) incomplete (a_token kind none t refl) refl refl
@@ -58,7 +58,7 @@ step_to {text} {ts} {us} {add} {at} {bt} {n} (a_step m front i q g) p le =
     let same = piece_same q p in
     subst (λ j. From text (ts ++ add) (at + j) us bt) same.0 (subst (λ l. From text (ts ++ l) (at + m) us bt) same.1 g)
 
-passes : {text : List ℕ} {ts : List Token} {at : ℕ} {us : List Token} {bt : ℕ} → Reads text ts at → Reads text us bt → at ≤ bt → From text ts at us bt
+passes : {text : List ℕ} {ts : List Token} {at : ℕ} {us : List Token} {bt : ℕ} → Tokenizes text ts at → Tokenizes text us bt → at ≤ bt → From text ts at us bt
 passes start r le = from_start r
 passes {text} {us = us} {bt = bt} (blank {tokens} {at} q incomplete some) r le =
     subst (λ l. From text l (at + blank_len (drop at text)) us bt) (append-nil tokens) (step_to (first_step (passes q r (omega arith))) (a_blank some refl refl) le)

@@ -66,23 +66,23 @@ abbrev pub is_complete : List ℕ → List Token → Bool
 is_complete text tokens = is_ingestion text tokens && ends_in_mark tokens
 
 -- these are the tokens of the text's first bytes, so many
-pub data Reads (text : List ℕ) : List Token → ℕ → Type 0 where
-  start : Reads text [] 0
-  blank : {tokens : List Token} {at : ℕ} → Reads text tokens at → is_complete text tokens ≡ false
-      → 0 < blank_len (drop at text) → Reads text tokens (at + blank_len (drop at text))
-  token : {tokens : List Token} {at : ℕ} {kind : TokenKind} {n : ℕ} → Reads text tokens at → is_complete text tokens ≡ false
-      → blank_len (drop at text) ≡ 0 → IsToken kind n (drop at text) → Reads text (tokens ++ record { kind = kind; from = at; to = at + n } ∷ []) (at + n)
+pub data Tokenizes (text : List ℕ) : List Token → ℕ → Type 0 where
+  start : Tokenizes text [] 0
+  blank : {tokens : List Token} {at : ℕ} → Tokenizes text tokens at → is_complete text tokens ≡ false
+      → 0 < blank_len (drop at text) → Tokenizes text tokens (at + blank_len (drop at text))
+  token : {tokens : List Token} {at : ℕ} {kind : TokenKind} {n : ℕ} → Tokenizes text tokens at → is_complete text tokens ≡ false
+      → blank_len (drop at text) ≡ 0 → IsToken kind n (drop at text) → Tokenizes text (tokens ++ record { kind = kind; from = at; to = at + n } ∷ []) (at + n)
 
 -- the tokens of the whole text, or of an ingestion through its `<|`
 pub record AreTokens (text : List ℕ) (tokens : List Token) : Type 0 where
   pub end : ℕ
-  pub reads : Reads text tokens end
+  pub reads : Tokenizes text tokens end
   pub whole : is_complete text tokens ≡ false → end ≡ length text
 
 -- at this place of the text, behind the tokens before it, neither white space, a comment nor a token begins
 pub record BreaksAt (text : List ℕ) (at : ℕ) : Type 0 where
   pub tokens : List Token
-  pub reads : Reads text tokens at
+  pub reads : Tokenizes text tokens at
   pub incomplete : is_complete text tokens ≡ false
   pub some_left : at < length text
   pub no_blank : blank_len (drop at text) ≡ 0

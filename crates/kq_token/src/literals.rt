@@ -113,7 +113,7 @@ fn nesting_step(nesting: Nesting, b: u8) -> Result<Nesting, End>
     }
 }
 
-/// How many bytes there are through the `)` that closes `dynamic(`.
+// How many bytes there are through the `)` that closes `dynamic(`.
 fn dynamic_len(bytes: &[u8]) -> Option<usize>
     ensures value { result ≡ closing_len nesting_step unnested bytes.now }
     ensures within { IfSome result (λ n. n ≤ length bytes.now) }
@@ -136,7 +136,7 @@ fn dynamic_len(bytes: &[u8]) -> Option<usize>
     None
 }
 
-/// How many bytes of raw text there are, with the `)` behind them.
+// How many bytes of raw text there are, with the `)` behind them.
 fn raw_len(word: LiteralWord, bytes: &[u8]) -> Option<usize>
     ensures value { result ≡ raw_len word bytes.now }
     ensures within { IfSome result (λ n. n ≤ length bytes.now) }

@@ -5,7 +5,7 @@ ghost use Rattle.kq_token.specs.Scanning.{fraction_len, signed_len, exponent_len
 use crate::bytes::{digits_len, hexadecimal_digits_len, starts_with_word_byte};
 use crate::kind::TokenKind;
 
-/// The digits behind a point.
+// The digits behind a point.
 fn fraction_len(bytes: &[u8]) -> usize
     ensures value { result ≡ fraction_len bytes.now }
     ensures within { 0 < result → result + 1 ≤ length bytes.now }
@@ -16,7 +16,7 @@ fn fraction_len(bytes: &[u8]) -> usize
     }
 }
 
-/// Digits, with a sign before them or without.
+// Digits, with a sign before them or without.
 fn signed_len(bytes: &[u8]) -> usize
     ensures value { result ≡ signed_len bytes.now }
     ensures within { result ≤ length bytes.now }
@@ -64,7 +64,7 @@ fn unit_len(bytes: &[u8]) -> usize
     }
 }
 
-/// `x` and hexadecimal digits.
+// `x` and hexadecimal digits.
 fn x_len(bytes: &[u8]) -> usize
     ensures value { result ≡ x_len bytes.now }
     ensures within { result ≤ length bytes.now }
@@ -78,7 +78,7 @@ fn x_len(bytes: &[u8]) -> usize
     }
 }
 
-/// `0x` and hexadecimal digits.
+// `0x` and hexadecimal digits.
 fn hexadecimal_len(bytes: &[u8]) -> usize
     ensures value { result ≡ hexadecimal_len bytes.now }
     ensures within { result ≤ length bytes.now }
@@ -92,7 +92,7 @@ fn hexadecimal_len(bytes: &[u8]) -> usize
     }
 }
 
-/// The kind of a number, `plain` where neither an exponent nor a unit follows its digits, and the bytes that follow them.
+// The kind of a number, `plain` where neither an exponent nor a unit follows its digits, and the bytes that follow them.
 #[tactic(auto, unfolding(crate::specs::Scanning::suffixed))]
 fn suffixed(plain: TokenKind, rest: &[u8]) -> (TokenKind, usize)
     ensures value { result ≡ suffixed plain rest.now }
@@ -109,7 +109,7 @@ fn suffixed(plain: TokenKind, rest: &[u8]) -> (TokenKind, usize)
     (plain, 0)
 }
 
-/// The number of n digits, and what follows them.
+// The number of n digits, and what follows them.
 #[tactic(auto, unfolding(crate::specs::Scanning::decimal_at))]
 fn decimal(n: usize, rest: &[u8]) -> (TokenKind, usize)
     requires { n + length rest.now < 2 ^ 64 }

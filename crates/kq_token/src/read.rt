@@ -15,7 +15,7 @@ use crate::words::word;
 use kq_value::Text;
 use std::alloc::Global;
 
-/// The sign, side or negated word that the bytes begin with, the first of which is b.
+// The sign, side or negated word that the bytes begin with, the first of which is b.
 #[tactic(auto, unfolding(crate::specs::Scanning::sign_at))]
 fn sign(b: u8, bytes: &[u8]) -> Option<(TokenKind, usize)>
     ensures { result ≡ sign_at b bytes.now }
@@ -27,7 +27,7 @@ fn sign(b: u8, bytes: &[u8]) -> Option<(TokenKind, usize)>
     Some((kind, spelled_len(kind)))
 }
 
-/// The token that starts the bytes.
+// The token that starts the bytes.
 fn token(bytes: &[u8]) -> Option<(TokenKind, usize)>
     ensures { IsTokenOrNone result bytes.now }
 {
@@ -84,7 +84,7 @@ fn is_ingest(text: &[u8], token: &Token) -> bool
     is_word(token.kind) && &text[token.from..token.to] == b"ingest".as_slice()
 }
 
-/// Whether the first two tokens are `.` and `ingest`.
+// Whether the first two tokens are `.` and `ingest`.
 fn is_ingestion(text: &[u8], list: &[Token]) -> bool
     requires { All (StandsIn text.now) list.now }
     ensures { result ≡ is_ingestion text.now list.now }
@@ -95,7 +95,7 @@ fn is_ingestion(text: &[u8], list: &[Token]) -> bool
     }
 }
 
-/// Whether no token is read behind these.
+// Whether no token is read behind these.
 fn is_complete(text: &[u8], list: &[Token]) -> bool
     requires { All (StandsIn text.now) list.now }
     ensures { result ≡ is_complete text.now list.now }
@@ -106,7 +106,7 @@ fn is_complete(text: &[u8], list: &[Token]) -> bool
     }
 }
 
-/// The tokens of the bytes of a text.
+// The tokens of the bytes of a text.
 fn list_of(alloc: Global, text: &[u8]) -> Result<Vec<Token>, LexFault>
     ensures { MatchResult result (λ v. AreTokens text.now v.items) (IsFault text.now) }
 {

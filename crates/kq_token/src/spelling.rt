@@ -178,7 +178,7 @@ fn literal_word_spelling(word: LiteralWord) -> &'static str
     }
 }
 
-/// Nothing for a kind of many spellings.
+// Nothing for a kind of many spellings.
 fn spelling(kind: TokenKind) -> &'static str
     ensures { result.now ≡ spelling kind }
 {
@@ -192,7 +192,7 @@ fn spelling(kind: TokenKind) -> &'static str
     }
 }
 
-/// Whether the bytes begin with the spelling of the kind.
+// Whether the bytes begin with the spelling of the kind.
 fn begins(bytes: &[u8], kind: TokenKind) -> bool
     ensures { result ≡ begins bytes.now kind }
 {

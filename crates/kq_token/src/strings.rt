@@ -15,7 +15,7 @@ pub fn string(quote: u8, bytes: &[u8]) -> Option<(TokenKind, usize)>
     Some((TokenKind::String, n + 1))
 }
 
-/// How many bytes there are through a quote that isn't one of a doubled pair.
+// How many bytes there are through a quote that isn't one of a doubled pair.
 fn verbatim_len(quote: u8, bytes: &[u8]) -> Option<usize>
     ensures value { result ≡ verbatim_len quote false bytes.now }
     ensures within { IfSome result (λ n. n ≤ length bytes.now) }

@@ -9,7 +9,7 @@ use crate::kind::{LiteralWord, TokenKind};
 use crate::literals::{literal_len, opens};
 use crate::spelling::{literal_word, spelled, spelled_len};
 
-/// The word of a typed literal, where the rest opens its parenthesis.
+// The word of a typed literal, where the rest opens its parenthesis.
 fn opening_word(word: &[u8], rest: &[u8]) -> Option<LiteralWord>
     ensures value { result ≡ opening_word word.now rest.now }
     ensures opens { IfSome result (λ _. opens rest.now ≡ true) }
@@ -30,7 +30,7 @@ fn starts_with_joint(bytes: &[u8]) -> bool
     }
 }
 
-/// The token of one spelling that goes on behind its first word, as the rest does.
+// The token of one spelling that goes on behind its first word, as the rest does.
 fn joined(bytes: &[u8], rest: &[u8]) -> Option<TokenKind>
     ensures { result ≡ joined_at rest.now bytes.now }
 {

@@ -2,6 +2,6 @@ pub mod Beginnings
 mod Sums
 mod Seats
 mod Takes
-mod Gives
+mod Giving
 mod Passes
 mod Closes

@@ -11,32 +11,32 @@ use crate::view::View;
 use atomic_table::Seat;
 use std::sync::Wait;
 
-/// The words of the table.
+// The words of the table.
 const TURN: usize = 0;
 
 const COUNT: usize = 1;
 
-/// The slot of the table.
+// The slot of the table.
 const VALUE: usize = 0;
 
-/// What stands in the word `TURN`.
+// What stands in the word `TURN`.
 const FREE: u64 = 0;
 
 const HELD: u64 = 1;
 
 impl<S: Grows> Turn<S> {
-    /// Sleeps while some pass holds the value, until a `wake`. It may also return for no reason.
+    // Sleeps while some pass holds the value, until a `wake`. It may also return for no reason.
     pub(crate) fn rest<R: Wait>(&self, rt: &R) {
         self.table.shared.park(rt, TURN, HELD as u32);
     }
 
-    /// Wakes one thread that rests.
+    // Wakes one thread that rests.
     pub(crate) fn wake(&self) {
         self.table.shared.wake_one(TURN);
     }
 
-    /// `won take` or `lost take`, and says which: the turn goes from `FREE` to `HELD`, or some other
-    /// pass holds the value.
+    // `won take` or `lost take`, and says which: the turn goes from `FREE` to `HELD`, or some other
+    // pass holds the value.
     pub(crate) fn try_take(&self, seat: &mut Seat<Option<S>, View<S::Entry>>) -> bool
         requires of { seat.old.table_id ≡ self.now.table }
         requires live { 0 < seat.old.me.0.worth }
@@ -52,7 +52,7 @@ impl<S: Grows> Turn<S> {
         found == FREE
     }
 
-    /// `value out`: the value in the seat's slot leaves it.
+    // `value out`: the value in the seat's slot leaves it.
     pub(crate) fn value_out(&self, seat: &mut Seat<Option<S>, View<S::Entry>>) -> S
         requires of { seat.old.table_id ≡ self.now.table }
         requires full { (x : S) × HasValue seat.old.me x }
@@ -66,7 +66,7 @@ impl<S: Grows> Turn<S> {
         value
     }
 
-    /// `value in`: a value goes into the seat's slot.
+    // `value in`: a value goes into the seat's slot.
     pub(crate) fn value_in(&self, seat: &mut Seat<Option<S>, View<S::Entry>>, value: S)
         requires of { seat.old.table_id ≡ self.now.table }
         requires empty { seat.old.me.1 ≡ (0, None) ∷ [] }
@@ -77,7 +77,7 @@ impl<S: Grows> Turn<S> {
         let None = nothing else { unreachable!() };
     }
 
-    /// `count store`: the count becomes the length of the history of the value in the seat's slot.
+    // `count store`: the count becomes the length of the history of the value in the seat's slot.
     pub(crate) fn store_count(&self, seat: &mut Seat<Option<S>, View<S::Entry>>, count: u64)
         requires of { seat.old.table_id ≡ self.now.table }
         requires live { 0 < seat.old.me.0.worth }
@@ -91,7 +91,7 @@ impl<S: Grows> Turn<S> {
         self.table.shared.store::<StoreCount<S>>(seat, COUNT, count);
     }
 
-    /// `turn store`: the slot comes home, and the turn is `FREE` again.
+    // `turn store`: the slot comes home, and the turn is `FREE` again.
     pub(crate) fn store_turn(&self, seat: &mut Seat<Option<S>, View<S::Entry>>)
         requires of { seat.old.table_id ≡ self.now.table }
         requires live { 0 < seat.old.me.0.worth }
@@ -104,7 +104,7 @@ impl<S: Grows> Turn<S> {
         self.table.shared.store::<StoreTurn<S>>(seat, TURN, FREE);
     }
 
-    /// `seat split`: a new seat, with one of the seat's worth.
+    // `seat split`: a new seat, with one of the seat's worth.
     pub(crate) fn split_seat(
         &self,
         seat: &mut Seat<Option<S>, View<S::Entry>>,
@@ -119,7 +119,7 @@ impl<S: Grows> Turn<S> {
         self.table.shared.split_seat::<Seats>(seat)
     }
 
-    /// `seat join`: the seat takes in the other, which is spent.
+    // `seat join`: the seat takes in the other, which is spent.
     pub(crate) fn join_seat(
         &self,
         seat: &mut Seat<Option<S>, View<S::Entry>>,
@@ -135,7 +135,7 @@ impl<S: Grows> Turn<S> {
         self.table.shared.join_seat::<Seats>(seat, other);
     }
 
-    /// `count load`: all that the view has seen, and its `olds`, are found to begin one history.
+    // `count load`: all that the view has seen, and its `olds`, are found to begin one history.
     pub(crate) fn load_count(&self, seat: &mut Seat<Option<S>, View<S::Entry>>)
         requires of { seat.old.table_id ≡ self.now.table }
         requires live { 0 < seat.old.me.0.worth }

@@ -3,7 +3,7 @@ ghost use Rattle.std.specs.Prelude.{◌≡◌, ◌≤◌, [], ◌∷◌, ◌++�
 
 use crate::Memory;
 
-/// Adds an item, and drops it where memory is wanting.
+// Adds an item, and drops it where memory is wanting.
 pub(crate) fn push_to<T: Drop>(items: &mut Vec<T>, item: T) -> Result<(), Memory>
     ensures ok { OnOk result (items.new.items ≡ items.old.items ++ item ∷ []) }
     ensures err { OnErr result (items.new.items ≡ items.old.items) }
@@ -12,14 +12,14 @@ pub(crate) fn push_to<T: Drop>(items: &mut Vec<T>, item: T) -> Result<(), Memory
     Ok(())
 }
 
-/// A copy, where copies are equal.
+// A copy, where copies are equal.
 pub(crate) fn copy_of<T: Clone>(items: &Vec<T>) -> Result<Vec<T>, Memory>
     ensures { IfOk result (λ v. ((x y : T) → T.is_clone x y → y ≡ x) → v.items ≡ items.now.items) }
 {
     Vec::from_clones(*items.allocator(), items.as_slice())
 }
 
-/// No items yet, with room for as many as there are.
+// No items yet, with room for as many as there are.
 pub(crate) fn room_for<T>(items: &Vec<T>) -> Result<Vec<T>, Memory>
     ensures empty { IfOk result (λ v. v.items ≡ []) }
     ensures room { IfOk result (λ v. length items.now.items ≤ vec_capacity v) }

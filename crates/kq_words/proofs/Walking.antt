@@ -288,7 +288,7 @@ abbrev awaits : Kind → List Row → Walk
 awaits kind rows = walk_at false (option (id_of kind)) rows (Some (id_of kind, []))
 
 -- what is read of the words, where no number is awaited and where one is
-pub record Reads (words : List Text) : Type 0 where
+pub record WalksAs (words : List Text) : Type 0 where
   pub start : (b : Bool) (rows : List Row) (p : Option (Text × List Text))
       → Agrees (walk_at false (open_at b) rows p) words (read None words) (settle_fault rules false (held_at rows p)) (settled_rows rules p rows)
   pub number : (kind : Kind) (rows : List Row) → Agrees (awaits kind rows) words (read (Some kind) words) [] rows
@@ -304,7 +304,7 @@ value_open : (b : Bool) (word : Text) (h : Held) → IsValue word → word_met r
 value_open false word h v = value_met idle word h v
 value_open true word h v = value_met positional word h v
 
-feed_step : (b : Bool) (rows : List Row) (p : Option (Text × List Text)) (word : Text) (rest : List Text) → IsValue word → Reads rest
+feed_step : (b : Bool) (rows : List Row) (p : Option (Text × List Text)) (word : Text) (rest : List Text) → IsValue word → WalksAs rest
     → Agrees (walk_at false (open_at b) rows p) (word ∷ rest) (then_says feed word (read None rest)) (settle_fault rules false (held_at rows p)) (settled_rows rules p rows)
 unfolding walked
 feed_step b rows p word rest v later =
@@ -333,7 +333,7 @@ number_rows workers rows word = refl
 number_rows generate rows word = refl
 number_rows feed rows word = refl
 
-number_step : (kind : Kind) (rows : List Row) (word : Text) (rest : List Text) → IsValue word → Reads rest → Agrees (awaits kind rows) (word ∷ rest) (then_says kind word (read None rest)) [] rows
+number_step : (kind : Kind) (rows : List Row) (word : Text) (rest : List Text) → IsValue word → WalksAs rest → Agrees (awaits kind rows) (word ∷ rest) (then_says kind word (read None rest)) [] rows
 unfolding walked
 number_step kind rows word rest v later =
     let h = held_at rows (Some (id_of kind, [])) in
@@ -390,7 +390,7 @@ long_unknown : (v : Option Text) (waiting : Waiting) (z : ℕ) (more : List ℕ)
     → Fails (turn_fault shape [] (walk_at false waiting rows p) (45 ∷ 45 ∷ z ∷ more))
 long_unknown v waiting z more rows p is_option is_given = subst Fails (sym (long_turn None v waiting z more rows p is_option is_given)) refl
 
-attached_step : (kind : Kind) (v : Text) (waiting : Waiting) (z : ℕ) (more : List ℕ) (rest : List Text) (rows : List Row) (p : Option (Text × List Text)) → option_of (45 ∷ 45 ∷ z ∷ more) ≡ Some kind → attached_to (45 ∷ 45 ∷ z ∷ more) ≡ Some v → Reads rest
+attached_step : (kind : Kind) (v : Text) (waiting : Waiting) (z : ℕ) (more : List ℕ) (rest : List Text) (rows : List Row) (p : Option (Text × List Text)) → option_of (45 ∷ 45 ∷ z ∷ more) ≡ Some kind → attached_to (45 ∷ 45 ∷ z ∷ more) ≡ Some v → WalksAs rest
     → Agrees (walk_at false waiting rows p) ((45 ∷ 45 ∷ z ∷ more) ∷ rest) (then_says kind v (read None rest)) (settle_fault rules false (held_at rows p)) (settled_rows rules p rows)
 attached_step kind v waiting z more rest rows p is_option is_given later =
     let word : Text = 45 ∷ 45 ∷ z ∷ more in
@@ -408,7 +408,7 @@ attached_step kind v waiting z more rest rows p is_option is_given later =
     ∙ ap (λ (m : Held × Outcome). after_step rules word w (flag m.0 m.1).0 (flag m.0 m.1).1) (number_met kind v rows p))
     (later.start false now None)))
 
-alone_step : (kind : Kind) (waiting : Waiting) (z : ℕ) (more : List ℕ) (rest : List Text) (rows : List Row) (p : Option (Text × List Text)) → option_of (45 ∷ 45 ∷ z ∷ more) ≡ Some kind → attached_to (45 ∷ 45 ∷ z ∷ more) ≡ None → Reads rest
+alone_step : (kind : Kind) (waiting : Waiting) (z : ℕ) (more : List ℕ) (rest : List Text) (rows : List Row) (p : Option (Text × List Text)) → option_of (45 ∷ 45 ∷ z ∷ more) ≡ Some kind → attached_to (45 ∷ 45 ∷ z ∷ more) ≡ None → WalksAs rest
     → Agrees (walk_at false waiting rows p) ((45 ∷ 45 ∷ z ∷ more) ∷ rest) (read (Some kind) rest) (settle_fault rules false (held_at rows p)) (settled_rows rules p rows)
 alone_step kind waiting z more rest rows p is_option is_given later =
     let word : Text = 45 ∷ 45 ∷ z ∷ more in
@@ -424,7 +424,7 @@ alone_step kind waiting z more rest rows p is_option is_given later =
     ∙ ap (λ (m : Held × Outcome). after_step rules word w (flag m.0 m.1).0 (flag m.0 m.1).1) (alone_met kind rows p))
     (later.number kind now))
 
-long_step : (o : Option Kind) (v : Option Text) (waiting : Waiting) (z : ℕ) (more : List ℕ) (rest : List Text) (rows : List Row) (p : Option (Text × List Text)) → option_of (45 ∷ 45 ∷ z ∷ more) ≡ o → attached_to (45 ∷ 45 ∷ z ∷ more) ≡ v → Reads rest
+long_step : (o : Option Kind) (v : Option Text) (waiting : Waiting) (z : ℕ) (more : List ℕ) (rest : List Text) (rows : List Row) (p : Option (Text × List Text)) → option_of (45 ∷ 45 ∷ z ∷ more) ≡ o → attached_to (45 ∷ 45 ∷ z ∷ more) ≡ v → WalksAs rest
     → Agrees (walk_at false waiting rows p) ((45 ∷ 45 ∷ z ∷ more) ∷ rest) (option_map_or (λ (kind : Kind). with_number kind v (read None rest) (read (Some kind) rest)) o None) (settle_fault rules false (held_at rows p)) (settled_rows rules p rows)
 long_step None v waiting z more rest rows p is_option is_given later = stops (walk_at false waiting rows p) (45 ∷ 45 ∷ z ∷ more) rest (long_unknown v waiting z more rows p is_option is_given)
 long_step (Some kind) (Some v) waiting z more rest rows p is_option is_given later = attached_step kind v waiting z more rest rows p is_option is_given later
@@ -466,7 +466,7 @@ read_short y more rest other =
 
 -- ---- all the words
 
-dashed_start : (b : Bool) (rows : List Row) (p : Option (Text × List Text)) (y : ℕ) (more : List ℕ) (rest : List Text) (c : Bool) → (y == 45) ≡ c → IsUtf8 (45 ∷ y ∷ more) → Reads rest
+dashed_start : (b : Bool) (rows : List Row) (p : Option (Text × List Text)) (y : ℕ) (more : List ℕ) (rest : List Text) (c : Bool) → (y == 45) ≡ c → IsUtf8 (45 ∷ y ∷ more) → WalksAs rest
     → Agrees (walk_at false (open_at b) rows p) ((45 ∷ y ∷ more) ∷ rest) (read None ((45 ∷ y ∷ more) ∷ rest)) (settle_fault rules false (held_at rows p)) (settled_rows rules p rows)
 dashed_start b rows p y more rest false other text later =
     let w = walk_at false (open_at b) rows p in
@@ -489,7 +489,7 @@ dashed_number kind rows y more rest true same text = subst (λ (x : ℕ). Fails 
         (subst (λ (w : Walk). Fails (rest_fault w rest)) (sym (dashes_walk (option (id_of kind)) rows (Some (id_of kind, [])))) (missing_later kind rows rest)))
     go (z ∷ more) = stops (awaits kind rows) (45 ∷ 45 ∷ z ∷ more) rest (long_missing (option_of (45 ∷ 45 ∷ z ∷ more)) (attached_to (45 ∷ 45 ∷ z ∷ more)) kind z more rows refl refl)
 
-start_step : (b : Bool) (rows : List Row) (p : Option (Text × List Text)) (word : Text) (rest : List Text) (d : Bool) → is_dashed word ≡ d → IsUtf8 word → Reads rest
+start_step : (b : Bool) (rows : List Row) (p : Option (Text × List Text)) (word : Text) (rest : List Text) (d : Bool) → is_dashed word ≡ d → IsUtf8 word → WalksAs rest
     → Agrees (walk_at false (open_at b) rows p) (word ∷ rest) (read None (word ∷ rest)) (settle_fault rules false (held_at rows p)) (settled_rows rules p rows)
 start_step b rows p word rest false plain text later =
     subst (λ (r : Option (List Said)). Agrees (walk_at false (open_at b) rows p) (word ∷ rest) r (settle_fault rules false (held_at rows p)) (settled_rows rules p rows)) (sym (read_feed word rest plain)) (feed_step b rows p word rest (value_from word plain) later)
@@ -500,7 +500,7 @@ start_step b rows p (x ∷ y ∷ more) rest true dashed text later =
     subst (λ (v : ℕ). Agrees (walk_at false (open_at b) rows p) ((v ∷ y ∷ more) ∷ rest) (read None ((v ∷ y ∷ more) ∷ rest)) (settle_fault rules false (held_at rows p)) (settled_rows rules p rows)) (sym e)
     (dashed_start b rows p y more rest (y == 45) refl (subst (λ (v : ℕ). IsUtf8 (v ∷ y ∷ more)) e text) later)
 
-await_step : (kind : Kind) (rows : List Row) (word : Text) (rest : List Text) (d : Bool) → is_dashed word ≡ d → IsUtf8 word → Reads rest → Agrees (awaits kind rows) (word ∷ rest) (read (Some kind) (word ∷ rest)) [] rows
+await_step : (kind : Kind) (rows : List Row) (word : Text) (rest : List Text) (d : Bool) → is_dashed word ≡ d → IsUtf8 word → WalksAs rest → Agrees (awaits kind rows) (word ∷ rest) (read (Some kind) (word ∷ rest)) [] rows
 await_step kind rows word rest false plain text later =
     subst (λ (r : Option (List Said)). Agrees (awaits kind rows) (word ∷ rest) r [] rows) (sym (read_number kind word rest plain)) (number_step kind rows word rest (value_from word plain) later)
 await_step kind rows [] rest true dashed text later = absurd (cc)
@@ -510,7 +510,7 @@ await_step kind rows (x ∷ y ∷ more) rest true dashed text later =
     subst (λ (v : ℕ). Agrees (awaits kind rows) ((v ∷ y ∷ more) ∷ rest) (read (Some kind) ((v ∷ y ∷ more) ∷ rest)) [] rows) (sym e)
     (dashed_number kind rows y more rest (y == 45) refl (subst (λ (v : ℕ). IsUtf8 (v ∷ y ∷ more)) e text))
 
-pub all_read : (words : List Text) → All IsUtf8 words → Reads words
+pub all_read : (words : List Text) → All IsUtf8 words → WalksAs words
 unfolding walk_fault
 all_read [] texts = record { start = λ b rows p. (sym (or_else-nil _), refl); number = λ kind rows. missing kind rows }
 all_read (word ∷ rest) texts =

@@ -8,11 +8,11 @@ use Rattle.kq_model.specs.declared.event.By.{By}
 use Rattle.kq_model.specs.declared.event.Event.{Event}
 use Rattle.kq_model.specs.declared.event.Operation.TheVariants as operation
 use Rattle.kq_model.specs.declared.limits.Limits.{Limits}
-use Rattle.kq_model.specs.History.{History, cursor, log, mark, view_count}
+use Rattle.kq_model.specs.History.{History, cursor, log, view_cursor, view_count}
 use Rattle.kq_model.specs.Lawful.{AreLawful, AreLawfulAfter}
 use Rattle.kq_model.specs.Records.{picked}
 use Rattle.kq_model.proofs.Merging.{lawful_parts}
-use Rattle.kq_model.proofs.Views.{mark-rises}
+use Rattle.kq_model.proofs.Views.{view_cursor-rises}
 use Rattle.kq_reply.specs.declared.refusal.Refusal.TheVariants as refusals
 use Rattle.kq_reply.specs.declared.reply.Reply.{Reply}
 use Rattle.kq_reply.specs.declared.reply.Reply.TheVariants as replies
@@ -36,20 +36,20 @@ take_first place h later goes within = ap (take place) (sym goes.1) ∙ take-app
 cursor_begins : (first h : History) → IsPrefix first h → cursor first ≤ cursor h
 cursor_begins first h begins = let less = cursor_take (length first) h in let same = ap cursor (take-IsPrefix first h begins) in omega (arith, less, same)
 
-marks_after : (limits : Limits) (h more : History) → AreLawfulAfter limits h more → (view : ℕ) → view < view_count (log h) → mark h view ≤ mark (h ++ more) view
-marks_after limits h [] all view there = let same = ap (λ (g : History). mark g view) (append-nil h) in omega (arith, same)
+marks_after : (limits : Limits) (h more : History) → AreLawfulAfter limits h more → (view : ℕ) → view < view_count (log h) → view_cursor h view ≤ view_cursor (h ++ more) view
+marks_after limits h [] all view there = let same = ap (λ (g : History). view_cursor g view) (append-nil h) in omega (arith, same)
 marks_after limits h (e ∷ more) all view there =
-    let one = mark-rises limits h e view all.0 there in
+    let one = view_cursor-rises limits h e view all.0 there in
     let rest = marks_after limits (h ++ e ∷ []) more all.1 view (there_later h (h ++ e ∷ []) (upkeeps.Fold view) (e ∷ [], refl) there) in
-    let same = ap (λ (g : History). mark g view) (append_assoc h (e ∷ []) more) in
+    let same = ap (λ (g : History). view_cursor g view) (append_assoc h (e ∷ []) more) in
     omega (arith, one, rest, same)
 
--- no mark goes back
-pub marks_rise : (limits : Limits) (h later : History) → IsPrefix h later → AreLawful limits later → (view : ℕ) → view < view_count (log h) → mark h view ≤ mark later view
+-- no cursor goes back
+pub marks_rise : (limits : Limits) (h later : History) → IsPrefix h later → AreLawful limits later → (view : ℕ) → view < view_count (log h) → view_cursor h view ≤ view_cursor later view
 marks_rise limits h later goes lawful view there =
     let parts = lawful_parts limits h goes.0 (subst (AreLawful limits) (sym goes.1) lawful) in
     let rises = marks_after limits h goes.0 parts.1 view there in
-    let same = ap (λ (g : History). mark g view) goes.1 in
+    let same = ap (λ (g : History). view_cursor g view) goes.1 in
     omega (arith, rises, same)
 
 -- ---- what is kept up

@@ -6,7 +6,7 @@ use Rattle.kq_engine.specs.declared.upkeep.Upkeep.{Upkeep}
 use Rattle.kq_engine.specs.declared.upkeep.Upkeep.TheVariants as upkeeps
 use Rattle.kq_model.specs.declared.event.By.{By}
 use Rattle.kq_model.specs.declared.event.Operation.TheVariants as operation
-use Rattle.kq_model.specs.History.{History, cursor, log, mark}
+use Rattle.kq_model.specs.History.{History, cursor, log, view_cursor}
 use Rattle.kq_model.specs.Records.{picked}
 
 -- a place of a history that isn't before the end of an earlier one
@@ -23,7 +23,7 @@ pub record OverflowsLate (first h : History) (view : ℕ) : Type 0 where
 
 -- the view is materialized up to the earlier history's cursor or a later one, or its fold overflows
 abbrev pub IsForward : History → History → ℕ → Type 0
-IsForward first h view = (cursor first ≤ mark h view) ⊎ OverflowsLate first h view
+IsForward first h view = (cursor first ≤ view_cursor h view) ⊎ OverflowsLate first h view
 
 -- a merge of the table stands in the history after the end of the earlier one
 pub record MergedSince (first h : History) (table : ℕ) : Type 0 where

@@ -67,7 +67,7 @@ GoesRounds limits actor (chores ∷ rounds) old new = (mid : Worker) × GoesRoun
 abbrev pub begun : PassView → Worker
 begun pass = record { pass = pass; number = 0; short = false }
 
--- a pass after a worker's rounds, of which there is one or more: it has seen at least as much, and no commit was made through it; each chore made, under its last take, at most one event, a fold or a merge with the actor's mark; memory was wanting in one of them, or not
+-- a pass after a worker's rounds, of which there is one or more: it has seen at least as much, and no commit was made through it; each chore made, under its last take, at most one event, a fold or a merge with the actor's request id; memory was wanting in one of them, or not
 pub record Works (limits : Limits) (actor : ℕ) (old new : PassView) (short : Bool) : Type 0 where
   pub of : new.of ≡ old.of
   pub worth : new.worth ≡ old.worth

@@ -8,7 +8,7 @@ use std::time::Duration;
 // The longest rest, in milliseconds.
 const LONGEST: u64 = 50;
 
-/// How long the next rest is, in milliseconds: it grows while rounds do nothing.
+// How long the next rest is, in milliseconds: it grows while rounds do nothing.
 #[derive(Clone, Copy)]
 pub(crate) struct Rest {
     millis: u64,
@@ -19,7 +19,7 @@ impl Rest {
         Rest { millis: 1 }
     }
 
-    /// Sleeps, unless the round did something.
+    // Sleeps, unless the round did something.
     pub(crate) fn after<R: Wait>(self, rt: &R, moved: bool) -> Rest {
         if moved {
             return Rest::new();

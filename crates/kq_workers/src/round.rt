@@ -13,7 +13,7 @@ use kq_reply::{Refusal, Reply};
 use kq_world::{Gate, Point};
 use std::sync::Wait;
 
-/// Folds each view that is behind, and merges each table that has something to merge. True where something was done.
+// Folds each view that is behind, and merges each table that has something to merge. True where something was done.
 pub(crate) fn round<R: Wait, G: Gate>(post: &Post<R, G>, worker: &mut Worker) -> bool
     requires { worker.old.pass.of ≡ post.now.shared.now.turn }
     ensures round { HasRound post.now.shared.now.limits post.now.actor worker.old worker.new }

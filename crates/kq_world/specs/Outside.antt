@@ -16,20 +16,20 @@ abbrev pub unread_source : SourceView
 unread_source = record { taken = []; ended = false; left = None }
 
 -- between these moments the source gave these bytes
-pub record Gives (old new : SourceView) (bytes : List ℕ) : Type 0 where
+pub record Delivers (old new : SourceView) (bytes : List ℕ) : Type 0 where
   pub taken : Adds old.taken new.taken bytes
   pub left : Loses old.left new.left bytes
 
 -- a read gave n bytes, which are now at the front of the buffer. It met the end exactly where n is 0
-pub record GivesFront (old new : SourceView) (n : ℕ) (buf : List ℕ) : Type 0 where
+pub record DeliversFront (old new : SourceView) (n : ℕ) (buf : List ℕ) : Type 0 where
   pub within : n ≤ length buf
-  pub gives : Gives old new (take n buf)
+  pub gives : Delivers old new (take n buf)
   pub ended : new.ended ≡ (old.ended || (n == 0))
   pub at_end : n ≡ 0 → IsEmpty old.left
 
 -- `Ok n` gives the next n bytes. `Err` changes nothing
 abbrev pub Takes : {E : Type 0} → SourceView → SourceView → Result ℕ E → List ℕ → Type 0
-Takes old new (Ok n) buf = GivesFront old new n buf
+Takes old new (Ok n) buf = DeliversFront old new n buf
 Takes old new (Err e) buf = new ≡ old
 
 -- `Ok n` appends the first n bytes of the piece, at least one. `Err` appends nothing

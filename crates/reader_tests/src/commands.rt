@@ -28,7 +28,7 @@ fn put_quoted(page: &mut Page<'_>, word: &str, quoted: &Option<Quoted>) {
     }
 }
 
-/// The table, the properties, and ` < ROWS`.
+// The table, the properties, and ` < ROWS`.
 fn put_ingestion(page: &mut Page<'_>, ingestion: &Ingestion) {
     put_identifier(page, &ingestion.table);
     put_quoted(page, " tags=", &ingestion.properties.tags);
@@ -43,7 +43,7 @@ fn put_ingestion(page: &mut Page<'_>, ingestion: &Ingestion) {
     page.put(ingestion.body.as_str());
 }
 
-/// The view and its table, what is given, and the query as its text in braces and as its tree.
+// The view and its table, what is given, and the query as its text in braces and as its tree.
 fn put_view(page: &mut Page<'_>, view: &NewView) {
     page.put("view ");
     put_identifier(page, &view.name);
@@ -64,7 +64,7 @@ fn put_view(page: &mut Page<'_>, view: &NewView) {
     put_query(page, &view.body.tree);
 }
 
-/// The table, and the policy in brackets, so that blanks at its ends show.
+// The table, and the policy in brackets, so that blanks at its ends show.
 fn put_policy(page: &mut Page<'_>, target: &Identifier, policy: &str) {
     page.put("policy ");
     put_identifier(page, target);
@@ -271,7 +271,7 @@ fn as_many_as_120_brackets_are_read(rt: HostRuntime) -> Result<(), Fail> {
     Ok(())
 }
 
-/// The number of columns, twice, and of fields, the first field, and the place of the first repeated name.
+// The number of columns, twice, and of fields, the first field, and the place of the first repeated name.
 fn columns_printed(alloc: Global, columns: Columns) -> Result<String, AllocError> {
     let schema = columns.schema()?;
     let repeated = columns.repeated()?;

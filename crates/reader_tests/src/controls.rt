@@ -52,7 +52,7 @@ fn put_properties(page: &mut Page<'_>, list: &Option<PropertyList>) {
     }
 }
 
-/// The first and the last symbol, and the rows.
+// The first and the last symbol, and the rows.
 fn put_body(page: &mut Page<'_>, body: &Body) {
     page.put(" {");
     page.put_placed(body.first);

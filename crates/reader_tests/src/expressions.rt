@@ -8,7 +8,7 @@ pub fn put_expression(page: &mut Page<'_>, whole: &Expression) {
     put_whole(page, whole, 1000);
 }
 
-/// `depth` is how deep it may be.
+// `depth` is how deep it may be.
 #[cycle(expression)]
 fn put_whole(page: &mut Page<'_>, whole: &Expression, depth: usize) {
     let Some(depth) = depth.checked_sub(1) else {

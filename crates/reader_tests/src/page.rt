@@ -10,7 +10,7 @@ use std::alloc::{AllocError, Global};
 pub struct Page<'a> {
     text: &'a str,
     printed: String,
-    /// Memory was wanting, or a tree was too deep, so that a piece is missing.
+    // Memory was wanting, or a tree was too deep, so that a piece is missing.
     torn: bool,
 }
 

@@ -8,7 +8,7 @@ use std::alloc::{AllocError, Global};
 use std::process::Abort;
 use std::test::Fail;
 
-/// As queries, and as commands.
+// As queries, and as commands.
 fn assert_queries(rt: &impl Abort, alloc: Global, rows: &str) -> Result<(), AllocError> {
     assert_rows(rt, alloc, Reader::Query, rows)?;
     assert_rows(rt, alloc, Reader::Statement, rows)

@@ -4,7 +4,7 @@ use kq_syntax::{Kind, Quoted, Symbol, Word, word_of};
 use kq_token::{LexFault, TokenKind, Tokens, tokens};
 use std::alloc::{AllocError, Global};
 
-/// What a string with a quote at each end says.
+// What a string with a quote at each end says.
 fn quoted(bytes: &[u8]) -> Quoted {
     match bytes {
         [_, inner @ .., _] => match word_of(inner) {

@@ -49,7 +49,7 @@ fn words_are_found_by_their_exact_spelling(rt: HostRuntime) {
     assert!(rt; odd.is_none(), "at {odd:?}");
 }
 
-/// Whether it is a word of the language, which may be a name or not.
+// Whether it is a word of the language, which may be a name or not.
 fn is_known(text: &str, is_name: bool) -> bool {
     let word = word_of(text.as_bytes());
     word != Word::Other && Class::BareName.contains(Kind::Word(word)) == is_name
@@ -83,7 +83,7 @@ show ingestion failures extents journal fold merge export over
     assert!(rt; Class::BareName.contains(Kind::Word(Word::Other)));
 }
 
-/// Classes, each with a text of symbols that are in it and a text of symbols that are not.
+// Classes, each with a text of symbols that are in it and a text of symbols that are not.
 const CLASSES: [(Class, &str, &str); 23] = [
     (Class::Reserved(ReservedWord::By), "by", "or"),
     (Class::Leading(OperatorWord::Sort), "sort", "order"),
@@ -110,7 +110,7 @@ const CLASSES: [(Class, &str, &str); 23] = [
     (Class::PropertyValue, "true", "1"),
 ];
 
-/// Whether each symbol of the text is in the class, or each is not, and there is one.
+// Whether each symbol of the text is in the class, or each is not, and there is one.
 fn are_told(alloc: Global, class: Class, text: &str, want: bool) -> Result<bool, AllocError> {
     let symbols = symbols(alloc, text)?;
     let told = symbols.iter().all(|s| class.contains(s.kind) == want);
@@ -128,7 +128,7 @@ fn a_class_holds_its_kinds_alone(rt: HostRuntime) -> Result<(), Fail> {
     Ok(())
 }
 
-/// Whether the class is seen and taken, or refused, and what is left then.
+// Whether the class is seen and taken, or refused, and what is left then.
 fn expects(cursor: &mut Cursor<'_>, class: Class, is_seen: bool, left: &[Symbol]) -> bool {
     let ahead = cursor.rest().first().copied();
     let kind = cursor.ahead();
@@ -139,7 +139,7 @@ fn expects(cursor: &mut Cursor<'_>, class: Class, is_seen: bool, left: &[Symbol]
     sees == is_seen && is_taken && is_kind && cursor.rest() == left && cursor.left() == left.len()
 }
 
-/// Of the symbols of `1, 2)`.
+// Of the symbols of `1, 2)`.
 fn keeps_its_place(symbols: &[Symbol]) -> bool {
     let mut cursor = Cursor::new(symbols);
     let [_, behind @ ..] = symbols else {
@@ -215,7 +215,7 @@ fn one(alloc: Global, symbol: Symbol) -> Result<Vec<Symbol>, AllocError> {
     Ok(found)
 }
 
-/// The numbers behind the commas at which the cursor is, behind the first.
+// The numbers behind the commas at which the cursor is, behind the first.
 fn numbers(
     alloc: Global,
     turns: usize,
@@ -230,7 +230,7 @@ fn numbers(
     more(turns, COMMA, &behind, cursor, found)
 }
 
-/// Whether from the symbol at `from` on the symbols `want` are found, and how many are left then.
+// Whether from the symbol at `from` on the symbols `want` are found, and how many are left then.
 fn finds(
     alloc: Global,
     symbols: &[Symbol],
@@ -247,7 +247,7 @@ fn finds(
     Ok(found.as_slice() == want && cursor.left() == left)
 }
 
-/// Of the symbols of `1, 2)`.
+// Of the symbols of `1, 2)`.
 fn finds_more(alloc: Global, symbols: &[Symbol]) -> Result<bool, Stop> {
     let [one, _, two, _] = symbols else {
         return Ok(false);
@@ -276,7 +276,7 @@ fn more_parts_stand_behind_their_commas(rt: HostRuntime) -> Result<(), Fail> {
     Ok(())
 }
 
-/// Of the symbols of `1, 1, )`.
+// Of the symbols of `1, 1, )`.
 fn stops_at_the_last(alloc: Global, symbols: &[Symbol]) -> bool {
     let [first, rest @ ..] = symbols else {
         return false;

@@ -19,7 +19,7 @@ pub fn put_query(page: &mut Page<'_>, query: &Query) {
     put_tabular(page, &query.tabular);
 }
 
-/// `NAME=VALUE; ` where it is scalar, `NAME:ROWS; ` where it is tabular, and `NAME=VALUE:ROWS; ` where it is either.
+// `NAME=VALUE; ` where it is scalar, `NAME:ROWS; ` where it is tabular, and `NAME=VALUE:ROWS; ` where it is either.
 fn put_let(page: &mut Page<'_>, one: &Let) {
     page.put_name(one.name);
     match &one.right {
@@ -45,7 +45,7 @@ pub fn put_tabular(page: &mut Page<'_>, rows: &Tabular) {
     put_pipe(page, rows, 1000);
 }
 
-/// `SOURCE|OPERATOR|OPERATOR`. `depth` is how deep it may be.
+// `SOURCE|OPERATOR|OPERATOR`. `depth` is how deep it may be.
 #[cycle(tabular)]
 fn put_pipe(page: &mut Page<'_>, rows: &Tabular, depth: usize) {
     let Some(depth) = depth.checked_sub(1) else {

@@ -6,7 +6,7 @@ use kq_chain::{Chain, Memory, SlotList};
 use std::alloc::Global;
 use std::test::Fail;
 
-/// A chain with links to its heads 1, 0, 1 and 1, and the last of these links.
+// A chain with links to its heads 1, 0, 1 and 1, and the last of these links.
 fn linked(alloc: Global) -> Result<(Chain, usize), Memory>
     ensures { IfOk result (λ p. p.0.heads ≡ 3) }
 {
@@ -42,7 +42,7 @@ fn a_walk_visits_the_links_of_its_head_newest_first(rt: HostRuntime) -> Result<(
     Ok(())
 }
 
-/// A list of 10, 20 and 30, and the slot of 20.
+// A list of 10, 20 and 30, and the slot of 20.
 fn listed(alloc: Global) -> Result<(SlotList<u64>, usize), Fail>
     ensures { IfOk result (λ p. Contains (slots_of p.0.entries) p.1) }
 {
@@ -54,7 +54,7 @@ fn listed(alloc: Global) -> Result<(SlotList<u64>, usize), Fail>
     Ok((list, second))
 }
 
-/// The list of 10, 30 and 40, and whether 40 has the slot that 20 had.
+// The list of 10, 30 and 40, and whether 40 has the slot that 20 had.
 fn used_again(alloc: Global) -> Result<(SlotList<u64>, bool), Fail> {
     let (mut list, second) = listed(alloc)?;
     list.unlink(second);

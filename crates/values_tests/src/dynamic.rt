@@ -10,7 +10,7 @@ fn is_read(alloc: Global, text: &str) -> Result<bool, Memory> {
     Ok(value.is_some())
 }
 
-/// What a text prints as, once it is read.
+// What a text prints as, once it is read.
 fn printed(alloc: Global, text: &str) -> Result<Option<Bytes>, Memory> {
     let Some(value) = read_dyn(alloc, text)? else {
         return Ok(None);

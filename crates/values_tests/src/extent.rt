@@ -145,7 +145,7 @@ fn shared_with_id(rt: &(impl AllocGlobal + Abort), id: u64) -> Result<Arc<Extent
     Ok(shared)
 }
 
-/// The extents of a table with two, and what was shared before the second came to it.
+// The extents of a table with two, and what was shared before the second came to it.
 fn grown(rt: &(impl AllocGlobal + Abort)) -> Result<(TableExtents, TableExtents), Memory> {
     let mut table = TableExtents::new(rt.alloc());
     table.push(shared_with_id(rt, 4)?)?;

@@ -132,7 +132,7 @@ fn finds_raw_texts(rt: HostRuntime) {
     assert_raw(&rt, LiteralWord::Dynamic, b"dynamic(\")\")", "\")\"");
 }
 
-/// What the number at the index is, where it is one.
+// What the number at the index is, where it is one.
 fn number_at(tokens: &Tokens, index: usize) -> Option<i64>
     requires some { index < length tokens.now.tokens }
     requires read { AreTokens tokens.now.text tokens.now.tokens }

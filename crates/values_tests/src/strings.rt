@@ -154,7 +154,7 @@ fn is_text(piece: &Dyn, want: &str) -> bool {
     matches!(piece, Dyn::Text(text) if text.as_str() == want)
 }
 
-/// Whether it is an array of these strings.
+// Whether it is an array of these strings.
 fn are_pieces(pieces: &Dyn, want: &[&str]) -> bool {
     let Dyn::List(pieces) = pieces else {
         return false;

@@ -183,7 +183,7 @@ fn gives_parts(rt: HostRuntime) {
     assert_part(&rt, Unit::Hour, LAST, 23);
 }
 
-/// The printed form, read.
+// The printed form, read.
 fn datetime_again(ticks: i64) -> Option<i64>
     requires { IsTrue (is_moment_value ticks) }
     ensures { result ≡ Some ticks }

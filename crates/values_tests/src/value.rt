@@ -106,7 +106,7 @@ fn add_bags(alloc: Global, values: &mut Vec<Value>) -> Result<(), Memory> {
     Ok(())
 }
 
-/// Values in ascending order.
+// Values in ascending order.
 fn ascending(rt: &impl Abort, alloc: Global) -> Result<Vec<Value>, Memory> {
     let mut values = Vec::new(alloc);
     add_scalars(alloc, &mut values)?;
@@ -116,7 +116,7 @@ fn ascending(rt: &impl Abort, alloc: Global) -> Result<Vec<Value>, Memory> {
     Ok(values)
 }
 
-/// The first value that stands to this one otherwise than its place.
+// The first value that stands to this one otherwise than its place.
 fn misplaced_to(values: &[Value], at: usize, value: &Value) -> Option<usize> {
     for (other_at, other) in values.iter().enumerate() {
         if value.cmp(other) != at.cmp(&other_at) || value.same(other) != (at == other_at) {

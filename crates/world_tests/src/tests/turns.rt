@@ -10,10 +10,10 @@ use std::test::Fail;
 use std::thread;
 use std::thread::Threads;
 
-/// How many numbers each thread adds.
+// How many numbers each thread adds.
 const ROUNDS: u64 = 1000;
 
-/// A list of numbers, each of which counts one, under a name.
+// A list of numbers, each of which counts one, under a name.
 #[derive(Drop)]
 struct Log {
     items: Vec<u64>,
@@ -41,7 +41,7 @@ impl Grows for Log {
     }
 }
 
-/// A pass that comes back, and how many numbers were added with it.
+// A pass that comes back, and how many numbers were added with it.
 #[derive(Drop)]
 struct Added {
     pass: Pass<Log>,

@@ -1,4 +1,4 @@
-use Rattle.kq_model.specs.History.{cursor, log, mark}
+use Rattle.kq_model.specs.History.{cursor, log, view_cursor}
 use Rattle.kq_query.proofs.Standing.{few_held, view_over}
 use Rattle.kq_engine.proofs.Behind.{reads_since}
 use Rattle.kq_engine.proofs.folds.rows_since.Goals as goal
@@ -14,5 +14,5 @@ returns c =
     let h = c.args.snapshot.now.history in
     let v = c.args.view.now in
     let over = view_over c.args.snapshot.now c.args.number v c.cursor-to.ensures.sound c.requires in
-    reads_since (log h) v c.extents-extents.result.now (mark h c.args.number) (cursor h) c.columns_read.result.now c.view_cursor-above.result c.cursor-to.result c.delta.result over c.extents-extents.ensures.records
+    reads_since (log h) v c.extents-extents.result.now (view_cursor h c.args.number) (cursor h) c.columns_read.result.now c.view_cursor-above.result c.cursor-to.result c.delta.result over c.extents-extents.ensures.records
     c.columns_read.ensures c.view_cursor-above.ensures c.cursor-to.ensures.cursor c.delta.ensures.rows

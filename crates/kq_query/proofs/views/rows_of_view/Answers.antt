@@ -1,7 +1,7 @@
 use Rattle.std.proofs.Common.{◌≡◌, ◌++◌, ◌∙◌, ℕ, List, ap, subst, arith}
 use Rattle.kq_extent.specs.Seen.{held_records}
 use Rattle.kq_grouping.specs.Bodies.{AnswersMade, columns_read}
-use Rattle.kq_model.specs.History.{log, mark}
+use Rattle.kq_model.specs.History.{log, view_cursor}
 use Rattle.kq_pipe.specs.Outcomes.{Row}
 use Rattle.kq_plan.specs.Plans.{planned_of}
 use Rattle.kq_scan.specs.Delta.{rows_between}
@@ -48,11 +48,11 @@ returns-clause-rows c =
     let fields = c.columns_read.result.now in
     let over = view_over seen n v sound c.requires.stands in
     let to = reaches h k n c.up_to-to.result c.view_cursor-mark.result c.cursor-cursor.result c.up_to-to.ensures c.view_cursor-mark.ensures c.cursor-cursor.ensures.cursor in
-    let delta : c.own.result ≡ rows_between (mark h n) (read_to h k n) (columns_read (planned_of v.body)) records =
+    let delta : c.own.result ≡ rows_between (view_cursor h n) (read_to h k n) (columns_read (planned_of v.body)) records =
     c.own.ensures ∙ c.in_ok-rows.ensures.rows
     ∙ ap (λ (m : ℕ). rows_between m c.up_to-to.result fields records) c.view_cursor-mark.ensures
-    ∙ ap (λ (t : ℕ). rows_between (mark h n) t fields records) to
-    ∙ ap (λ (fs : List Field). rows_between (mark h n) (read_to h k n) fs records) c.columns_read.ensures in
+    ∙ ap (λ (t : ℕ). rows_between (view_cursor h n) t fields records) to
+    ∙ ap (λ (fs : List Field). rows_between (view_cursor h n) (read_to h k n) fs records) c.columns_read.ensures in
     gives_rows h n v k e.result.now c.part.result.now over e.ensures.records c.view_rows-2.result
     (view_from seen n v sound c.requires.stands) (view_up seen n v k sound c.requires.stands) (view_part h n v c.part.result.now c.requires.stands c.part.ensures)
     (table_typed h v.source over.stands e.ensures.typed)

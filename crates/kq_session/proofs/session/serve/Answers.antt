@@ -3,7 +3,7 @@ use Rattle.kq_session.specs.declared.end.End.TheVariants as ends
 use Rattle.kq_session.specs.Ends.{status_of}
 use Rattle.kq_session.specs.Exchanges.{Rises}
 use Rattle.kq_session.proofs.Completing.{Completes-explained, Rises-source, Rises-sink}
-use Rattle.kq_session.proofs.Serving.{Ends-none}
+use Rattle.kq_session.proofs.Serving.{SessionEnds-none}
 use Rattle.kq_session.proofs.Exchanging.{Rises-none}
 use Rattle.kq_session.proofs.session.serve.Goals as goal
 use Rattle.kq_session.proofs.session.serve.Goals.{in-Ok, in-Err}
@@ -16,7 +16,7 @@ returns-clause-explained g c = record {
   end = c.match-new.end;
   ends = elim c.match-new.branch [
     | in-Ok w ↦ rw (c.from_vec.ensures, w.end-is, w.session-is) w.serve_script-end.ensures.comes.ends
-    | in-Err w ↦ rw (c.from_vec.ensures, w.end-is, w.session-is, c.new-receipts.ensures.items) (Ends-none c.args.shared.now.limits c.args.actor _ _)
+    | in-Err w ↦ rw (c.from_vec.ensures, w.end-is, w.session-is, c.new-receipts.ensures.items) (SessionEnds-none c.args.shared.now.limits c.args.actor _ _)
   ];
   by_end = c.status-status.ensures ∙ ap (status_of c.match-new.end) (c.as_slice.ensures.value ∙ sym c.from_vec.ensures);
 }

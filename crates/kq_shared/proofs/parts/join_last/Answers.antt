@@ -1,7 +1,7 @@
 use Rattle.std.proofs.Common.{◌≡◌, ◌+◌, ◌-◌, ◌++◌, length, get_or, take, arith, ap, ◌∙◌, rules}
 use Rattle.std.specs.Arc.{arc_value}
 use Rattle.kq_shared.specs.declared.parts.Part.{Part}
-use Rattle.kq_shared.specs.Pieces.{items_of}
+use Rattle.kq_shared.specs.Pieces.{piece_items}
 use Rattle.kq_shared.proofs.Joined.{items_in-joined}
 use Rattle.kq_shared.proofs.parts.join_last.Goals as goal
 
@@ -16,4 +16,4 @@ returns-clause-items g c =
     let b : right ≡ get_or parts (n + 1) right = search rules in
     let p : Part _ = record { piece = c.in_ok-piece.piece; len = left.len + right.len } in
     let cut : c.truncate.new.self.items ≡ take (n + 1) parts = search rules in
-    rw cut (items_in-joined parts n left right p two a b (c.in_ok-piece.ensures.items ∙ ap (λ x. items_of x ++ items_of (arc_value c.in_ok-second.second)) c.in_ok-first.ensures ∙ ap (λ x. items_of (arc_value left.piece) ++ items_of x) c.in_ok-second.ensures))
+    rw cut (items_in-joined parts n left right p two a b (c.in_ok-piece.ensures.items ∙ ap (λ x. piece_items x ++ piece_items (arc_value c.in_ok-second.second)) c.in_ok-first.ensures ∙ ap (λ x. piece_items (arc_value left.piece) ++ piece_items x) c.in_ok-second.ensures))

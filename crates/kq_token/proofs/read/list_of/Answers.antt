@@ -1,6 +1,6 @@
 use Rattle.std.proofs.Common.{◌≡◌, ◌+◌, [], ◌∷◌, ◌++◌, true, subst, sym, ◌∙◌, arith, All, false}
 use Rattle.kq_token.specs.Lexed.{StandsIn}
-use Rattle.kq_token.specs.Reading.{Reads, is_complete}
+use Rattle.kq_token.specs.Reading.{Tokenizes, is_complete}
 use Rattle.kq_token.proofs.ReadingLemmas.{in_reading_start, in_reading_blank, reads_token, reads_stand, complete, at_end}
 use Rattle.kq_token.proofs.read.list_of.Goals as goal
 
@@ -19,13 +19,13 @@ is_complete-requires c =
 pub returns-then-is_complete : goal.returns-then-is_complete
 returns-then-is_complete c =
     let r = reads_token c.args.text.now c.loop-at.list.items c.loop-at.at c.in-Some.n c.blank_len-blank.result c.in-Some.kind c.loop-at.invariant c.blank_len-blank.ensures.value (omega arith) c.in-Some.ensures in
-    complete c.args.text.now c.push.new.self.items (c.loop-at.at + c.in-Some.n) (subst (λ ts. Reads c.args.text.now ts (c.loop-at.at + c.in-Some.n)) (sym c.in_ok-push.ensures.items) r) (subst (λ ts. is_complete c.args.text.now ts ≡ true) c.as_slice.ensures.value (sym c.is_complete.ensures ∙ c.if-is_complete.true))
+    complete c.args.text.now c.push.new.self.items (c.loop-at.at + c.in-Some.n) (subst (λ ts. Tokenizes c.args.text.now ts (c.loop-at.at + c.in-Some.n)) (sym c.in_ok-push.ensures.items) r) (subst (λ ts. is_complete c.args.text.now ts ≡ true) c.as_slice.ensures.value (sym c.is_complete.ensures ∙ c.if-is_complete.true))
 
 pub loop-at-preserved : goal.loop-at-preserved
 loop-at-preserved c =
     let r = reads_token c.args.text.now c.loop-at.list.items c.loop-at.at c.in-Some.n c.blank_len-blank.result c.in-Some.kind c.loop-at.invariant c.blank_len-blank.ensures.value (omega arith) c.in-Some.ensures in
     record {
-      reads = subst (λ ts. Reads c.args.text.now ts (c.loop-at.at + c.in-Some.n)) (sym c.in_ok-push.ensures.items) r;
+      reads = subst (λ ts. Tokenizes c.args.text.now ts (c.loop-at.at + c.in-Some.n)) (sym c.in_ok-push.ensures.items) r;
       incomplete = subst (λ ts. is_complete c.args.text.now ts ≡ false) c.as_slice.ensures.value (sym c.is_complete.ensures ∙ c.if-is_complete.false);
     }
 

@@ -5,7 +5,7 @@ use Rattle.kq_model.specs.History.{log, cursor as cursor_of}
 use Rattle.kq_model.specs.Lawful.{LawfulCommit}
 use Rattle.kq_model.proofs.Bounded.{few_made_by, few_rows}
 use Rattle.kq_catalog.specs.declared.intent.Intent.{Intent}
-use Rattle.kq_model.specs.Records.{made_in}
+use Rattle.kq_model.specs.Records.{extents_made}
 use Rattle.kq_catalog.specs.Edits.{IsPlan}
 use Rattle.kq_catalog.specs.Intents.{batch_of, commit_of}
 use Rattle.kq_catalog.specs.Seen.{CatalogView, hist}
@@ -42,5 +42,5 @@ plan_parts-requires-clause-rows c =
 pub returns-in-SetPolicy : goal.returns-in-SetPolicy
 returns-in-SetPolicy c =
     let now = c.args.self.now in
-    subst (λ (i : Intent). IsPlan (cursor_of (hist now) + 1) (1 + made_in (hist now)) i c.plan_policy.result) (sym c.in-SetPolicy.is)
-    (c.plan_policy.ensures (cursor_of (hist now) + 1) (1 + made_in (hist now)))
+    subst (λ (i : Intent). IsPlan (cursor_of (hist now) + 1) (1 + extents_made (hist now)) i c.plan_policy.result) (sym c.in-SetPolicy.is)
+    (c.plan_policy.ensures (cursor_of (hist now) + 1) (1 + extents_made (hist now)))

@@ -8,7 +8,7 @@ use Rattle.kq_model.specs.Edits.{FitAll, edits_of}
 use Rattle.kq_model.specs.History.{log, cursor as cursor_of}
 use Rattle.kq_model.specs.Lawful.{LawfulCommit}
 use Rattle.kq_model.specs.Policies.{noted_by, policies_with}
-use Rattle.kq_model.specs.Records.{made_in}
+use Rattle.kq_model.specs.Records.{extents_made}
 use Rattle.kq_model.proofs.Bounded.{few_made_by}
 use Rattle.kq_model.specs.Tagged.{is_tagged_by}
 use Rattle.kq_tagged.specs.Index.{Adds}
@@ -27,14 +27,14 @@ with_all-requires c =
     let v = c.args.self.now in
     let cs = c.in_ok-commit.field-0.changes.items in
     let sound : Sound v = subst Sound c.self.view_is c.self.invariant.sound in
-    let plan : IsPlan (cursor_of (hist v) + 1) (1 + made_in (hist v)) c.args.intent c.in_ok-commit.field-0 = c.in_ok-commit.ensures in
-    subst (λ (w : CatalogView). FitAll (tables_in w.held) (edits_by cs)) (sym c.self.view_is) (changes_fit v (cursor_of (hist v) + 1) (1 + made_in (hist v)) (commit_of c.args.intent) cs sound c.requires.lawful plan.edits)
+    let plan : IsPlan (cursor_of (hist v) + 1) (1 + extents_made (hist v)) c.args.intent c.in_ok-commit.field-0 = c.in_ok-commit.ensures in
+    subst (λ (w : CatalogView). FitAll (tables_in w.held) (edits_by cs)) (sym c.self.view_is) (changes_fit v (cursor_of (hist v) + 1) (1 + extents_made (hist v)) (commit_of c.args.intent) cs sound c.requires.lawful plan.edits)
 
 pub with_commit-requires-clause-stands : goal.with_commit-requires-clause-stands
 with_commit-requires-clause-stands c =
     let v : CatalogView = record { limits = c.self.inside.limits; history = c.self.inside.journal; held = c.self.inside.tables; policies = c.self.inside.policies; views = c.self.inside.views; failures = c.self.inside.failures } in
     let lawful : LawfulCommit v.limits (log (hist v)) (commit_of c.args.intent) = subst (λ (w : CatalogView). LawfulCommit w.limits (log (hist w)) (commit_of c.args.intent)) (sym c.self.view_is) c.requires.lawful in
-    let plan : IsPlan (cursor_of (hist c.args.self.now) + 1) (1 + made_in (hist c.args.self.now)) c.args.intent c.in_ok-commit.field-0 = c.in_ok-commit.ensures in
+    let plan : IsPlan (cursor_of (hist c.args.self.now) + 1) (1 + extents_made (hist c.args.self.now)) c.args.intent c.in_ok-commit.field-0 = c.in_ok-commit.ensures in
     subst (SetsStanding (length v.policies)) (sym plan.is) (sets_standing v (commit_of c.args.intent) c.self.invariant.sound lawful)
 
 pub with_commit-requires-clause-few : goal.with_commit-requires-clause-few
@@ -47,7 +47,7 @@ pub with_new-requires-clause-new : goal.with_new-requires-clause-new
 with_new-requires-clause-new c =
     let v : CatalogView = record { limits = c.self.inside.limits; history = c.self.inside.journal; held = c.self.inside.tables; policies = c.self.inside.policies; views = c.self.inside.views; failures = c.self.inside.failures } in
     let lawful : LawfulCommit v.limits (log (hist v)) (commit_of c.args.intent) = subst (λ (w : CatalogView). LawfulCommit w.limits (log (hist w)) (commit_of c.args.intent)) (sym c.self.view_is) c.requires.lawful in
-    let plan : IsPlan (cursor_of (hist c.args.self.now) + 1) (1 + made_in (hist c.args.self.now)) c.args.intent c.in_ok-commit.field-0 = c.in_ok-commit.ensures in
+    let plan : IsPlan (cursor_of (hist c.args.self.now) + 1) (1 + extents_made (hist c.args.self.now)) c.args.intent c.in_ok-commit.field-0 = c.in_ok-commit.ensures in
     subst (λ (o : Option HeldView). IfSome o (λ (x : HeldView). place_of x.view.name (names_held v.views) ≡ None)) (sym plan.view)
     (new_name v.limits (hist v) (cursor_of (hist c.args.self.now) + 1) c.args.intent v.views c.self.invariant.sound.views lawful)
 
@@ -80,7 +80,7 @@ overflow_add-result-2 c =
     let now = c.args.self.now in
     let v : CatalogView = record { limits = c.self.inside.limits; history = c.self.inside.journal; held = c.self.inside.tables; policies = c.self.inside.policies; views = c.self.inside.views; failures = c.self.inside.failures } in
     let few = made_few v c.self.invariant.sound in
-    let plan : IsPlan (cursor_of (hist now) + 1) (1 + made_in (hist now)) c.args.intent c.in_ok-commit.field-0 = c.in_ok-commit.ensures in
+    let plan : IsPlan (cursor_of (hist now) + 1) (1 + extents_made (hist now)) c.args.intent c.in_ok-commit.field-0 = c.in_ok-commit.ensures in
     let place = ap (λ (w : CatalogView). length (hist w)) c.self.view_is in
     omega (arith, c.self.invariant.made_count, few, place, c.place-place.ensures.place, c.place-place.ensures.small, plan.made, few_made_by now.limits (log (hist now)) (commit_of c.args.intent) c.requires.lawful)
 
@@ -91,10 +91,10 @@ invariant_of-result c =
     let commit = commit_of c.args.intent in
     let made = c.in_ok-commit.field-0 in
     let cs = made.changes.items in
-    let plan : IsPlan (cursor_of (hist now) + 1) (1 + made_in (hist now)) c.args.intent made = c.in_ok-commit.ensures in
+    let plan : IsPlan (cursor_of (hist now) + 1) (1 + extents_made (hist now)) c.args.intent made = c.in_ok-commit.ensures in
     let lawful : LawfulCommit v.limits (log (hist v)) commit = subst (λ (w : CatalogView). LawfulCommit w.limits (log (hist w)) commit) (sym c.self.view_is) c.requires.lawful in
-    let edits : edits_by cs ≡ edits_of (cursor_of (hist v) + 1) (1 + made_in (hist v)) commit =
-    subst (λ (w : CatalogView). edits_by cs ≡ edits_of (cursor_of (hist w) + 1) (1 + made_in (hist w)) commit) (sym c.self.view_is) plan.edits in
+    let edits : edits_by cs ≡ edits_of (cursor_of (hist v) + 1) (1 + extents_made (hist v)) commit =
+    subst (λ (w : CatalogView). edits_by cs ≡ edits_of (cursor_of (hist w) + 1) (1 + extents_made (hist w)) commit) (sym c.self.view_is) plan.edits in
     let journal : c.in_ok-journal.journal ≡ hist v ++ event_by c.args.by c.args.intent ∷ [] =
     c.in_ok-journal.ensures ∙ ap (λ (k : Commit). let e : Event = record { by = c.args.by; operation = operation.Commit k } in hist now ++ e ∷ []) plan.is
     ∙ ap (λ (w : CatalogView). hist w ++ event_by c.args.by c.args.intent ∷ []) (sym c.self.view_is) in

@@ -1,5 +1,5 @@
 use Rattle.std.proofs.Common.{◌≡◌, ◌<◌, ◌++◌, ◌∷◌, [], ap, sym, ◌∙◌, subst, arith}
-use Rattle.kq_model.specs.History.{mark}
+use Rattle.kq_model.specs.History.{view_cursor}
 use Rattle.kq_catalog.specs.Seen.{CatalogView, hist}
 use Rattle.kq_catalog.specs.Views.{WasFolded, fold_event}
 use Rattle.kq_catalog.proofs.Viewing.{Holds-fold, count_views, fold_stands}
@@ -16,7 +16,7 @@ pub invariant_of-result : goal.invariant_of-result
 invariant_of-result c =
     let v : CatalogView = record { limits = c.self.inside.limits; history = c.self.inside.journal; held = c.self.inside.tables; policies = c.self.inside.policies; views = c.self.inside.views; failures = c.self.inside.failures } in
     let folded : WasFolded (hist v) c.args.view c.args.to c.args.part = subst (λ (w : CatalogView). WasFolded (hist w) c.args.view c.args.to c.args.part) (sym c.self.view_is) c.requires.folded in
-    let ahead : mark (hist v) c.args.view < c.args.to = subst (λ (w : CatalogView). mark (hist w) c.args.view < c.args.to) (sym c.self.view_is) c.requires.ahead in
+    let ahead : view_cursor (hist v) c.args.view < c.args.to = subst (λ (w : CatalogView). view_cursor (hist w) c.args.view < c.args.to) (sym c.self.view_is) c.requires.ahead in
     let journal : c.in_ok-journal.journal ≡ hist v ++ fold_event c.args.by c.args.view c.args.to ∷ [] =
     c.in_ok-journal.ensures ∙ ap (λ (w : CatalogView). hist w ++ fold_event c.args.by c.args.view c.args.to ∷ []) (sym c.self.view_is) in
     rw (journal, c.in_ok-tables.ensures, c.in_ok-policies.ensures, c.in_ok-views.ensures, c.in_ok-failures.ensures, c.in_ok-tags.ensures)

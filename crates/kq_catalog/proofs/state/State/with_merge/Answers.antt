@@ -3,7 +3,7 @@ use Rattle.std.specs.Arc.{arc_value}
 use Rattle.kq_model.specs.declared.event.Event.{Event}
 use Rattle.kq_model.specs.declared.event.Operation.TheVariants as operation
 use Rattle.kq_model.specs.Edits.{changed}
-use Rattle.kq_model.specs.Records.{made_in, small_items}
+use Rattle.kq_model.specs.Records.{extents_made, small_items}
 use Rattle.kq_extent.specs.Seen.{ExtentView}
 use Rattle.kq_catalog.specs.Edits.{with_merged}
 use Rattle.kq_catalog.specs.Merges.{IsInFront, WasPicked, merge_event}
@@ -43,13 +43,13 @@ invariant_of-result-2 c =
     let m = c.args.merging in
     let picked : WasPicked (hist v) m = subst (λ (w : CatalogView). WasPicked (hist w) m) (sym c.self.view_is) c.requires.picked in
     let front : IsInFront (small_items (hist v) m.table) m.old = subst (λ (w : CatalogView). IsInFront (small_items (hist w) m.table) m.old) (sym c.self.view_is) c.requires.front in
-    let new : c.self.inside.made + 1 ≡ 1 + made_in (hist v) = omega (arith, c.self.invariant.made_count) in
+    let new : c.self.inside.made + 1 ≡ 1 + extents_made (hist v) = omega (arith, c.self.invariant.made_count) in
     let e : ℕ → ExtentView = λ n. record { id = n; records = m.extent.records; tags = m.extent.tags } in
-    let journal : c.in_ok-journal.journal ≡ hist v ++ merge_event c.args.by (1 + made_in (hist v)) m ∷ [] =
+    let journal : c.in_ok-journal.journal ≡ hist v ++ merge_event c.args.by (1 + extents_made (hist v)) m ∷ [] =
     c.in_ok-journal.ensures ∙ ap (λ (n : ℕ). let event : Event = record { by = c.args.by; operation = operation.Merge m.table m.old n } in hist now ++ event ∷ []) new
-    ∙ ap (λ (w : CatalogView). hist w ++ merge_event c.args.by (1 + made_in (hist v)) m ∷ []) (sym c.self.view_is) in
-    let extent : arc_value c.in_ok-extent.extent ≡ e (1 + made_in (hist v)) = c.in_ok-extent.ensures.ok ∙ c.with_id.ensures ∙ ap e new in
-    let tables : c.tables.inside.held ≡ changed (with_merged (length m.old) (e (1 + made_in (hist v)))) m.table v.held =
+    ∙ ap (λ (w : CatalogView). hist w ++ merge_event c.args.by (1 + extents_made (hist v)) m ∷ []) (sym c.self.view_is) in
+    let extent : arc_value c.in_ok-extent.extent ≡ e (1 + extents_made (hist v)) = c.in_ok-extent.ensures.ok ∙ c.with_id.ensures ∙ ap e new in
+    let tables : c.tables.inside.held ≡ changed (with_merged (length m.old) (e (1 + extents_made (hist v)))) m.table v.held =
     c.tables.view_is ∙ c.in_ok-tables.ensures ∙ ap (λ (n : ℕ). changed (with_merged n (arc_value c.in_ok-extent.extent)) m.table v.held) c.len.ensures
     ∙ ap (λ (x : ExtentView). changed (with_merged (length m.old) x) m.table v.held) extent in
     rw (journal, tables, c.in_ok-share.ensures, c.in_ok-share-2.ensures, c.in_ok-share-3.ensures, c.in_ok-share-4.ensures) (Holds-merge v c.self.inside.cursor c.self.inside.made c.args.by m c.self.inside.tags c.self.invariant picked front)
@@ -58,6 +58,6 @@ pub returns-clause-history : goal.returns-clause-history
 returns-clause-history c =
     let now = c.args.self.now in
     let m = c.args.merging in
-    let same = ap (λ (w : CatalogView). made_in (hist w)) c.self.view_is in
-    let new : c.self.inside.made + 1 ≡ 1 + made_in (hist now) = omega (arith, c.self.invariant.made_count, same) in
+    let same = ap (λ (w : CatalogView). extents_made (hist w)) c.self.view_is in
+    let new : c.self.inside.made + 1 ≡ 1 + extents_made (hist now) = omega (arith, c.self.invariant.made_count, same) in
     c.in_ok-journal.ensures ∙ ap (λ (n : ℕ). let event : Event = record { by = c.args.by; operation = operation.Merge m.table m.old n } in hist now ++ event ∷ []) new

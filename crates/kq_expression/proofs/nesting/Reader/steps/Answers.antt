@@ -1,7 +1,7 @@
 use Rattle.std.proofs.Common.{◌≡◌, true, false, map, sym, ◌∙◌}
 use Rattle.std.proofs.lemmas.List.{map_push}
 use Rattle.kq_expression.specs.Reading as spec
-use Rattle.kq_grammar.specs.Strengths.{step_sign}
+use Rattle.kq_grammar.specs.Precedences.{step_sign}
 use Rattle.kq_grammar.specs.Views.{step_of}
 use Rattle.kq_syntax.specs.Classes.{of}
 use Rattle.kq_syntax.specs.Forms.{many, starts, with_front}

@@ -1,6 +1,6 @@
 use Rattle.std.proofs.Common.{◌≡◌, ◌-◌, map}
 use Rattle.kq_expression.specs.Reading as spec
-use Rattle.kq_grammar.specs.Strengths.{step_sign}
+use Rattle.kq_grammar.specs.Precedences.{step_sign}
 use Rattle.kq_grammar.specs.Views.{step_of}
 use Rattle.kq_syntax.specs.Classes.{of}
 use Rattle.kq_syntax.specs.Forms.{many, with_front}

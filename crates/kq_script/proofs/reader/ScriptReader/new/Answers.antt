@@ -1,6 +1,6 @@
 use Rattle.std.proofs.Common.{refl, arith, []}
 use Rattle.kq_script.specs.Script.{script_blocks}
-use Rattle.kq_world.proofs.Told.{Gives-none}
+use Rattle.kq_world.proofs.Told.{Delivers-none}
 use Rattle.kq_script.proofs.reader.ScriptReader.new.Goals as goal
 
 pub returns-clause-reading : goal.returns-clause-reading
@@ -9,7 +9,7 @@ returns-clause-reading c = λ source. record {
   input_limit = refl;
   counted = refl;
   within = omega arith;
-  gives = Gives-none source;
+  gives = Delivers-none source;
   prefix = (script_blocks c.args.command [] source.ended, refl);
   state = (record { looked = []; ahead = refl; given_all = refl; block = c.new.ensures.empty }, refl);
 }

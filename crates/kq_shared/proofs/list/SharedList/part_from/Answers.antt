@@ -1,7 +1,7 @@
 use Rattle.std.proofs.Common.{◌≤◌, ◌<◌, length, map, sym, rules}
 use Rattle.std.specs.Arc.{arc_value}
 use Rattle.std.proofs.lemmas.List.{drop-map}
-use Rattle.kq_shared.specs.Pieces.{items_by, LeadsTo}
+use Rattle.kq_shared.specs.Pieces.{part_items, LeadsTo}
 use Rattle.kq_shared.specs.Standing.{StandsAt}
 use Rattle.kq_shared.proofs.Rows.{StandsAt-drop}
 use Rattle.kq_shared.proofs.Around.{Some_of, StandsAt-part, StandsAt-tail}
@@ -13,7 +13,7 @@ returns-then-index-len-clause-items g c =
     let part = c.index.result.now in
     let within : c.part_at-index.result.0 < length held.parts.items = search rules in
     let leads : LeadsTo held.parts.items c.args.at c.part_at-index.result.0 c.part_at-index.result.1 = rw c.as_slice.ensures.value at c.part_at-index.ensures in
-    let stands : StandsAt (items_by part) c.part_at-index.result.1 (map arc_value c.slice_from.result.now) = rw c.deref.ensures at c.slice_from.ensures.items in
+    let stands : StandsAt (part_items part) c.part_at-index.result.1 (map arc_value c.slice_from.result.now) = rw c.deref.ensures at c.slice_from.ensures.items in
     rw (sym c.self.view_is)
     (StandsAt-part held.parts.items (map arc_value held.tail.items) c.args.at c.part_at-index.result.0 c.part_at-index.result.1 part (map arc_value c.slice_from.result.now) leads
     (Some_of held.parts.items c.part_at-index.result.0 part within c.index.ensures) stands)

@@ -1,7 +1,7 @@
 use Rattle.std.proofs.Common.{◌≡◌, ◌+◌, ◌-◌, length, map, arith}
 use Rattle.std.specs.Arc.{arc_value}
 use Rattle.std.proofs.lemmas.List.{drop-map}
-use Rattle.kq_shared.specs.Pieces.{items_of}
+use Rattle.kq_shared.specs.Pieces.{piece_items}
 use Rattle.kq_shared.proofs.Rows.{StandsAt-drop, StandsAt-right}
 use Rattle.kq_shared.proofs.piece.Piece.+slice_from.Goals as goal
 
@@ -13,7 +13,7 @@ returns-in-Leaf-clause-items g t c =
 pub returns-else-at-count-clause-items : goal.returns-else-at-count-clause-items
 returns-else-at-count-clause-items g t c =
     let left = arc_value c.in-Pair.left in
-    let counted : length (items_of left) + (c.args.at - c.in-Pair.count) ≡ c.args.at = let has = rw c.in-Pair.is at c.requires.counts in omega (arith, has.0, c.if-at-count.false) in
+    let counted : length (piece_items left) + (c.args.at - c.in-Pair.count) ≡ c.args.at = let has = rw c.in-Pair.is at c.requires.counts in omega (arith, has.0, c.if-at-count.false) in
     rw c.in-Pair.is
-    (StandsAt-right (items_of left) (items_of (arc_value c.in-Pair.right)) c.args.at (c.args.at - c.in-Pair.count) (map arc_value c.slice_from-else-at-count.result.now) counted
+    (StandsAt-right (piece_items left) (piece_items (arc_value c.in-Pair.right)) c.args.at (c.args.at - c.in-Pair.count) (map arc_value c.slice_from-else-at-count.result.now) counted
     (rw c.deref-else-at-count.ensures at c.slice_from-else-at-count.ensures.items))

@@ -1,6 +1,6 @@
 use Rattle.std.proofs.Common.{◌∙◌, ap, sym, arith}
 use Rattle.kq_turn.specs.Passes.{TurnId}
-use Rattle.kq_turn.proofs.Gives.{allows_load}
+use Rattle.kq_turn.proofs.Giving.{allows_load}
 use Rattle.kq_turn.proofs.turn.Turn.load_count.Goals as goal
 
 pub load-requires : goal.load-requires

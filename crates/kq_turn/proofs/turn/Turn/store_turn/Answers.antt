@@ -1,6 +1,6 @@
 use Rattle.std.proofs.Common.{◌∙◌, ap, sym, arith}
 use Rattle.kq_turn.specs.Passes.{TurnId}
-use Rattle.kq_turn.proofs.Gives.{allows_give}
+use Rattle.kq_turn.proofs.Giving.{allows_give}
 use Rattle.kq_turn.proofs.turn.Turn.store_turn.Goals as goal
 
 pub store-requires : goal.store-requires

@@ -1,18 +1,18 @@
 -- How tightly operators bind.
 use Rattle.std.specs.Prelude.{ℕ, nat_le, ◌||◌, if◌then◌else◌}
-use Rattle.kq_grammar.specs.Trees.{Strength, disjunction, conjunction, sum, product, Tree, name, literal, group, call, path, signed, compare, within, between, chain}
+use Rattle.kq_grammar.specs.Trees.{Precedence, disjunction, conjunction, sum, product, Tree, name, literal, group, call, path, signed, compare, within, between, chain}
 use Rattle.kq_syntax.specs.declared.word.ReservedWord.TheVariants as r
 use Rattle.kq_syntax.specs.Classes as k
 use Rattle.kq_syntax.specs.Classes.{Class}
 
 -- from `or` at 0
-abbrev pub strength : Strength → ℕ
-strength disjunction = 0
-strength conjunction = 1
-strength sum = 3
-strength product = 4
+abbrev pub precedence : Precedence → ℕ
+precedence disjunction = 0
+precedence conjunction = 1
+precedence sum = 3
+precedence product = 4
 
-abbrev pub operators : Strength → Class
+abbrev pub operators : Precedence → Class
 operators disjunction = k.reserved r.Or
 operators conjunction = k.reserved r.And
 operators sum = k.additive
@@ -28,9 +28,9 @@ binding (signed t e) = 5
 binding (compare a t b) = 2
 binding (within a t e es) = 2
 binding (between a t b c) = 2
-binding (chain l e t f ls) = strength l
+binding (chain l e t f ls) = precedence l
 
--- an operator of strength 2
+-- an operator of precedence 2
 abbrev pub relation : Class
 relation x = k.comparison x || k.membership x || k.interval x
 
@@ -38,7 +38,7 @@ relation x = k.comparison x || k.membership x || k.interval x
 abbrev pub step_sign : Class
 step_sign x = k.dot x || k.open_bracket x
 
--- With these an expression of that strength or more goes on.
+-- With these an expression of that precedence or more goes on.
 abbrev pub goes_on : ℕ → Class
 goes_on n x =
     if operators disjunction x then nat_le n 0 else

@@ -7,10 +7,10 @@ use Rattle.kq_syntax.specs.declared.cursor.Stop.TheVariants.{Syntax, Memory}
 use Rattle.kq_syntax.specs.Forms.{Outcome}
 
 -- at Syntax the cursor stands at the first symbol with which the form can't go on
-abbrev pub Gives : {X Y : Type 0} → (X → Y) → Outcome Symbol Y → Result X Stop → List Symbol → Type 0
-Gives view outcome (Ok x) new = outcome ≡ Ok (view x, new)
-Gives view outcome (Err Syntax) new = outcome ≡ Err new
-Gives view outcome (Err Memory) new = Unit {0}
+abbrev pub IsOutcome : {X Y : Type 0} → (X → Y) → Outcome Symbol Y → Result X Stop → List Symbol → Type 0
+IsOutcome view outcome (Ok x) new = outcome ≡ Ok (view x, new)
+IsOutcome view outcome (Err Syntax) new = outcome ≡ Err new
+IsOutcome view outcome (Err Memory) new = Unit {0}
 
 abbrev pub kind_ahead : List Symbol → Option Kind
 kind_ahead [] = None
