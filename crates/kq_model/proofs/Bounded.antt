@@ -20,10 +20,10 @@ use Rattle.kq_model.specs.History.{History, Log, log, cursor, tables, table_name
 use Rattle.kq_model.specs.Lawful.{IsMerge, Lawful, LawfulOperation, LawfulCommit, AreLawful, AreLawfulAfter, name_violation, table_violation, view_violation, columns_violation, batch_violation, own_rows, IsIngestion}
 use Rattle.kq_model.specs.Lawful.Violation.{TooWide, TooMany, TooLong, NoCommits}
 use Rattle.kq_model.specs.Policies.{rules}
-use Rattle.kq_model.specs.Records.{records_given, given, items, items_after, extents, is_small_item, commit_extents, operation_extents, extents_made, merged, ExtentItem}
+use Rattle.kq_model.specs.Records.{records_given, commit_records, commit_items, items_after, extents, is_small_item, commit_extents, operation_extents, extents_made, merged, ExtentItem}
 use Rattle.kq_model.proofs.Changed.{length-changed}
 use Rattle.kq_model.proofs.Counted.{IsDerived-few}
-use Rattle.kq_model.proofs.Given.{IsBefore, IsShort, IsDerived-led, few_given_by, few_rows_in, given_by-past, items_by-past}
+use Rattle.kq_model.proofs.Given.{IsBefore, IsShort, IsDerived-led, few_given_by, few_rows_in, batch_records-past, batch_items-past}
 use Rattle.kq_model.proofs.Histories.{log-push, tables-push, views-push}
 use Rattle.kq_model.proofs.Passed.{IsDerived-short, IsDerived-stands}
 use Rattle.kq_model.proofs.Policies.{length-policies}
@@ -149,7 +149,7 @@ all_stand limits l batches failures ingestion =
     subst (λ (n : ℕ). All (IsBefore n) batches) count
     (IsDerived-stands limits.cascade (rules l) (DueGives l) own batches failures (omega (arith, within, count)) ingestion.derived)
 
-few_given : (limits : Limits) (l : Log) (t n : ℕ) (c : Commit) → LawfulCommit limits l c → length (given t n c) ≤ 1074790400
+few_given : (limits : Limits) (l : Log) (t n : ℕ) (c : Commit) → LawfulCommit limits l c → length (commit_records t n c) ≤ 1074790400
 few_given limits l t n (CreateTable name schema) lawful = omega arith
 few_given limits l t n (CreateView view) lawful = omega arith
 few_given limits l t n (SetPolicy table entries) lawful = omega arith
@@ -165,19 +165,19 @@ few_made_by limits l (SetPolicy table entries) lawful = omega arith
 few_made_by limits l (AlterMerge table columns) lawful = omega arith
 few_made_by limits l (Ingest batches failures) lawful = few_batches limits l batches failures lawful
 
-given_past : (limits : Limits) (l : Log) (t n : ℕ) (c : Commit) → LawfulCommit limits l c → length (tables l) ≤ t → given t n c ≡ []
+given_past : (limits : Limits) (l : Log) (t n : ℕ) (c : Commit) → LawfulCommit limits l c → length (tables l) ≤ t → commit_records t n c ≡ []
 given_past limits l t n (CreateTable name schema) lawful past = refl
 given_past limits l t n (CreateView view) lawful past = refl
 given_past limits l t n (SetPolicy table entries) lawful past = refl
 given_past limits l t n (AlterMerge table columns) lawful past = refl
-given_past limits l t n (Ingest batches failures) lawful past = given_by-past (length (tables l)) t n 0 batches (all_stand limits l batches failures lawful.0) past
+given_past limits l t n (Ingest batches failures) lawful past = batch_records-past (length (tables l)) t n 0 batches (all_stand limits l batches failures lawful.0) past
 
-items_past : (limits : Limits) (l : Log) (t n id : ℕ) (c : Commit) → LawfulCommit limits l c → length (tables l) ≤ t → items t n id c ≡ []
+items_past : (limits : Limits) (l : Log) (t n id : ℕ) (c : Commit) → LawfulCommit limits l c → length (tables l) ≤ t → commit_items t n id c ≡ []
 items_past limits l t n id (CreateTable name schema) lawful past = refl
 items_past limits l t n id (CreateView view) lawful past = refl
 items_past limits l t n id (SetPolicy table entries) lawful past = refl
 items_past limits l t n id (AlterMerge table columns) lawful past = refl
-items_past limits l t n id (Ingest batches failures) lawful past = items_by-past (length (tables l)) t n 0 id batches (all_stand limits l batches failures lawful.0) past
+items_past limits l t n id (Ingest batches failures) lawful past = batch_items-past (length (tables l)) t n 0 id batches (all_stand limits l batches failures lawful.0) past
 
 -- what each lawful event keeps holds of each lawful history
 pub AreLawful-induct : (limits : Limits) (P : History → Type 0) → P [] → ((h : History) (e : Event) → P h → Lawful limits h e → P (h ++ e ∷ [])) → (h : History) → AreLawful limits h → P h
@@ -206,11 +206,11 @@ bounded_more limits l c before lawful =
       few_views = more_views limits l c lawful before.few_views;
       few_commits = let left = room_left limits l c lawful in omega (arith, left, longer);
       few_records = λ t.
-          let more = ap length (records-push l t c) ∙ length-append (records_given l t) (given t (length l + 1) c) in
+          let more = ap length (records-push l t c) ∙ length-append (records_given l t) (commit_records t (length l + 1) c) in
           omega (arith, more, before.few_records t, few_given limits l t (length l + 1) c lawful, longer);
       no_records = λ t past.
           let still : length (tables l) ≤ t = omega (arith, fewer, past) in
-          records-push l t c ∙ ap (λ (rs : List Record). rs ++ given t (length l + 1) c) (before.no_records t still) ∙ given_past limits l t (length l + 1) c lawful still;
+          records-push l t c ∙ ap (λ (rs : List Record). rs ++ commit_records t (length l + 1) c) (before.no_records t still) ∙ given_past limits l t (length l + 1) c lawful still;
     }
 
 event_more : (limits : Limits) (h : History) (e : Event) → IsBounded limits (log h) → Lawful limits h e → IsBounded limits (log (h ++ e ∷ []))
@@ -253,7 +253,7 @@ no_items limits h all = AreLawful-induct limits HasNone (λ t past. refl) one_mo
     by_operation : (g : History) (o : Operation) → LawfulOperation limits g o → HasNone g → (t : ℕ) → length (tables (log g ++ commits_of o)) ≤ t → items_after t (cursor g + 1) (1 + extents_made g) o (extents g t) ≡ []
     by_operation g (operation.Commit c) lawful before t past =
         let still : length (tables (log g)) ≤ t = omega (arith, no_fewer (log g) c, past) in
-        ap (λ (xs : List ExtentItem). xs ++ items t (cursor g + 1) (1 + extents_made g) c) (before t still) ∙ items_past limits (log g) t (cursor g + 1) (1 + extents_made g) c lawful still
+        ap (λ (xs : List ExtentItem). xs ++ commit_items t (cursor g + 1) (1 + extents_made g) c) (before t still) ∙ items_past limits (log g) t (cursor g + 1) (1 + extents_made g) c lawful still
     by_operation g (operation.Fold view to) lawful before t past = before t (subst (λ (l : Log). length (tables l) ≤ t) (append-nil (log g)) past)
     by_operation g (operation.Merge table old new) lawful before t past =
         let none = before t (subst (λ (l : Log). length (tables l) ≤ t) (append-nil (log g)) past) in

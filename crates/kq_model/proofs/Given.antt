@@ -69,16 +69,16 @@ abbrev pub IsBefore : ℕ → Batch → Type 0
 IsBefore n b = b.table < n
 
 -- batches of tables before a number give none from there on
-pub given_by-past : (n t cursor ordinal : ℕ) (bs : List Batch) → All (IsBefore n) bs → n ≤ t → batch_records t cursor ordinal bs ≡ []
-given_by-past n t cursor ordinal [] all past = refl
-given_by-past n t cursor ordinal (b ∷ bs) all past =
+pub batch_records-past : (n t cursor ordinal : ℕ) (bs : List Batch) → All (IsBefore n) bs → n ≤ t → batch_records t cursor ordinal bs ≡ []
+batch_records-past n t cursor ordinal [] all past = refl
+batch_records-past n t cursor ordinal (b ∷ bs) all past =
     let here : b.table < n = All-head (IsBefore n) b bs all in
     ap (λ (is : Bool). cond is (numbered cursor ordinal b.rows ++ batch_records t cursor (ordinal + length b.rows) bs) (batch_records t cursor ordinal bs)) (ne_eqb b.table t (λ same. absurd (omega (arith, here, past, same))))
-    ∙ given_by-past n t cursor ordinal bs (All-tail (IsBefore n) b bs all) past
+    ∙ batch_records-past n t cursor ordinal bs (All-tail (IsBefore n) b bs all) past
 
-pub items_by-past : (n t cursor ordinal id : ℕ) (bs : List Batch) → All (IsBefore n) bs → n ≤ t → batch_items t cursor ordinal id bs ≡ []
-items_by-past n t cursor ordinal id [] all past = refl
-items_by-past n t cursor ordinal id (b ∷ bs) all past =
+pub batch_items-past : (n t cursor ordinal id : ℕ) (bs : List Batch) → All (IsBefore n) bs → n ≤ t → batch_items t cursor ordinal id bs ≡ []
+batch_items-past n t cursor ordinal id [] all past = refl
+batch_items-past n t cursor ordinal id (b ∷ bs) all past =
     let here : b.table < n = All-head (IsBefore n) b bs all in
     ap (λ (is : Bool). cond is (batch_item id cursor ordinal b ∷ batch_items t cursor (ordinal + length b.rows) (id + 1) bs) (batch_items t cursor ordinal (id + 1) bs)) (ne_eqb b.table t (λ same. absurd (omega (arith, here, past, same))))
-    ∙ items_by-past n t cursor ordinal (id + 1) bs (All-tail (IsBefore n) b bs all) past
+    ∙ batch_items-past n t cursor ordinal (id + 1) bs (All-tail (IsBefore n) b bs all) past

@@ -14,7 +14,7 @@ use Rattle.kq_model.specs.declared.event.Operation.{Operation}
 use Rattle.kq_model.specs.declared.event.Operation.TheVariants as operation
 use Rattle.kq_model.specs.History.{History, cursor}
 use Rattle.kq_model.specs.Lawful.{IsMerge, Lawful, LawfulOperation, AreLawful, AreLawfulAfter}
-use Rattle.kq_model.specs.Records.{ExtentItem, extents, has_id_of, is_small_item, item_ids, batch_item, items, items_after, batch_items, commit_extents, extents_made, operation_extents, merged, picked, small_items, united}
+use Rattle.kq_model.specs.Records.{ExtentItem, extents, has_id_of, is_small_item, item_ids, batch_item, commit_items, items_after, batch_items, commit_extents, extents_made, operation_extents, merged, picked, small_items, united}
 use Rattle.kq_model.proofs.Bounded.{AreLawful-induct}
 use Rattle.kq_model.proofs.Histories.{AreLawful-push}
 use Rattle.kq_model.proofs.Records.{extents-push, extents_made-push}
@@ -73,7 +73,7 @@ items-rise t cursor ordinal id (b ∷ bs) = by_test (nat_eq b.table t) (λ o. it
     by_test true later = (omega arith, subst (λ (n : ℕ). Rises (id + 1) n (batch_items t cursor (ordinal + length b.rows) (id + 1) bs)) high (later (ordinal + length b.rows)))
     by_test false later = Rises-lower (id + 1) id (id + length (b ∷ bs)) (batch_items t cursor ordinal (id + 1) bs) (omega arith) (subst (λ (n : ℕ). Rises (id + 1) n (batch_items t cursor ordinal (id + 1) bs)) high (later ordinal))
 
-commit-rises : (t cursor id : ℕ) (c : Commit) → Rises id (id + commit_extents c) (items t cursor id c)
+commit-rises : (t cursor id : ℕ) (c : Commit) → Rises id (id + commit_extents c) (commit_items t cursor id c)
 commit-rises t cursor id (CreateTable name schema) = omega arith
 commit-rises t cursor id (CreateView view) = omega arith
 commit-rises t cursor id (SetPolicy table entries) = omega arith
@@ -83,7 +83,7 @@ commit-rises t cursor id (Ingest batches failures) = items-rise t cursor 0 id ba
 -- and so do all extents of a table after one more operation
 after-rises : (h : History) (t low : ℕ) (o : Operation) (is : List ExtentItem) → ((table : ℕ) (old : List ℕ) (new : ℕ) → o ≡ operation.Merge table old new → new ≡ 1 + extents_made h)
     → Rises low (1 + extents_made h) is → Rises low (1 + extents_made h + operation_extents o) (items_after t (cursor h + 1) (1 + extents_made h) o is)
-after-rises h t low (operation.Commit c) is next rises = Rises-append low (1 + extents_made h) (1 + extents_made h + commit_extents c) is (items t (cursor h + 1) (1 + extents_made h) c) rises (commit-rises t (cursor h + 1) (1 + extents_made h) c)
+after-rises h t low (operation.Commit c) is next rises = Rises-append low (1 + extents_made h) (1 + extents_made h + commit_extents c) is (commit_items t (cursor h + 1) (1 + extents_made h) c) rises (commit-rises t (cursor h + 1) (1 + extents_made h) c)
 after-rises h t low (operation.Fold view to) is next rises = Rises-higher low (1 + extents_made h) (1 + extents_made h + 0) is (omega arith) rises
 after-rises h t low (operation.Merge table old new) is next rises = by_test (nat_eq table t)
   where
@@ -340,7 +340,7 @@ stays_more limits first others t g e all low stays lawful = by_operation e.opera
 
     by_operation : (o : Operation) → e.operation ≡ o → LawfulOperation limits g o → Stays first others t next
     by_operation (operation.Commit c) is lawful =
-        let new = items t (cursor g + 1) (1 + extents_made g) c in
+        let new = commit_items t (cursor g + 1) (1 + extents_made g) c in
         longer new (at (operation.Commit c) is) (subst (λ (n : ℕ). Rises (1 + extents_made g) n new) (high (operation.Commit c) is) (commit-rises t (cursor g + 1) (1 + extents_made g) c)) stays
     by_operation (operation.Fold view to) is lawful =
         longer [] (at (operation.Fold view to) is ∙ sym (append-nil (extents g t))) (let more = high (operation.Fold view to) is in omega (arith, more)) stays

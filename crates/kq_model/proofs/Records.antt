@@ -7,18 +7,18 @@ use Rattle.kq_model.specs.declared.batch.Batch.{Batch}
 use Rattle.kq_model.specs.declared.event.Commit.{Commit}
 use Rattle.kq_model.specs.declared.event.Event.{Event}
 use Rattle.kq_model.specs.History.{History, Log, log, cursor, commits_of}
-use Rattle.kq_model.specs.Records.{given, rows_to, records_from, records_given, ExtentItem, items_after, operation_extents, extents_made, extents_from, extents}
+use Rattle.kq_model.specs.Records.{commit_records, rows_to, records_from, records_given, ExtentItem, items_after, operation_extents, extents_made, extents_from, extents}
 
-records_from-push : (t n : ℕ) (l : Log) (c : Commit) → records_from t n (l ++ c ∷ []) ≡ records_from t n l ++ given t (n + length l + 1) c
-records_from-push t n [] c = rw add-zero (append-nil (given t (n + 1) c))
+records_from-push : (t n : ℕ) (l : Log) (c : Commit) → records_from t n (l ++ c ∷ []) ≡ records_from t n l ++ commit_records t (n + length l + 1) c
+records_from-push t n [] c = rw add-zero (append-nil (commit_records t (n + 1) c))
 records_from-push t n (x ∷ l) c =
     let same : n + 1 + length l + 1 ≡ n + length (x ∷ l) + 1 = omega arith in
-    ap (λ (rs : List Record). given t (n + 1) x ++ rs) (records_from-push t (n + 1) l c ∙ ap (λ (k : ℕ). records_from t (n + 1) l ++ given t k c) same)
-    ∙ sym (append_assoc (given t (n + 1) x) (records_from t (n + 1) l) _)
+    ap (λ (rs : List Record). commit_records t (n + 1) x ++ rs) (records_from-push t (n + 1) l c ∙ ap (λ (k : ℕ). records_from t (n + 1) l ++ commit_records t k c) same)
+    ∙ sym (append_assoc (commit_records t (n + 1) x) (records_from t (n + 1) l) _)
 
 -- a commit gives its rows after all that were given before
-pub records-push : (l : Log) (t : ℕ) (c : Commit) → records_given (l ++ c ∷ []) t ≡ records_given l t ++ given t (length l + 1) c
-records-push l t c = subst (λ (k : ℕ). records_from t 0 (l ++ c ∷ []) ≡ records_from t 0 l ++ given t (k + 1) c) (zero-add (length l)) (records_from-push t 0 l c)
+pub records-push : (l : Log) (t : ℕ) (c : Commit) → records_given (l ++ c ∷ []) t ≡ records_given l t ++ commit_records t (length l + 1) c
+records-push l t c = subst (λ (k : ℕ). records_from t 0 (l ++ c ∷ []) ≡ records_from t 0 l ++ commit_records t (k + 1) c) (zero-add (length l)) (records_from-push t 0 l c)
 
 pub extents_made-push : (h : History) (e : Event) → extents_made (h ++ e ∷ []) ≡ extents_made h + operation_extents e.operation
 extents_made-push [] e = omega arith

@@ -20,7 +20,7 @@ use Rattle.kq_model.specs.Edits.{edited_by, edits_of, item_with, new_extents, wi
 use Rattle.kq_model.specs.Changed.{changed}
 use Rattle.kq_model.specs.History.{History, Log, log, cursor, tables, widened_table, commits_of}
 use Rattle.kq_model.specs.Lawful.{AreLawful}
-use Rattle.kq_model.specs.Records.{records_given, extents, batch_records, items, batch_items, items_after, batch_item, rows_to, extents_made, merged, ExtentItem}
+use Rattle.kq_model.specs.Records.{records_given, extents, batch_records, commit_items, batch_items, items_after, batch_item, rows_to, extents_made, merged, ExtentItem}
 use Rattle.kq_model.specs.Tables.{TableState, states_from, table_states}
 use Rattle.kq_model.proofs.Bounded.{IsBounded-lawful, no_items}
 use Rattle.kq_model.proofs.Histories.{log-push, tables-push}
@@ -157,7 +157,7 @@ states_by-push h e l is =
     ∙ states_same 0 (tables l) (records_given l) (records_given l) (extents (h ++ e ∷ [])) (λ m. items_after m (cursor h + 1) (1 + extents_made h) e.operation (extents h m)) (λ m some. refl) (λ m some. extents-push h m e)
 
 commit_more : (limits : Limits) (h : History) (c : Commit) → AreLawful limits h
-    → states_by 0 (tables (log h ++ c ∷ [])) (records_given (log h ++ c ∷ [])) (λ m. extents h m ++ items m (cursor h + 1) (1 + extents_made h) c) ≡ edited_by (states_at h) (edits_of (cursor h + 1) (1 + extents_made h) c)
+    → states_by 0 (tables (log h ++ c ∷ [])) (records_given (log h ++ c ∷ [])) (λ m. extents h m ++ commit_items m (cursor h + 1) (1 + extents_made h) c) ≡ edited_by (states_at h) (edits_of (cursor h + 1) (1 + extents_made h) c)
 commit_more limits h (CreateTable name schema) lawful =
     let l = log h in
     let c = CreateTable name schema in
@@ -195,10 +195,10 @@ commit_more limits h (AlterMerge table columns) lawful =
 commit_more limits h (Ingest batches failures) lawful =
     let l = log h in
     let c = Ingest batches failures in
-    ap (λ (ts : List Table). states_by 0 ts (records_given (l ++ c ∷ [])) (λ m. extents h m ++ items m (cursor h + 1) (1 + extents_made h) c)) (tables-push l c)
+    ap (λ (ts : List Table). states_by 0 ts (records_given (l ++ c ∷ [])) (λ m. extents h m ++ commit_items m (cursor h + 1) (1 + extents_made h) c)) (tables-push l c)
     ∙ states_same 0 (tables l)
     (records_given (l ++ c ∷ [])) (λ m. records_given l m ++ batch_records m (length l + 1) 0 batches)
-    (λ m. extents h m ++ items m (cursor h + 1) (1 + extents_made h) c) (λ m. extents h m ++ batch_items m (length l + 1) 0 (1 + extents_made h) batches)
+    (λ m. extents h m ++ commit_items m (cursor h + 1) (1 + extents_made h) c) (λ m. extents h m ++ batch_items m (length l + 1) 0 (1 + extents_made h) batches)
     (λ m some. records-push l m c) (λ m some. refl)
     ∙ sym (all_extents (tables l) (records_given l) (extents h) (length l + 1) (1 + extents_made h) [] batches)
 

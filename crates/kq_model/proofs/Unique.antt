@@ -11,7 +11,7 @@ use Rattle.kq_model.specs.declared.batch.Batch.{Batch}
 use Rattle.kq_model.specs.declared.event.Commit.{Commit}
 use Rattle.kq_model.specs.declared.event.Commit.TheVariants.{CreateTable, SetPolicy, CreateView, AlterMerge, Ingest}
 use Rattle.kq_model.specs.History.{Log}
-use Rattle.kq_model.specs.Records.{given, batch_records, ids_of, records, records_from, records_given, schema_of}
+use Rattle.kq_model.specs.Records.{commit_records, batch_records, ids_of, records, records_from, records_given, schema_of}
 use Rattle.kq_widened.specs.Widened.{widened_records}
 
 -- a cursor and an ordinal that aren't behind others
@@ -44,27 +44,27 @@ numbered-climbs c o (r ∷ rows) =
     (inr (refl, omega arith), subst (λ (n : ℕ). Climbs c (o + 1) c n (numbered c (o + 1) rows)) end (numbered-climbs c (o + 1) rows))
 
 -- the rows of a commit have its cursor
-given_by-climbs : (t c o : ℕ) (bs : List Batch) → Climbs c o (c + 1) 0 (batch_records t c o bs)
-given_by-climbs t c o [] = inl (omega arith)
-given_by-climbs t c o (b ∷ bs) = by_test (nat_eq b.table t) (given_by-climbs t c (o + length b.rows) bs) (given_by-climbs t c o bs)
+batch_records-climb : (t c o : ℕ) (bs : List Batch) → Climbs c o (c + 1) 0 (batch_records t c o bs)
+batch_records-climb t c o [] = inl (omega arith)
+batch_records-climb t c o (b ∷ bs) = by_test (nat_eq b.table t) (batch_records-climb t c (o + length b.rows) bs) (batch_records-climb t c o bs)
   where
     by_test : (is : Bool) → Climbs c (o + length b.rows) (c + 1) 0 (batch_records t c (o + length b.rows) bs) → Climbs c o (c + 1) 0 (batch_records t c o bs)
         → Climbs c o (c + 1) 0 (cond is (numbered c o b.rows ++ batch_records t c (o + length b.rows) bs) (batch_records t c o bs))
     by_test true later same = Climbs-append c o c (o + length b.rows) (c + 1) 0 (numbered c o b.rows) (batch_records t c (o + length b.rows) bs) (numbered-climbs c o b.rows) later
     by_test false later same = same
 
-given-climbs : (t c : ℕ) (commit : Commit) → Climbs c 0 (c + 1) 0 (given t c commit)
-given-climbs t c (CreateTable name schema) = inl (omega arith)
-given-climbs t c (CreateView view) = inl (omega arith)
-given-climbs t c (SetPolicy table entries) = inl (omega arith)
-given-climbs t c (AlterMerge table columns) = inl (omega arith)
-given-climbs t c (Ingest batches failures) = given_by-climbs t c 0 batches
+commit_records-climb : (t c : ℕ) (commit : Commit) → Climbs c 0 (c + 1) 0 (commit_records t c commit)
+commit_records-climb t c (CreateTable name schema) = inl (omega arith)
+commit_records-climb t c (CreateView view) = inl (omega arith)
+commit_records-climb t c (SetPolicy table entries) = inl (omega arith)
+commit_records-climb t c (AlterMerge table columns) = inl (omega arith)
+commit_records-climb t c (Ingest batches failures) = batch_records-climb t c 0 batches
 
 records-climb : (t n : ℕ) (l : Log) → Climbs (n + 1) 0 (n + length l + 1) 0 (records_from t n l)
 records-climb t n [] = inr (omega arith, omega arith)
 records-climb t n (c ∷ l) =
     let end : n + 1 + length l + 1 ≡ n + length (c ∷ l) + 1 = omega arith in
-    Climbs-append (n + 1) 0 (n + 1 + 1) 0 (n + length (c ∷ l) + 1) 0 (given t (n + 1) c) (records_from t (n + 1) l) (given-climbs t (n + 1) c)
+    Climbs-append (n + 1) 0 (n + 1 + 1) 0 (n + length (c ∷ l) + 1) 0 (commit_records t (n + 1) c) (records_from t (n + 1) l) (commit_records-climb t (n + 1) c)
     (subst (λ (k : ℕ). Climbs (n + 1 + 1) 0 k 0 (records_from t (n + 1) l)) end (records-climb t (n + 1) l))
 
 -- further columns leave the ids
@@ -114,5 +114,5 @@ pub records_from-append : (t n : ℕ) (l more : Log) → records_from t n (l ++ 
 records_from-append t n [] more = ap (λ (k : ℕ). records_from t k more) (sym (add-zero n))
 records_from-append t n (c ∷ l) more =
     let same : n + 1 + length l ≡ n + length (c ∷ l) = omega arith in
-    ap (λ (rs : List Record). given t (n + 1) c ++ rs) (records_from-append t (n + 1) l more ∙ ap (λ (k : ℕ). records_from t (n + 1) l ++ records_from t k more) same)
-    ∙ sym (append_assoc (given t (n + 1) c) (records_from t (n + 1) l) (records_from t (n + length (c ∷ l)) more))
+    ap (λ (rs : List Record). commit_records t (n + 1) c ++ rs) (records_from-append t (n + 1) l more ∙ ap (λ (k : ℕ). records_from t (n + 1) l ++ records_from t k more) same)
+    ∙ sym (append_assoc (commit_records t (n + 1) c) (records_from t (n + 1) l) (records_from t (n + length (c ∷ l)) more))

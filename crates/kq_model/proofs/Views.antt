@@ -26,7 +26,7 @@ use Rattle.kq_model.specs.declared.table.Table.{Table}
 use Rattle.kq_model.specs.declared.view.View.{View}
 use Rattle.kq_model.specs.History.{History, Log, log, commits_of, cursor, tables, Viewed, views, views_by, views_from, view_count, base_of, view_cursor, view_cursor_after, view_cursor_from}
 use Rattle.kq_model.specs.Lawful.{AreLawful, Lawful, LawfulOperation, IsNewView}
-use Rattle.kq_model.specs.Records.{given, batch_records, records, records_from, records_given, schema_of}
+use Rattle.kq_model.specs.Records.{commit_records, batch_records, records, records_from, records_given, schema_of}
 use Rattle.kq_model.specs.Views.{covered, is_between, row_for}
 use Rattle.kq_model.proofs.Bounded.{AreLawful-induct}
 use Rattle.kq_model.proofs.Growing.{Extends, no_fewer_of, schema-go_on}
@@ -288,9 +288,9 @@ numbered_past above to at ordinal (row ∷ rows) later =
     let rest = filter (is_between above to) (numbered at (ordinal + 1) rows) in
     ap (λ (b : Bool). cond b (r ∷ rest) rest) (past above to r later) ∙ numbered_past above to at (ordinal + 1) rows later
 
-given_by_past : (above to t at ordinal : ℕ) (bs : List Batch) → to < at → filter (is_between above to) (batch_records t at ordinal bs) ≡ []
-given_by_past above to t at ordinal [] later = refl
-given_by_past above to t at ordinal (b ∷ bs) later = by_test (nat_eq b.table t) (given_by_past above to t at (ordinal + length b.rows) bs later) (given_by_past above to t at ordinal bs later)
+batch_records_past : (above to t at ordinal : ℕ) (bs : List Batch) → to < at → filter (is_between above to) (batch_records t at ordinal bs) ≡ []
+batch_records_past above to t at ordinal [] later = refl
+batch_records_past above to t at ordinal (b ∷ bs) later = by_test (nat_eq b.table t) (batch_records_past above to t at (ordinal + length b.rows) bs later) (batch_records_past above to t at ordinal bs later)
   where
     by_test : (is : Bool) → filter (is_between above to) (batch_records t at (ordinal + length b.rows) bs) ≡ [] → filter (is_between above to) (batch_records t at ordinal bs) ≡ []
         → filter (is_between above to) (cond is (numbered at ordinal b.rows ++ batch_records t at (ordinal + length b.rows) bs) (batch_records t at ordinal bs)) ≡ []
@@ -300,17 +300,17 @@ given_by_past above to t at ordinal (b ∷ bs) later = by_test (nat_eq b.table t
         ∙ rest
     by_test false rest same = same
 
-given_past : (above to t at : ℕ) (c : Commit) → to < at → filter (is_between above to) (given t at c) ≡ []
+given_past : (above to t at : ℕ) (c : Commit) → to < at → filter (is_between above to) (commit_records t at c) ≡ []
 given_past above to t at (CreateTable name schema) later = refl
 given_past above to t at (CreateView view) later = refl
 given_past above to t at (SetPolicy table entries) later = refl
 given_past above to t at (AlterMerge table columns) later = refl
-given_past above to t at (Ingest batches failures) later = given_by_past above to t at 0 batches later
+given_past above to t at (Ingest batches failures) later = batch_records_past above to t at 0 batches later
 
 records_past : (above to t n : ℕ) (l : Log) → to ≤ n → filter (is_between above to) (records_from t n l) ≡ []
 records_past above to t n [] up = refl
 records_past above to t n (c ∷ l) up =
-    filter-append (is_between above to) (given t (n + 1) c) (records_from t (n + 1) l)
+    filter-append (is_between above to) (commit_records t (n + 1) c) (records_from t (n + 1) l)
     ∙ ap (λ (rs : List Record). rs ++ filter (is_between above to) (records_from t (n + 1) l)) (given_past above to t (n + 1) c (omega (arith, up)))
     ∙ records_past above to t (n + 1) l (omega (arith, up))
 

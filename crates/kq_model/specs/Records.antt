@@ -29,16 +29,16 @@ rows_to t [] = 0
 rows_to t (b ∷ bs) = (if nat_eq b.table t then length b.rows else 0) + rows_to t bs
 
 -- the records that a commit at a cursor gives a table
-abbrev pub given : ℕ → ℕ → Commit → List Record
-given t cursor (CreateTable name schema) = []
-given t cursor (CreateView view) = []
-given t cursor (SetPolicy table entries) = []
-given t cursor (AlterMerge table columns) = []
-given t cursor (Ingest batches failures) = batch_records t cursor 0 batches
+abbrev pub commit_records : ℕ → ℕ → Commit → List Record
+commit_records t cursor (CreateTable name schema) = []
+commit_records t cursor (CreateView view) = []
+commit_records t cursor (SetPolicy table entries) = []
+commit_records t cursor (AlterMerge table columns) = []
+commit_records t cursor (Ingest batches failures) = batch_records t cursor 0 batches
 
 abbrev pub records_from : ℕ → ℕ → Log → List Record
 records_from t n [] = []
-records_from t n (c ∷ l) = given t (n + 1) c ++ records_from t (n + 1) l
+records_from t n (c ∷ l) = commit_records t (n + 1) c ++ records_from t (n + 1) l
 
 -- the records that the commits give a table by its number, in the order of commits and batches, as they were given
 abbrev pub records_given : Log → ℕ → List Record
@@ -82,12 +82,12 @@ batch_items t cursor ordinal id (b ∷ bs) =
     if nat_eq b.table t then batch_item id cursor ordinal b ∷ batch_items t cursor (ordinal + length b.rows) (id + 1) bs
     else batch_items t cursor ordinal (id + 1) bs
 
-abbrev pub items : ℕ → ℕ → ℕ → Commit → List ExtentItem
-items t cursor id (CreateTable name schema) = []
-items t cursor id (CreateView view) = []
-items t cursor id (SetPolicy table entries) = []
-items t cursor id (AlterMerge table columns) = []
-items t cursor id (Ingest batches failures) = batch_items t cursor 0 id batches
+abbrev pub commit_items : ℕ → ℕ → ℕ → Commit → List ExtentItem
+commit_items t cursor id (CreateTable name schema) = []
+commit_items t cursor id (CreateView view) = []
+commit_items t cursor id (SetPolicy table entries) = []
+commit_items t cursor id (AlterMerge table columns) = []
+commit_items t cursor id (Ingest batches failures) = batch_items t cursor 0 id batches
 
 -- each text once, in the order of first appearance
 abbrev pub each_once : List (List ℕ) → List (List ℕ)
@@ -131,7 +131,7 @@ extents_made (e ∷ h) = operation_extents e.operation + extents_made h
 
 -- the extents of a table after one more operation, by its cursor if it is a commit, and the id of the next extent
 abbrev pub items_after : ℕ → ℕ → ℕ → Operation → List ExtentItem → List ExtentItem
-items_after t cursor id (operation.Commit c) is = is ++ items t cursor id c
+items_after t cursor id (operation.Commit c) is = is ++ commit_items t cursor id c
 items_after t cursor id (operation.Fold view to) is = is
 items_after t cursor id (operation.Merge table old new) is = if nat_eq table t then merged old new is else is
 
