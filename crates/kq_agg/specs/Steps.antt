@@ -118,9 +118,9 @@ pub record TakesInUpTo (k : Kind) (groups : List ℕ) (rows : List (List Value))
   pub refused : MayRefuse (kept_at news (get_or groups row 0))
 
 -- the cells of what is kept come after those that are there, or it ends in an overflow
-abbrev pub Finishes : List Ty → Kept → List Value → List Value → Result (Unit {0}) EvalFault → Type 0
-Finishes types kept before after = AnswersAs (λ done. after) (and_then (finished types kept) (λ cells. Is (before ++ cells)))
+abbrev pub PutsFinished : List Ty → Kept → List Value → List Value → Result (Unit {0}) EvalFault → Type 0
+PutsFinished types kept before after = AnswersAs (λ done. after) (and_then (finished types kept) (λ cells. Is (before ++ cells)))
 
 -- the same of what ends in no overflow
-abbrev pub Puts : List Ty → Kept → List Value → List Value → Type 0
-Puts types kept before after = and_then (finished types kept) (λ cells. Is (before ++ cells)) ≡ Is after
+abbrev pub PutsCells : List Ty → Kept → List Value → List Value → Type 0
+PutsCells types kept before after = and_then (finished types kept) (λ cells. Is (before ++ cells)) ≡ Is after

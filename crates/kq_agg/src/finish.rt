@@ -2,7 +2,7 @@
 ghost use Rattle.std.specs.Prelude.{◌≡◌, ◌++◌, OnOk, map};
 ghost use Rattle.kq_value.specs.Typed.{missing_of};
 ghost use Rattle.kq_agg.specs.Holds.{chosen, extreme, finished, summed};
-ghost use Rattle.kq_agg.specs.Steps.{Finishes, Puts};
+ghost use Rattle.kq_agg.specs.Steps.{PutsFinished, PutsCells};
 
 use crate::sum::Sum;
 use kq_computed::EvalFault;
@@ -10,7 +10,7 @@ use kq_value::{Memory, Row, Ty, Value};
 use std::alloc::Global;
 
 pub(crate) fn put_sum(sum: &Sum, types: &[Ty], out: &mut Vec<Value>) -> Result<(), EvalFault>
-    ensures { Finishes types.now (summed sum.now) out.old.items out.new.items result }
+    ensures { PutsFinished types.now (summed sum.now) out.old.items out.new.items result }
 {
     let value = sum.finish(types)?;
     out.push(value)?;
@@ -23,7 +23,7 @@ pub(crate) fn put_value(
     types: &[Ty],
     out: &mut Vec<Value>,
 ) -> Result<(), Memory>
-    ensures { OnOk result (Puts types.now (extreme kept.now) out.old.items out.new.items) }
+    ensures { OnOk result (PutsCells types.now (extreme kept.now) out.old.items out.new.items) }
 {
     match kept {
         Some(value) => {
@@ -40,7 +40,7 @@ pub(crate) fn put_row(
     types: &[Ty],
     out: &mut Vec<Value>,
 ) -> Result<(), Memory>
-    ensures { OnOk result (Puts types.now (chosen kept.now) out.old.items out.new.items) }
+    ensures { OnOk result (PutsCells types.now (chosen kept.now) out.old.items out.new.items) }
 {
     match kept {
         Some(row) => out.extend_from_slice(row.as_slice()),

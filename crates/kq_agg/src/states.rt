@@ -1,7 +1,7 @@
 // The states of an aggregate.
 ghost use Rattle.std.specs.Prelude.{◌≡◌, ◌↔◌, ◌<◌, List, [], IsTrue, OnOk, OnErr, length};
 ghost use Rattle.std.specs.List.{All};
-ghost use Rattle.kq_agg.specs.Steps.{ChangesAt, Finishes, Grows, Joins, MayRefuse, MayRefuseBoth, Steps, TakesIn, TakesInUpTo, kept_at};
+ghost use Rattle.kq_agg.specs.Steps.{ChangesAt, PutsFinished, Grows, Joins, MayRefuse, MayRefuseBoth, Steps, TakesIn, TakesInUpTo, kept_at};
 ghost use Rattle.kq_agg.specs.Tables.{SameShape};
 
 use crate::kind::Kind;
@@ -111,7 +111,7 @@ impl States {
     /// Puts the cells of a group after those that are there. After a fault some may be there.
     pub fn finish(&self, alloc: Global, group: usize, out: &mut Vec<Value>) -> Result<(), EvalFault>
         requires { group < length self.now.kept }
-        ensures { Finishes self.now.types (kept_at self.now.kept group) out.old.items out.new.items result }
+        ensures { PutsFinished self.now.types (kept_at self.now.kept group) out.old.items out.new.items result }
     {
         self.table.finish(alloc, group, self.types.as_slice(), out)
     }

@@ -1,7 +1,7 @@
 // The states of all groups of one aggregate.
 ghost use Rattle.std.specs.Prelude.{◌≡◌, ◌<◌, [], ◌∷◌, ◌++◌, OnOk, OnErr, length};
 ghost use Rattle.kq_agg.specs.Ranks.{first_of};
-ghost use Rattle.kq_agg.specs.Steps.{ChangesAt, Finishes, Joins, MayRefuse, MayRefuseBoth, Steps, kept_at, none_kept};
+ghost use Rattle.kq_agg.specs.Steps.{ChangesAt, PutsFinished, Joins, MayRefuse, MayRefuseBoth, Steps, kept_at, none_kept};
 ghost use Rattle.kq_agg.specs.Tables.{kind_of, kept_of};
 
 use crate::count::Count;
@@ -151,7 +151,7 @@ impl Table {
         out: &mut Vec<Value>,
     ) -> Result<(), EvalFault>
         requires { group < length (kept_of self.now) }
-        ensures { Finishes types.now (kept_at (kept_of self.now) group) out.old.items out.new.items result }
+        ensures { PutsFinished types.now (kept_at (kept_of self.now) group) out.old.items out.new.items result }
     {
         match self {
             Table::Counts(counts) => Ok(push_to(out, counts[group].finish())?),

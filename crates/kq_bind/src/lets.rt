@@ -5,7 +5,7 @@ ghost use Rattle.kq_bind.specs.Queries as the;
 ghost use Rattle.kq_bind.specs.Seen.{letting_of};
 ghost use Rattle.kq_bind_steps.specs.Seen.{flow_of, tabling_of};
 ghost use Rattle.kq_bind_columns.specs.Naming.{is_taken};
-ghost use Rattle.kq_bind_expression.specs.Verdicts.{Answers};
+ghost use Rattle.kq_bind_expression.specs.Verdicts.{AnswersVerdict};
 ghost use Rattle.kq_expr.specs.Terms.{typed_of};
 ghost use Rattle.kq_grammar.specs.TabularViews.{tabular_of, right_of, let_of};
 ghost use Rattle.kq_grammar.specs.Views.{tree_of};
@@ -49,7 +49,7 @@ fn is_let(scalars: &[Field], tables: &[TabularLet], name: &str) -> bool
 }
 
 fn scalar_put(alloc: Global, lets: Lets, name: Text, one: Typed) -> Result<Lets, BindFault>
-    ensures { Answers letting_of (Ok (the.scalar_put (letting_of lets) name (typed_of one))) result }
+    ensures { AnswersVerdict letting_of (Ok (the.scalar_put (letting_of lets) name (typed_of one))) result }
 {
     let Typed { expr, ty } = one;
     let mut columns = Vec::new(alloc);
@@ -74,7 +74,7 @@ fn tabular_put(
     name: Text,
     flow: Flow,
 ) -> Result<Lets, BindFault>
-    ensures { Answers letting_of (Ok (the.tabular_laid scalars.items (map tabling_of before.items) name (flow_of flow))) result }
+    ensures { AnswersVerdict letting_of (Ok (the.tabular_laid scalars.items (map tabling_of before.items) name (flow_of flow))) result }
 {
     let mut tables = before;
     tables.push(TabularLet {
@@ -98,7 +98,7 @@ fn scalar_let<N: Names>(
     name: Name,
     tree: &Expression,
 ) -> Result<Lets, BindFault>
-    ensures { Answers letting_of (the.scalar_let text.now (N.known names.now) (letting_of lets) name (tree_of tree.now)) result }
+    ensures { AnswersVerdict letting_of (the.scalar_let text.now (N.known names.now) (letting_of lets) name (tree_of tree.now)) result }
 {
     let scope = kq_bind_expression::Scope {
         text,
@@ -123,7 +123,7 @@ fn tabular_let_made<N: Names>(
     name: Name,
     tree: &Tabular,
 ) -> Result<Lets, BindFault>
-    ensures { Answers letting_of (the.tabular_let text.now (N.known names.now) (letting_of lets) name (tabular_of tree.now)) result }
+    ensures { AnswersVerdict letting_of (the.tabular_let text.now (N.known names.now) (letting_of lets) name (tabular_of tree.now)) result }
 {
     let Lets {
         progress,
@@ -199,7 +199,7 @@ fn let_made<N: Names>(
     lets: Lets,
     one: &Let,
 ) -> Result<Lets, BindFault>
-    ensures { Answers letting_of (the.let_made text.now (N.known names.now) (letting_of lets) one.now.name (right_of one.now.right)) result }
+    ensures { AnswersVerdict letting_of (the.let_made text.now (N.known names.now) (letting_of lets) one.now.name (right_of one.now.right)) result }
 {
     match &one.right {
         LetRight::Scalar(tree) => scalar_let(alloc, text, names, lets, one.name, tree),
@@ -222,7 +222,7 @@ pub(crate) fn lets_made<N: Names>(
     before: Lets,
     more: &[Let],
 ) -> Result<Lets, BindFault>
-    ensures { Answers letting_of (the.lets_made text.now (N.known names.now) (letting_of before) (map let_of more.now)) result }
+    ensures { AnswersVerdict letting_of (the.lets_made text.now (N.known names.now) (letting_of before) (map let_of more.now)) result }
 {
     let mut lets = before;
     for one in more {

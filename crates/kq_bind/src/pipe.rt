@@ -3,7 +3,7 @@ ghost use Rattle.std.specs.Prelude.{◌≡◌, ◌∷◌, [], map};
 ghost use Rattle.std.specs.Option.{option_map};
 ghost use Rattle.kq_bind.specs.Pipes.{tabular, sourced, from_word, united_with, gathered, armed, piped, operated};
 ghost use Rattle.kq_bind_steps.specs.Seen.{flow_of, progress_of, scoping_of};
-ghost use Rattle.kq_bind_expression.specs.Verdicts.{Answers};
+ghost use Rattle.kq_bind_expression.specs.Verdicts.{AnswersVerdict};
 ghost use Rattle.kq_grammar.specs.Trees.{unite};
 ghost use Rattle.kq_grammar.specs.TabularViews.{tabular_of, source_of, from_of, union_of, arm_of, arms_of, operator_of, operators_of, body_of, join_of};
 
@@ -28,7 +28,7 @@ pub(crate) fn bind_tabular<N: Names>(
     progress: Progress,
     tree: &Tabular,
 ) -> Result<Flow, BindFault>
-    ensures { Answers flow_of (tabular (scoping_of N.known scope.now) (progress_of progress) (tabular_of tree.now)) result }
+    ensures { AnswersVerdict flow_of (tabular (scoping_of N.known scope.now) (progress_of progress) (tabular_of tree.now)) result }
 {
     let flow = bind_source(alloc, scope, progress, &tree.source)?;
     bind_operators(alloc, scope, flow, &tree.operators)
@@ -41,7 +41,7 @@ fn bind_source<N: Names>(
     progress: Progress,
     source: &Source,
 ) -> Result<Flow, BindFault>
-    ensures { Answers flow_of (sourced (scoping_of N.known scope.now) (progress_of progress) (source_of source.now)) result }
+    ensures { AnswersVerdict flow_of (sourced (scoping_of N.known scope.now) (progress_of progress) (source_of source.now)) result }
 {
     match source {
         Source::Table(name) => source_named(alloc, scope, progress, *name),
@@ -58,7 +58,7 @@ fn bind_word<N: Names>(
     word: Symbol,
     body: &SourceBody,
 ) -> Result<Flow, BindFault>
-    ensures { Answers flow_of (from_word (scoping_of N.known scope.now) (progress_of progress) word (from_of body.now)) result }
+    ensures { AnswersVerdict flow_of (from_word (scoping_of N.known scope.now) (progress_of progress) word (from_of body.now)) result }
 {
     match body {
         SourceBody::View(string) => part_named(alloc, scope, progress, *string),
@@ -92,7 +92,7 @@ fn bind_union<N: Names>(
     before: Vec<usize>,
     arms: &Union,
 ) -> Result<Flow, BindFault>
-    ensures { Answers flow_of (united_with (scoping_of N.known scope.now) stage (progress_of progress) before.items (union_of arms.now)) result }
+    ensures { AnswersVerdict flow_of (united_with (scoping_of N.known scope.now) stage (progress_of progress) before.items (union_of arms.now)) result }
 {
     let flow = bind_arm(alloc, scope, progress, &arms.first)?;
     let mut inputs = before;
@@ -118,7 +118,7 @@ fn bind_arms<N: Names>(
     first: Vec<usize>,
     arms: &Vec<Arm>,
 ) -> Result<Flow, BindFault>
-    ensures { Answers flow_of (gathered (scoping_of N.known scope.now) stage kind (progress_of before) first.items (arms_of (map arm_of arms.now.items))) result }
+    ensures { AnswersVerdict flow_of (gathered (scoping_of N.known scope.now) stage kind (progress_of before) first.items (arms_of (map arm_of arms.now.items))) result }
 {
     let mut progress = before;
     let mut inputs = first;
@@ -137,7 +137,7 @@ fn bind_arm<N: Names>(
     progress: Progress,
     arm: &Arm,
 ) -> Result<Flow, BindFault>
-    ensures { Answers flow_of (armed (scoping_of N.known scope.now) (progress_of progress) (arm_of arm.now)) result }
+    ensures { AnswersVerdict flow_of (armed (scoping_of N.known scope.now) (progress_of progress) (arm_of arm.now)) result }
 {
     match arm {
         Arm::Named(name) => source_named(alloc, scope, progress, *name),
@@ -152,7 +152,7 @@ fn bind_operators<N: Names>(
     before: Flow,
     operators: &Vec<Operator>,
 ) -> Result<Flow, BindFault>
-    ensures { Answers flow_of (piped (scoping_of N.known scope.now) (flow_of before) (operators_of (map operator_of operators.now.items))) result }
+    ensures { AnswersVerdict flow_of (piped (scoping_of N.known scope.now) (flow_of before) (operators_of (map operator_of operators.now.items))) result }
 {
     let mut flow = before;
     for operator in operators {
@@ -168,7 +168,7 @@ fn bind_operator<N: Names>(
     flow: Flow,
     operator: &Operator,
 ) -> Result<Flow, BindFault>
-    ensures { Answers flow_of (operated (scoping_of N.known scope.now) (flow_of flow) (operator_of operator.now).1) result }
+    ensures { AnswersVerdict flow_of (operated (scoping_of N.known scope.now) (flow_of flow) (operator_of operator.now).1) result }
 {
     bind_body(alloc, scope, flow, &operator.body)
 }
@@ -180,7 +180,7 @@ fn bind_body<N: Names>(
     flow: Flow,
     body: &OperatorBody,
 ) -> Result<Flow, BindFault>
-    ensures { Answers flow_of (operated (scoping_of N.known scope.now) (flow_of flow) (body_of body.now)) result }
+    ensures { AnswersVerdict flow_of (operated (scoping_of N.known scope.now) (flow_of flow) (body_of body.now)) result }
 {
     match body {
         OperatorBody::Where(tree) => filtered(alloc, scope, flow, tree),
@@ -212,7 +212,7 @@ fn bind_join<N: Names>(
     flow: Flow,
     join: &Join,
 ) -> Result<Flow, BindFault>
-    ensures { Answers flow_of (operated (scoping_of N.known scope.now) (flow_of flow) (join_of join.now)) result }
+    ensures { AnswersVerdict flow_of (operated (scoping_of N.known scope.now) (flow_of flow) (join_of join.now)) result }
 {
     let left = flow.input;
     let progress = next_stage(flow.progress)?;
@@ -238,7 +238,7 @@ fn bind_unite<N: Names>(
     flow: Flow,
     arms: &Union,
 ) -> Result<Flow, BindFault>
-    ensures { Answers flow_of (operated (scoping_of N.known scope.now) (flow_of flow) (unite (union_of arms.now))) result }
+    ensures { AnswersVerdict flow_of (operated (scoping_of N.known scope.now) (flow_of flow) (unite (union_of arms.now))) result }
 {
     let mut inputs = Vec::new(alloc);
     inputs.push(flow.input)?;

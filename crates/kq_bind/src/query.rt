@@ -1,7 +1,7 @@
 // Queries.
 ghost use Rattle.std.specs.Prelude.{◌≡◌, Ok};
 ghost use Rattle.kq_bind.specs.Queries.{query_bound, planned, query_walked};
-ghost use Rattle.kq_bind_expression.specs.Verdicts.{Answers};
+ghost use Rattle.kq_bind_expression.specs.Verdicts.{AnswersVerdict};
 ghost use Rattle.kq_grammar.specs.TabularViews.{query_of};
 ghost use Rattle.kq_plan.specs.Plans.{planned_of};
 
@@ -21,7 +21,7 @@ fn bind_supported<N: Names>(
     query: &Query,
     names: &N,
 ) -> Result<Plan, BindFault>
-    ensures { Answers planned_of (query_walked text.now (N.known names.now) (query_of query.now)) result }
+    ensures { AnswersVerdict planned_of (query_walked text.now (N.known names.now) (query_of query.now)) result }
 {
     let Lets {
         progress,
@@ -51,7 +51,7 @@ pub fn bind<N: Names>(
     query: &Query,
     names: &N,
 ) -> Result<Plan, BindFault>
-    ensures { Answers planned_of (query_bound text.now (N.known names.now) (query_of query.now)) result }
+    ensures { AnswersVerdict planned_of (query_bound text.now (N.known names.now) (query_of query.now)) result }
 {
     match unsupported_in_query(text, query) {
         Some(at) => Err(BindFault::Unsupported { at }),

@@ -4,7 +4,7 @@ ghost use Rattle.std.specs.Option.{option_map};
 ghost use Rattle.kq_bind_aggregates.specs.Arguments as the;
 ghost use Rattle.kq_bind_aggregates.specs.Seen.{argued_of, all_seen, given_of, several_of, numbers_of};
 ghost use Rattle.kq_bind_expression.specs.Names.{names_of};
-ghost use Rattle.kq_bind_expression.specs.Verdicts.{Answers};
+ghost use Rattle.kq_bind_expression.specs.Verdicts.{AnswersVerdict};
 ghost use Rattle.kq_expr.specs.Terms.{term_of, typed_of};
 ghost use Rattle.kq_grammar.specs.Views.{argument_view};
 
@@ -28,7 +28,7 @@ pub fn all_argued(
     columns: &[Field],
     arguments: &[Argument],
 ) -> Result<Given, BindFault>
-    ensures { Answers given_of (the.all_argued (names_of scope.now) columns.now (map argument_view arguments.now)) result }
+    ensures { AnswersVerdict given_of (the.all_argued (names_of scope.now) columns.now (map argument_view arguments.now)) result }
 {
     match arguments {
         [] => Ok(Given::Nothing),
@@ -46,7 +46,7 @@ fn argued(
     columns: &[Field],
     argument: &Argument,
 ) -> Result<Option<Typed>, BindFault>
-    ensures { Answers argued_of (the.argued (names_of scope.now) columns.now (argument_view argument.now)) result }
+    ensures { AnswersVerdict argued_of (the.argued (names_of scope.now) columns.now (argument_view argument.now)) result }
 {
     match argument {
         Argument::Value(tree) => Ok(Some(bind_expression(alloc, scope, columns, tree)?)),
@@ -60,7 +60,7 @@ fn others_argued(
     columns: &[Field],
     arguments: &[Argument],
 ) -> Result<Vec<Option<Typed>>, BindFault>
-    ensures { Answers all_seen (the.all_argued (names_of scope.now) columns.now (map argument_view arguments.now)) result }
+    ensures { AnswersVerdict all_seen (the.all_argued (names_of scope.now) columns.now (map argument_view arguments.now)) result }
 {
     let mut others = Vec::new(alloc);
     for argument in arguments {

@@ -4,7 +4,7 @@ ghost use Rattle.kq_bind_aggregates.specs.Functions.{aggregate_named};
 ghost use Rattle.kq_bind_aggregates.specs.Gathered as the;
 ghost use Rattle.kq_bind_aggregates.specs.Seen.{fields_of, gathering_of, aggregated_of};
 ghost use Rattle.kq_bind_expression.specs.Names.{names_of};
-ghost use Rattle.kq_bind_expression.specs.Verdicts.{Answers};
+ghost use Rattle.kq_bind_expression.specs.Verdicts.{AnswersVerdict};
 ghost use Rattle.kq_grammar.specs.Views.{aggregate_view};
 
 use crate::arguments::{all_argued, unkeyed};
@@ -45,7 +45,7 @@ pub fn aggregates_made(
     others: &[kq_grammar::Aggregate],
 ) -> Result<Gathered, BindFault>
     ensures { let given = aggregate_view first.now ∷ map aggregate_view others.now in
-        Answers gathering_of (the.aggregates_made (names_of scope.now) columns.now keys.items (the.no_aggregate keys.items) given) result }
+        AnswersVerdict gathering_of (the.aggregates_made (names_of scope.now) columns.now keys.items (the.no_aggregate keys.items) given) result }
 {
     let starred = unkeyed(alloc, columns, &keys)?;
     let start = no_aggregate(alloc, keys);
@@ -62,7 +62,7 @@ fn each_made(
     aggregates: &[kq_grammar::Aggregate],
 ) -> Result<Gathered, BindFault>
     ensures { let given = map aggregate_view aggregates.now in
-        Answers gathering_of (the.each_made (names_of scope.now) columns.now starred.now (gathering_of before) given) result }
+        AnswersVerdict gathering_of (the.each_made (names_of scope.now) columns.now starred.now (gathering_of before) given) result }
 {
     let mut gathered = before;
     for aggregate in aggregates {
@@ -80,7 +80,7 @@ fn aggregate_made(
     aggregate: &kq_grammar::Aggregate,
 ) -> Result<Gathered, BindFault>
     ensures { let given = aggregate_view aggregate.now in
-        Answers gathering_of (the.aggregate_made (names_of scope.now) columns.now starred.now (gathering_of before) given) result }
+        AnswersVerdict gathering_of (the.aggregate_made (names_of scope.now) columns.now starred.now (gathering_of before) given) result }
 {
     let at = aggregate.function.from;
     let Some(function) = find(piece(scope.text, aggregate.function)) else {
@@ -100,7 +100,7 @@ fn gather(
     given: Option<Name>,
     one: Aggregated,
 ) -> Result<Gathered, BindFault>
-    ensures { Answers gathering_of (the.gathered text.now (gathering_of before) given (aggregated_of one)) result }
+    ensures { AnswersVerdict gathering_of (the.gathered text.now (gathering_of before) given (aggregated_of one)) result }
 {
     let fields = put_columns(alloc, text, before.fields, given, &one.columns)?;
     let mut aggregates = before.aggregates;
@@ -115,7 +115,7 @@ fn put_columns(
     given: Option<Name>,
     columns: &[Field],
 ) -> Result<Vec<Field>, BindFault>
-    ensures { Answers fields_of (the.put_columns text.now before.items given columns.now) result }
+    ensures { AnswersVerdict fields_of (the.put_columns text.now before.items given columns.now) result }
 {
     match given {
         None => Ok(put_defaults(alloc, before, columns)?),

@@ -1,7 +1,7 @@
 -- What is answered for a view's body.
 use Rattle.std.specs.Prelude.{◌≡◌, true, List, Result, Ok, Err}
 use Rattle.kq_bind_expression.specs.Verdicts.{Verdict, unsupported, unknown, mistyped}
-use Rattle.kq_body.specs.Bodies.{Part, is_body, IsFault}
+use Rattle.kq_body.specs.Bodies.{Part, is_body, IsBodyFault}
 use Rattle.kq_plan.specs.declared.plan.Plan.{Plan}
 use Rattle.kq_plan.specs.Plans.{Planned, planned_of}
 use Rattle.kq_bind_body.specs.declared.fault.ViewFault.{ViewFault}
@@ -13,5 +13,5 @@ AnswersBody v ps (Ok p) = (v ≡ Ok (planned_of p)) × (is_body ps ≡ true)
 AnswersBody v ps (Err (fault.Unsupported at)) = v ≡ Err (unsupported at)
 AnswersBody v ps (Err (fault.Unknown at)) = v ≡ Err (unknown at)
 AnswersBody v ps (Err (fault.Mistyped at)) = v ≡ Err (mistyped at)
-AnswersBody v ps (Err (fault.BadView at)) = (p : Planned) × (v ≡ Ok p) × IsFault ps at
+AnswersBody v ps (Err (fault.BadView at)) = (p : Planned) × (v ≡ Ok p) × IsBodyFault ps at
 AnswersBody v ps (Err fault.Memory) = Unit {0}

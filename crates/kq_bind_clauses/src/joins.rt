@@ -1,7 +1,7 @@
 // What joins match on, and the columns that they give.
 ghost use Rattle.std.specs.Prelude.{◌≡◌, ◌∷◌, IfOk};
 ghost use Rattle.kq_bind_clauses.specs.Joins.{kind_said as the_kind_said, kind_of as the_kind_of, join_kind as the_join_kind, is_key as the_is_key, matched as the_matched, on_key as the_on_key, on_keys as the_on_keys, beside as the_beside, join_columns as the_join_columns};
-ghost use Rattle.kq_bind_expression.specs.Verdicts.{Answers};
+ghost use Rattle.kq_bind_expression.specs.Verdicts.{AnswersVerdict};
 
 use kq_bind_columns::{free_name, place_in};
 use kq_bind_expression::BindFault;
@@ -57,7 +57,7 @@ fn is_key(left: Ty, right: Ty) -> bool
 
 // The numbers of two columns that match.
 fn matched(at: usize, left: (usize, Ty), right: (usize, Ty)) -> Result<(usize, usize), BindFault>
-    ensures { Answers (λ p. p) (the_matched at left right) result }
+    ensures { AnswersVerdict (λ p. p) (the_matched at left right) result }
 {
     if is_key(left.1, right.1) {
         Ok((left.0, right.0))
@@ -73,7 +73,7 @@ fn on_key(
     right: &[Field],
     key: JoinKey,
 ) -> Result<(usize, usize), BindFault>
-    ensures { Answers (λ p. p) (the_on_key text.now left.now right.now key) result }
+    ensures { AnswersVerdict (λ p. p) (the_on_key text.now left.now right.now key) result }
 {
     match key {
         JoinKey::Both(name) => {
@@ -103,7 +103,7 @@ pub fn on_keys(
     first: JoinKey,
     others: &[JoinKey],
 ) -> Result<Vec<(usize, usize)>, BindFault>
-    ensures { Answers (λ v. v.items) (the_on_keys text.now left.now right.now (first ∷ others.now)) result }
+    ensures { AnswersVerdict (λ v. v.items) (the_on_keys text.now left.now right.now (first ∷ others.now)) result }
 {
     let mut pairs = Vec::new(alloc);
     pairs.push(on_key(alloc, text, left, right, first)?)?;

@@ -3,7 +3,7 @@ ghost use Rattle.std.specs.Prelude.{◌≡◌, IfOk};
 ghost use Rattle.kq_bind_clauses.specs.Seen.{ranging_of};
 ghost use Rattle.kq_bind_clauses.specs.Ranges.{step_type as the_step_type, as_long as the_as_long, of_this_type as the_of_this_type, range_typed as the_range_typed, ranged as the_ranged, range_column as the_range_column};
 ghost use Rattle.kq_bind_expression.specs.Names.{names_of};
-ghost use Rattle.kq_bind_expression.specs.Verdicts.{Answers};
+ghost use Rattle.kq_bind_expression.specs.Verdicts.{AnswersVerdict};
 ghost use Rattle.kq_expr.specs.Terms.{term_of, typed_of};
 ghost use Rattle.kq_fn.specs.Table.{widened as the_widened};
 ghost use Rattle.kq_grammar.specs.Views.{tree_of};
@@ -53,7 +53,7 @@ fn as_long(alloc: Global, one: Typed) -> Result<Typed, Memory>
 }
 
 fn of_this_type(at: usize, ty: Ty, one: Typed) -> Result<Expr, BindFault>
-    ensures { Answers term_of (the_of_this_type at ty (typed_of one)) result }
+    ensures { AnswersVerdict term_of (the_of_this_type at ty (typed_of one)) result }
 {
     if one.ty.same(ty) {
         Ok(one.expr)
@@ -70,7 +70,7 @@ fn range_typed(
     last: Typed,
     step: Typed,
 ) -> Result<Ranging, BindFault>
-    ensures { Answers ranging_of (the_range_typed at_first at_last at_step (typed_of first) (typed_of last) (typed_of step)) result }
+    ensures { AnswersVerdict ranging_of (the_range_typed at_first at_last at_step (typed_of first) (typed_of last) (typed_of step)) result }
 {
     let Typed { expr: first, ty } = first;
     let Some(step_ty) = step_type(ty) else {
@@ -94,7 +94,7 @@ pub fn ranged(
     last: &Expression,
     step: &Expression,
 ) -> Result<Ranging, BindFault>
-    ensures { Answers ranging_of (the_ranged (names_of scope.now) (tree_of first.now) (tree_of last.now) (tree_of step.now)) result }
+    ensures { AnswersVerdict ranging_of (the_ranged (names_of scope.now) (tree_of first.now) (tree_of last.now) (tree_of step.now)) result }
 {
     let from = bind_expression(alloc, scope, &[], first)?;
     let to = bind_expression(alloc, scope, &[], last)?;

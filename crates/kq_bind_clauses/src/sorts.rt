@@ -2,7 +2,7 @@
 ghost use Rattle.std.specs.Prelude.{◌≡◌, ◌∷◌, map};
 ghost use Rattle.kq_bind_clauses.specs.Sorts.{is_ascending as the_is_ascending, is_first as the_is_first, descends as the_descends, nulls_come_first as the_nulls_come_first, sorting as the_sorting, sort_key as the_sort_key, sort_keys as the_sort_keys, unsupported_keys as the_unsupported_keys};
 ghost use Rattle.kq_bind_expression.specs.Names.{names_of};
-ghost use Rattle.kq_bind_expression.specs.Verdicts.{Answers};
+ghost use Rattle.kq_bind_expression.specs.Verdicts.{AnswersVerdict};
 ghost use Rattle.kq_expr.specs.Terms.{typed_of};
 ghost use Rattle.kq_grammar.specs.Views.{key_view};
 ghost use Rattle.kq_plan.specs.Plans.{sorting_of};
@@ -63,7 +63,7 @@ pub fn sort_key(
     columns: &[Field],
     key: &Key,
 ) -> Result<SortKey, BindFault>
-    ensures { Answers sorting_of (the_sort_key (names_of scope.now) columns.now (key_view key.now)) result }
+    ensures { AnswersVerdict sorting_of (the_sort_key (names_of scope.now) columns.now (key_view key.now)) result }
 {
     let one = operand(alloc, scope, columns, true, &key.value)?;
     Ok(sorting(key, one))
@@ -78,7 +78,7 @@ pub fn sort_keys(
     others: &[Key],
 ) -> Result<Vec<SortKey>, BindFault>
     ensures { let keys = key_view first.now ∷ map key_view others.now in
-        Answers (λ v. map sorting_of v.items) (the_sort_keys (names_of scope.now) columns.now keys) result }
+        AnswersVerdict (λ v. map sorting_of v.items) (the_sort_keys (names_of scope.now) columns.now keys) result }
 {
     let mut keys = Vec::new(alloc);
     keys.push(sort_key(alloc, scope, columns, first)?)?;

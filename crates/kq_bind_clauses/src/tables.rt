@@ -2,7 +2,7 @@
 ghost use Rattle.std.specs.Prelude.{◌≡◌, [], ◌∷◌, ◌++◌, Ok, map};
 ghost use Rattle.kq_bind_clauses.specs.Seen.{tabled_of};
 ghost use Rattle.kq_bind_clauses.specs.Tables.{word_type as the_word_type, put_column as the_put_column, table_columns as the_table_columns, takes_sign as the_takes_sign, with_sign as the_with_sign, if_int as the_if_int, as_int as the_as_int, of_column as the_of_column, place_of as the_place_of, signed_in as the_signed_in, cell_made as the_cell_made, rows_made as the_rows_made, none_left, tabled as the_tabled, typeless as the_typeless, unsupported_columns as the_unsupported_columns, unsupported_cells as the_unsupported_cells};
-ghost use Rattle.kq_bind_expression.specs.Verdicts.{Answers, and_then};
+ghost use Rattle.kq_bind_expression.specs.Verdicts.{AnswersVerdict, and_then};
 ghost use Rattle.kq_plan.specs.Plans.{cells_seen};
 
 use kq_arithmetic::negated;
@@ -23,7 +23,7 @@ pub struct Tabling {
 
 /// The type of a word; one that is no type's is Unsupported.
 pub fn word_type(text: &str, word: Symbol) -> Result<Ty, BindFault>
-    ensures { Answers (λ t. t) (the_word_type text.now word) result }
+    ensures { AnswersVerdict (λ t. t) (the_word_type text.now word) result }
 {
     match ty_of(piece(text, word).as_bytes()) {
         Some(ty) => Ok(ty),
@@ -37,7 +37,7 @@ fn put_column(
     before: Vec<Field>,
     column: Column,
 ) -> Result<Vec<Field>, BindFault>
-    ensures { Answers (λ v. v.items) (the_put_column text.now before.items column) result }
+    ensures { AnswersVerdict (λ v. v.items) (the_put_column text.now before.items column) result }
 {
     let mut columns = before;
     let name = name_text(alloc, text, column.name)?;
@@ -57,7 +57,7 @@ fn table_columns(
     first: Column,
     others: &[Column],
 ) -> Result<Vec<Field>, BindFault>
-    ensures { Answers (λ v. v.items) (the_table_columns text.now [] (first ∷ others.now)) result }
+    ensures { AnswersVerdict (λ v. v.items) (the_table_columns text.now [] (first ∷ others.now)) result }
 {
     let mut columns = put_column(alloc, text, Vec::new(alloc), first)?;
     for column in others {
@@ -137,7 +137,7 @@ fn signed_in(ty: Ty, cell: Cell, value: Value) -> Option<Value>
 }
 
 fn cell_made(alloc: Global, text: &str, ty: Ty, cell: Cell) -> Result<Value, BindFault>
-    ensures { Answers (λ v. v) (the_cell_made text.now ty cell) result }
+    ensures { AnswersVerdict (λ v. v) (the_cell_made text.now ty cell) result }
 {
     let Some(value) = literal_value(alloc, text, cell.literal)? else {
         return Err(BindFault::Unsupported {
@@ -159,7 +159,7 @@ fn rows_made(
     columns: &[Field],
     cells: &[Cell],
 ) -> Result<Vec<Vec<Value>>, BindFault>
-    ensures { Answers (λ v. map cells_seen v.items) (the_rows_made text.now at columns.now [] columns.now cells.now) result }
+    ensures { AnswersVerdict (λ v. map cells_seen v.items) (the_rows_made text.now at columns.now [] columns.now cells.now) result }
 {
     let mut rows = Vec::new(alloc);
     let mut row = Vec::new(alloc);
@@ -183,7 +183,7 @@ fn rows_made(
 }
 
 fn if_whole(at: usize, rows: Vec<Vec<Value>>, row: &[Value]) -> Result<Vec<Vec<Value>>, BindFault>
-    ensures { Answers (λ v. map cells_seen v.items) (and_then (none_left at row.now) (λ more. Ok (map cells_seen rows.items ++ more))) result }
+    ensures { AnswersVerdict (λ v. map cells_seen v.items) (and_then (none_left at row.now) (λ more. Ok (map cells_seen rows.items ++ more))) result }
 {
     match row {
         [] => Ok(rows),
@@ -200,7 +200,7 @@ pub fn tabled(
     others: &[Column],
     cells: &[Cell],
 ) -> Result<Tabling, BindFault>
-    ensures { Answers tabled_of (the_tabled text.now at (first ∷ others.now) cells.now) result }
+    ensures { AnswersVerdict tabled_of (the_tabled text.now at (first ∷ others.now) cells.now) result }
 {
     let columns = table_columns(alloc, text, first, others)?;
     let rows = rows_made(alloc, text, at, &columns, cells)?;

@@ -2,7 +2,7 @@
 ghost use Rattle.std.specs.Prelude.{◌≡◌, false, [], ◌∷◌, IfOk, map, slice_get};
 ghost use Rattle.kq_bind_columns.specs.Chosen.{has_number as the_has_number, choose as the_choose, place_in as the_place_in, chosen as the_chosen, all_chosen as the_all_chosen, columns_at as the_columns_at, without as the_without};
 ghost use Rattle.kq_bind_columns.specs.Made.{columns_of};
-ghost use Rattle.kq_bind_expression.specs.Verdicts.{Answers, and_then};
+ghost use Rattle.kq_bind_expression.specs.Verdicts.{AnswersVerdict, and_then};
 ghost use Rattle.kq_spelled.specs.Names.{name_place as place_of};
 
 use crate::laying::{Laid, column};
@@ -25,7 +25,7 @@ pub fn place_in(
     columns: &[Field],
     name: Name,
 ) -> Result<(usize, Ty), BindFault>
-    ensures { Answers (λ p. p) (the_place_in text.now columns.now name) result }
+    ensures { AnswersVerdict (λ p. p) (the_place_in text.now columns.now name) result }
 {
     let said = name_text(alloc, text, name)?;
     match first_named(columns, said.as_str()) {
@@ -43,7 +43,7 @@ fn choose(
     number: usize,
     ty: Ty,
 ) -> Result<Vec<usize>, BindFault>
-    ensures { Answers (λ v. v.items) (the_choose keys at before.items (number, ty)) result }
+    ensures { AnswersVerdict (λ v. v.items) (the_choose keys at before.items (number, ty)) result }
 {
     if has_number(&before, number) || (keys && ty.same(Ty::Dynamic)) {
         return Err(BindFault::Mistyped { at });
@@ -61,7 +61,7 @@ fn also_chosen(
     before: Vec<usize>,
     name: Name,
 ) -> Result<Vec<usize>, BindFault>
-    ensures { Answers (λ v. v.items) (and_then (the_place_in text.now columns.now name) (the_choose keys (place_of name) before.items)) result }
+    ensures { AnswersVerdict (λ v. v.items) (and_then (the_place_in text.now columns.now name) (the_choose keys (place_of name) before.items)) result }
 {
     let (number, ty) = place_in(alloc, text, columns, name)?;
     choose(before, keys, name_place(name), number, ty)
@@ -76,7 +76,7 @@ pub fn chosen(
     first: Name,
     others: &[Name],
 ) -> Result<Vec<usize>, BindFault>
-    ensures { Answers (λ v. v.items) (the_chosen text.now columns.now keys [] (first ∷ others.now)) result }
+    ensures { AnswersVerdict (λ v. v.items) (the_chosen text.now columns.now keys [] (first ∷ others.now)) result }
 {
     let mut numbers = also_chosen(alloc, text, columns, keys, Vec::new(alloc), first)?;
     for name in others {
@@ -93,7 +93,7 @@ pub fn chosen_by_second(
     first: (Name, Name),
     others: &[(Name, Name)],
 ) -> Result<Vec<usize>, BindFault>
-    ensures { Answers (λ v. v.items) (the_chosen text.now columns.now false [] (first.1 ∷ map (λ p. p.1) others.now)) result }
+    ensures { AnswersVerdict (λ v. v.items) (the_chosen text.now columns.now false [] (first.1 ∷ map (λ p. p.1) others.now)) result }
 {
     let mut numbers = also_chosen(alloc, text, columns, false, Vec::new(alloc), first.1)?;
     for pair in others {
@@ -104,7 +104,7 @@ pub fn chosen_by_second(
 
 /// The numbers of all columns, from 0, for `distinct *`. Where one is a dynamic, Mistyped at this place.
 pub fn all_chosen(alloc: Global, at: usize, columns: &[Field]) -> Result<Vec<usize>, BindFault>
-    ensures { Answers (λ v. v.items) (the_all_chosen at 0 columns.now) result }
+    ensures { AnswersVerdict (λ v. v.items) (the_all_chosen at 0 columns.now) result }
 {
     let mut numbers = Vec::new(alloc);
     for i in 0..columns.len() {

@@ -3,7 +3,7 @@ ghost use Rattle.std.specs.Prelude.{◌≡◌, ◌∷◌, Ok, map};
 ghost use Rattle.kq_bind_columns.specs.Items.{nothing_made as made_nothing, put as the_put, put_default as the_put_default, put_own as the_put_own, put_given as the_put_given, as_key as the_as_key, operand as the_operand, item_made as the_item_made, items_made as the_items_made, unsupported_item as in_item, unsupported_items as in_items};
 ghost use Rattle.kq_bind_columns.specs.Made.{made_of};
 ghost use Rattle.kq_bind_expression.specs.Names.{names_of};
-ghost use Rattle.kq_bind_expression.specs.Verdicts.{Answers};
+ghost use Rattle.kq_bind_expression.specs.Verdicts.{AnswersVerdict};
 ghost use Rattle.kq_expr.specs.Terms.{typed_of};
 ghost use Rattle.kq_grammar.specs.Views.{tree_of, item_view};
 
@@ -37,7 +37,7 @@ pub fn nothing_made(alloc: Global) -> Made
 }
 
 fn put(made: Made, unnamed: usize, one: Typed, name: Text) -> Result<Made, BindFault>
-    ensures { Answers made_of (Ok (the_put (made_of made) unnamed (typed_of one) name)) result }
+    ensures { AnswersVerdict made_of (Ok (the_put (made_of made) unnamed (typed_of one) name)) result }
 {
     let mut exprs = made.exprs;
     let mut fields = made.fields;
@@ -59,7 +59,7 @@ pub fn put_default(
     one: Typed,
     name: Text,
 ) -> Result<Made, BindFault>
-    ensures { Answers made_of (Ok (the_put_default avoided.now (made_of made) (typed_of one) name)) result }
+    ensures { AnswersVerdict made_of (Ok (the_put_default avoided.now (made_of made) (typed_of one) name)) result }
 {
     let name = free_name(alloc, &made.fields, avoided, name)?;
     let unnamed = made.unnamed;
@@ -74,7 +74,7 @@ fn put_own(
     one: Typed,
     name: Option<Text>,
 ) -> Result<Made, BindFault>
-    ensures { Answers made_of (Ok (the_put_own avoided.now (made_of made) (typed_of one) name)) result }
+    ensures { AnswersVerdict made_of (Ok (the_put_own avoided.now (made_of made) (typed_of one) name)) result }
 {
     match name {
         Some(name) => put_default(alloc, avoided, made, one, name),
@@ -97,7 +97,7 @@ pub fn put_given(
     one: Typed,
     name: Name,
 ) -> Result<Made, BindFault>
-    ensures { Answers made_of (the_put_given text.now (made_of made) (typed_of one) name) result }
+    ensures { AnswersVerdict made_of (the_put_given text.now (made_of made) (typed_of one) name) result }
 {
     let given = name_text(alloc, text, name)?;
     if is_taken(&made.fields, given.as_str()) {
@@ -112,7 +112,7 @@ pub fn put_given(
 
 // A dynamic is no key.
 fn as_key(keys: bool, at: usize, one: Typed) -> Result<Typed, BindFault>
-    ensures { Answers typed_of (the_as_key keys at (typed_of one)) result }
+    ensures { AnswersVerdict typed_of (the_as_key keys at (typed_of one)) result }
 {
     if keys {
         if one.ty.same(Ty::Dynamic) {
@@ -133,7 +133,7 @@ pub fn operand(
     keys: bool,
     tree: &Expression,
 ) -> Result<Typed, BindFault>
-    ensures { Answers typed_of (the_operand (names_of scope.now) columns.now keys (tree_of tree.now)) result }
+    ensures { AnswersVerdict typed_of (the_operand (names_of scope.now) columns.now keys (tree_of tree.now)) result }
 {
     let one = bind_expression(alloc, scope, columns, tree)?;
     as_key(keys, first_token(tree), one)
@@ -148,7 +148,7 @@ fn item_made(
     made: Made,
     item: &Item,
 ) -> Result<Made, BindFault>
-    ensures { Answers made_of (the_item_made (names_of scope.now) columns.now avoided.now keys (made_of made) (item_view item.now)) result }
+    ensures { AnswersVerdict made_of (the_item_made (names_of scope.now) columns.now avoided.now keys (made_of made) (item_view item.now)) result }
 {
     match item {
         Item::Plain(tree) => {
@@ -173,7 +173,7 @@ pub fn items_made(
     before: Made,
     items: &[Item],
 ) -> Result<Made, BindFault>
-    ensures { Answers made_of (the_items_made (names_of scope.now) columns.now avoided.now keys (made_of before) (map item_view items.now)) result }
+    ensures { AnswersVerdict made_of (the_items_made (names_of scope.now) columns.now avoided.now keys (made_of before) (map item_view items.now)) result }
 {
     let mut made = before;
     for item in items {
@@ -193,7 +193,7 @@ pub fn all_made(
     others: &[Item],
 ) -> Result<Made, BindFault>
     ensures { let items = item_view first.now ∷ map item_view others.now in
-        Answers made_of (the_items_made (names_of scope.now) columns.now avoided.now keys made_nothing items) result }
+        AnswersVerdict made_of (the_items_made (names_of scope.now) columns.now avoided.now keys made_nothing items) result }
 {
     let made = nothing_made(alloc);
     let made = item_made(alloc, scope, columns, avoided, keys, made, first)?;

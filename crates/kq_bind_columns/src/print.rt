@@ -3,7 +3,7 @@ ghost use Rattle.std.specs.Prelude.{◌≡◌, ◌∷◌, map};
 ghost use Rattle.kq_bind_columns.specs.Made.{made_of};
 ghost use Rattle.kq_bind_columns.specs.Printed.{item_printed, items_printed, printed as the_printed};
 ghost use Rattle.kq_bind_expression.specs.Names.{names_of};
-ghost use Rattle.kq_bind_expression.specs.Verdicts.{Answers};
+ghost use Rattle.kq_bind_expression.specs.Verdicts.{AnswersVerdict};
 ghost use Rattle.kq_grammar.specs.Views.{item_view};
 
 use crate::items::{Made, nothing_made, put_default, put_given};
@@ -19,7 +19,7 @@ fn print_item(
     made: Made,
     item: &Item,
 ) -> Result<Made, BindFault>
-    ensures { Answers made_of (item_printed (names_of scope.now) position (made_of made) (item_view item.now)) result }
+    ensures { AnswersVerdict made_of (item_printed (names_of scope.now) position (made_of made) (item_view item.now)) result }
 {
     match item {
         Item::Plain(tree) => {
@@ -41,7 +41,7 @@ fn print_others(
     first: Made,
     items: &[Item],
 ) -> Result<Made, BindFault>
-    ensures { Answers made_of (items_printed (names_of scope.now) 1 (made_of first) (map item_view items.now)) result }
+    ensures { AnswersVerdict made_of (items_printed (names_of scope.now) 1 (made_of first) (map item_view items.now)) result }
 {
     let mut made = first;
     for i in 0..items.len() {
@@ -57,7 +57,7 @@ pub fn printed(
     first: &Item,
     others: &[Item],
 ) -> Result<Made, BindFault>
-    ensures { Answers made_of (the_printed (names_of scope.now) (item_view first.now ∷ map item_view others.now)) result }
+    ensures { AnswersVerdict made_of (the_printed (names_of scope.now) (item_view first.now ∷ map item_view others.now)) result }
 {
     let made = print_item(alloc, scope, 0, nothing_made(alloc), first)?;
     print_others(alloc, scope, made, others)

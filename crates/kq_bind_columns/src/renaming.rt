@@ -1,7 +1,7 @@
 // New names of columns.
 ghost use Rattle.std.specs.Prelude.{◌≡◌, ◌∷◌, IfOk, map};
 ghost use Rattle.kq_bind_columns.specs.Chosen.{names_given as the_names_given, new_name as the_new_name, renamed as the_renamed};
-ghost use Rattle.kq_bind_expression.specs.Verdicts.{Answers};
+ghost use Rattle.kq_bind_expression.specs.Verdicts.{AnswersVerdict};
 
 use crate::naming::is_taken;
 use kq_bind_expression::BindFault;
@@ -31,7 +31,7 @@ fn all_given(
     kept: Vec<Field>,
     names: &[Name],
 ) -> Result<Vec<Text>, BindFault>
-    ensures { Answers (λ v. v.items) (the_names_given text.now kept.items names.now) result }
+    ensures { AnswersVerdict (λ v. v.items) (the_names_given text.now kept.items names.now) result }
 {
     let mut taken = kept;
     let mut given = Vec::new(alloc);
@@ -59,7 +59,7 @@ pub fn names_given(
     first: (Name, Name),
     others: &[(Name, Name)],
 ) -> Result<Vec<Text>, BindFault>
-    ensures { Answers (λ v. v.items) (the_names_given text.now kept.items (first.0 ∷ map (λ p. p.0) others.now)) result }
+    ensures { AnswersVerdict (λ v. v.items) (the_names_given text.now kept.items (first.0 ∷ map (λ p. p.0) others.now)) result }
 {
     let names = first_names(alloc, first, others)?;
     all_given(alloc, text, kept, &names)

@@ -12,7 +12,7 @@ use Rattle.kq_expr.specs.Terms.{Bound}
 use Rattle.kq_fn.specs.declared.function.Function.{Function}
 use Rattle.kq_fn.specs.declared.function.Function.TheVariants as f
 use Rattle.kq_fn.specs.Names.{function_named}
-use Rattle.kq_fn.specs.Table.{chosen, Chosen}
+use Rattle.kq_fn.specs.Table.{chosen, TypedCall}
 use Rattle.kq_grammar.specs.Trees.{Precedence, Tree, name, literal, group, call, path, signed, compare, within, between, chain, Trees, no_tree, and_tree, Links, no_link, and_link, OneStep, member, index, Steps, no_step, and_step}
 use Rattle.kq_spelled.specs.Literals.{literal_value}
 use Rattle.kq_spelled.specs.Names.{name_said, name_place}
@@ -40,7 +40,7 @@ all_fine : (vs : List (Verdict Bound)) → AreSupported vs → IsSupported (all_
 all_fine [] h = fine []
 all_fine (v ∷ vs) h = then_fine v (λ x. and_then (all_of vs) (λ xs. Ok (x ∷ xs))) h.0 (λ x. then_fine (all_of vs) (λ xs. Ok (x ∷ xs)) (all_fine vs h.1) (λ xs. fine (x ∷ xs)))
 
-called_fine : (g : Function) (at : ℕ) (xs : List Bound) (o : Option Chosen) → IsSupported (called_as g at xs o)
+called_fine : (g : Function) (at : ℕ) (xs : List Bound) (o : Option TypedCall) → IsSupported (called_as g at xs o)
 called_fine g at xs (Some c) place e = cc
 called_fine g at xs None place e = cc
 

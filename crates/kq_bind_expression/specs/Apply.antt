@@ -4,7 +4,7 @@ use Rattle.kq_bind_expression.specs.Verdicts.{Verdict, mistyped, and_then, all_o
 use Rattle.kq_expr.specs.Terms.{Term, Bound, call, terms_of, no_term, and_term}
 use Rattle.kq_fn.specs.declared.function.Function.{Function}
 use Rattle.kq_fn.specs.declared.function.Function.TheVariants as f
-use Rattle.kq_fn.specs.Table.{chosen, Chosen}
+use Rattle.kq_fn.specs.Table.{chosen, TypedCall}
 use Rattle.kq_value.specs.declared.ty.Ty.{Ty}
 use Rattle.kq_value.specs.declared.ty.Ty.TheVariants as ty
 
@@ -16,7 +16,7 @@ as_taken w x = x.0
 abbrev pub type_of : Bound → Ty
 type_of x = x.1
 
-abbrev pub called_as : Function → ℕ → List Bound → Option Chosen → Verdict Bound
+abbrev pub called_as : Function → ℕ → List Bound → Option TypedCall → Verdict Bound
 called_as f at given (Some c) = Ok (call f (terms_of (map (as_taken c.0) given)), c.1)
 called_as f at given None = Err (mistyped at)
 

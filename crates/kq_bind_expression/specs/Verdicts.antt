@@ -32,9 +32,9 @@ supported_or (Some at) v = Err (unsupported at)
 supported_or None v = v
 
 -- the answer is the verdict, unless memory ran out
-abbrev pub Answers : {A B : Type 0} → (A → B) → Verdict B → Result A BindFault → Type 0
-Answers view v (Ok x) = v ≡ Ok (view x)
-Answers view v (Err (fault.Unsupported at)) = v ≡ Err (unsupported at)
-Answers view v (Err (fault.Unknown at)) = v ≡ Err (unknown at)
-Answers view v (Err (fault.Mistyped at)) = v ≡ Err (mistyped at)
-Answers view v (Err fault.Memory) = Unit {0}
+abbrev pub AnswersVerdict : {A B : Type 0} → (A → B) → Verdict B → Result A BindFault → Type 0
+AnswersVerdict view v (Ok x) = v ≡ Ok (view x)
+AnswersVerdict view v (Err (fault.Unsupported at)) = v ≡ Err (unsupported at)
+AnswersVerdict view v (Err (fault.Unknown at)) = v ≡ Err (unknown at)
+AnswersVerdict view v (Err (fault.Mistyped at)) = v ≡ Err (mistyped at)
+AnswersVerdict view v (Err fault.Memory) = Unit {0}

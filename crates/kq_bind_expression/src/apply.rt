@@ -1,7 +1,7 @@
 // Operators and functions at what is bound.
 ghost use Rattle.std.specs.Prelude.{◌≡◌, [], ◌∷◌, map, IfOk};
 ghost use Rattle.kq_bind_expression.specs.Apply.{applied, as_taken, type_of};
-ghost use Rattle.kq_bind_expression.specs.Verdicts.{Answers};
+ghost use Rattle.kq_bind_expression.specs.Verdicts.{AnswersVerdict};
 ghost use Rattle.kq_expr.specs.Terms.{typed_of, term_of};
 
 use crate::fault::BindFault;
@@ -17,7 +17,7 @@ pub fn apply(
     at: usize,
     given: Vec<Typed>,
 ) -> Result<Typed, BindFault>
-    ensures { Answers typed_of (applied function at (map typed_of given.items)) result }
+    ensures { AnswersVerdict typed_of (applied function at (map typed_of given.items)) result }
 {
     let types = types_of(alloc, &given)?;
     match choose(function, &types) {
@@ -72,7 +72,7 @@ pub fn apply_to_one(
     at: usize,
     operand: Typed,
 ) -> Result<Typed, BindFault>
-    ensures { Answers typed_of (applied function at (typed_of operand ∷ [])) result }
+    ensures { AnswersVerdict typed_of (applied function at (typed_of operand ∷ [])) result }
 {
     let mut given = Vec::new(alloc);
     given.push(operand)?;
@@ -86,7 +86,7 @@ pub fn apply_to_two(
     first: Typed,
     second: Typed,
 ) -> Result<Typed, BindFault>
-    ensures { Answers typed_of (applied function at (typed_of first ∷ typed_of second ∷ [])) result }
+    ensures { AnswersVerdict typed_of (applied function at (typed_of first ∷ typed_of second ∷ [])) result }
 {
     let mut given = Vec::new(alloc);
     given.push(first)?;
@@ -102,7 +102,7 @@ pub fn apply_to_three(
     second: Typed,
     third: Typed,
 ) -> Result<Typed, BindFault>
-    ensures { Answers typed_of (applied function at (typed_of first ∷ typed_of second ∷ typed_of third ∷ [])) result }
+    ensures { AnswersVerdict typed_of (applied function at (typed_of first ∷ typed_of second ∷ typed_of third ∷ [])) result }
 {
     let mut given = Vec::new(alloc);
     given.push(first)?;

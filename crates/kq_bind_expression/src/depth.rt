@@ -1,7 +1,7 @@
 // How deep the calls of an expression nest.
 ghost use Rattle.kq_bind_expression.specs.Bound.{bound};
 ghost use Rattle.kq_bind_expression.specs.Names.{names_of};
-ghost use Rattle.kq_bind_expression.specs.Verdicts.{Answers};
+ghost use Rattle.kq_bind_expression.specs.Verdicts.{AnswersVerdict};
 ghost use Rattle.kq_expr.specs.Terms.{typed_of};
 ghost use Rattle.kq_grammar.specs.Views.{tree_of};
 
@@ -99,7 +99,7 @@ pub fn bind_expression(
     columns: &[Field],
     tree: &Expression,
 ) -> Result<Typed, BindFault>
-    ensures { Answers typed_of (bound (names_of scope.now) columns.now (tree_of tree.now)) result }
+    ensures { AnswersVerdict typed_of (bound (names_of scope.now) columns.now (tree_of tree.now)) result }
 {
     if depth(tree) > MOST_DEPTH {
         Err(BindFault::Memory)

@@ -5,7 +5,7 @@ ghost use Rattle.kq_bind_expression.specs.Bound.{bound, bounds, chained, stepped
 ghost use Rattle.kq_bind_expression.specs.Names.{names_of};
 ghost use Rattle.kq_bind_expression.specs.Operators as the;
 ghost use Rattle.kq_bind_expression.specs.Seen.{all_typed};
-ghost use Rattle.kq_bind_expression.specs.Verdicts.{Answers};
+ghost use Rattle.kq_bind_expression.specs.Verdicts.{AnswersVerdict};
 ghost use Rattle.kq_expr.specs.Terms.{typed_of};
 ghost use Rattle.kq_grammar.specs.Views.{tree_of, trees_of, link_of, links_of, interval_of, step_of, steps_of, precedence_of};
 
@@ -30,7 +30,7 @@ pub(crate) fn bind_tree(
     columns: &[Field],
     tree: &Expression,
 ) -> Result<Typed, BindFault>
-    ensures { Answers typed_of (bound (names_of scope.now) columns.now (tree_of tree.now)) result }
+    ensures { AnswersVerdict typed_of (bound (names_of scope.now) columns.now (tree_of tree.now)) result }
 {
     match tree {
         Expression::Name(name) => named(alloc, scope, columns, *name),
@@ -80,7 +80,7 @@ fn bind_all(
     columns: &[Field],
     trees: &Vec<Expression>,
 ) -> Result<Vec<Typed>, BindFault>
-    ensures { Answers all_typed (bounds (names_of scope.now) columns.now (trees_of (map tree_of trees.now.items))) result }
+    ensures { AnswersVerdict all_typed (bounds (names_of scope.now) columns.now (trees_of (map tree_of trees.now.items))) result }
 {
     let mut given = Vec::new(alloc);
     for tree in trees {
@@ -98,7 +98,7 @@ fn bind_comparison(
     right: &Link,
 ) -> Result<Typed, BindFault>
     ensures { let r = link_of right.now in
-        Answers typed_of (the_apply (the.comparison r.0.kind) r.0.from (Ok (typed_of left) ∷ bound (names_of scope.now) columns.now r.1 ∷ [])) result }
+        AnswersVerdict typed_of (the_apply (the.comparison r.0.kind) r.0.from (Ok (typed_of left) ∷ bound (names_of scope.now) columns.now r.1 ∷ [])) result }
 {
     let operand = bind_tree(alloc, scope, columns, &right.operand)?;
     apply_to_two(
@@ -117,7 +117,7 @@ fn bind_operand(
     columns: &[Field],
     link: &Link,
 ) -> Result<Typed, BindFault>
-    ensures { Answers typed_of (bound (names_of scope.now) columns.now (link_of link.now).1) result }
+    ensures { AnswersVerdict typed_of (bound (names_of scope.now) columns.now (link_of link.now).1) result }
 {
     bind_tree(alloc, scope, columns, &link.operand)
 }
@@ -133,7 +133,7 @@ fn bind_between(
     ensures { let e = interval_of ends.now in
         let low = bound (names_of scope.now) columns.now e.low in
         let high = bound (names_of scope.now) columns.now e.high in
-        Answers typed_of (the_apply (the.interval e.operator.kind) e.operator.from (Ok (typed_of operand) ∷ low ∷ high ∷ [])) result }
+        AnswersVerdict typed_of (the_apply (the.interval e.operator.kind) e.operator.from (Ok (typed_of operand) ∷ low ∷ high ∷ [])) result }
 {
     let low = bind_tree(alloc, scope, columns, &ends.low)?;
     let high = bind_tree(alloc, scope, columns, &ends.high)?;
@@ -158,7 +158,7 @@ fn bind_link(
 ) -> Result<Typed, BindFault>
     ensures { let r = link_of link.now in
         let operands = Ok (typed_of left) ∷ bound (names_of scope.now) columns.now r.1 ∷ [] in
-        Answers typed_of (the_apply (the.operation (precedence_of level) r.0.kind) r.0.from operands) result }
+        AnswersVerdict typed_of (the_apply (the.operation (precedence_of level) r.0.kind) r.0.from operands) result }
 {
     let operand = bind_tree(alloc, scope, columns, &link.operand)?;
     apply_to_two(
@@ -179,7 +179,7 @@ fn bind_links(
     first: Typed,
     links: &Vec<Link>,
 ) -> Result<Typed, BindFault>
-    ensures { Answers typed_of (chained (names_of scope.now) columns.now (precedence_of level) (typed_of first) (links_of (map link_of links.now.items))) result }
+    ensures { AnswersVerdict typed_of (chained (names_of scope.now) columns.now (precedence_of level) (typed_of first) (links_of (map link_of links.now.items))) result }
 {
     let mut left = first;
     for link in links {
@@ -196,7 +196,7 @@ fn bind_step(
     first: Typed,
     step: &Step,
 ) -> Result<Typed, BindFault>
-    ensures { Answers typed_of (stepped (names_of scope.now) columns.now (typed_of first) (step_of step.now)) result }
+    ensures { AnswersVerdict typed_of (stepped (names_of scope.now) columns.now (typed_of first) (step_of step.now)) result }
 {
     match step {
         Step::Member(dot, name) => {
@@ -218,7 +218,7 @@ fn bind_steps(
     first: Typed,
     steps: &Vec<Step>,
 ) -> Result<Typed, BindFault>
-    ensures { Answers typed_of (walked (names_of scope.now) columns.now (typed_of first) (steps_of (map step_of steps.now.items))) result }
+    ensures { AnswersVerdict typed_of (walked (names_of scope.now) columns.now (typed_of first) (steps_of (map step_of steps.now.items))) result }
 {
     let mut from = first;
     for step in steps {
@@ -229,14 +229,14 @@ fn bind_steps(
 
 fn apply_within(alloc: Global, link: &Link, given: Vec<Typed>) -> Result<Typed, BindFault>
     ensures { let t = (link_of link.now).0 in
-        Answers typed_of (applied (the.membership t.kind) t.from (map typed_of given.items)) result }
+        AnswersVerdict typed_of (applied (the.membership t.kind) t.from (map typed_of given.items)) result }
 {
     let operator = link.operator;
     apply(alloc, membership(operator.kind), operator.from, given)
 }
 
 fn literal(alloc: Global, scope: &Scope, symbol: Symbol) -> Result<Typed, BindFault>
-    ensures { Answers typed_of (the_literal_of (names_of scope.now) symbol) result }
+    ensures { AnswersVerdict typed_of (the_literal_of (names_of scope.now) symbol) result }
 {
     match literal_value(alloc, scope.text, symbol)? {
         Some(value) => Ok(constant(value)),
@@ -256,7 +256,7 @@ fn constant(value: Value) -> Typed
 
 // The name of a member, as a string.
 fn member_name(alloc: Global, scope: &Scope, name: Name) -> Result<Typed, BindFault>
-    ensures { Answers typed_of (Ok (the_member_name (names_of scope.now) name)) result }
+    ensures { AnswersVerdict typed_of (Ok (the_member_name (names_of scope.now) name)) result }
 {
     let name = name_text(alloc, scope.text, name)?;
     Ok(Typed {
@@ -266,7 +266,7 @@ fn member_name(alloc: Global, scope: &Scope, name: Name) -> Result<Typed, BindFa
 }
 
 fn function_of(scope: &Scope, word: Symbol) -> Result<Function, BindFault>
-    ensures { Answers (λ f. f) (the_function_of (names_of scope.now) word) result }
+    ensures { AnswersVerdict (λ f. f) (the_function_of (names_of scope.now) word) result }
 {
     match find(piece(scope.text, word)) {
         Some(function) => Ok(function),

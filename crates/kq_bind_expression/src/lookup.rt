@@ -3,7 +3,7 @@ ghost use Rattle.std.specs.Prelude.{◌≡◌};
 ghost use Rattle.std.specs.Option.{option_map};
 ghost use Rattle.kq_bind_expression.specs.Lookup.{first_named as the_first_named, meant as the_meant, named as the_named};
 ghost use Rattle.kq_bind_expression.specs.Names.{names_of};
-ghost use Rattle.kq_bind_expression.specs.Verdicts.{Answers};
+ghost use Rattle.kq_bind_expression.specs.Verdicts.{AnswersVerdict};
 ghost use Rattle.kq_expr.specs.Terms.{typed_of};
 
 use crate::fault::BindFault;
@@ -21,7 +21,7 @@ pub fn named(
     columns: &[Field],
     name: Name,
 ) -> Result<Typed, BindFault>
-    ensures { Answers typed_of (the_named (names_of scope.now) columns.now name) result }
+    ensures { AnswersVerdict typed_of (the_named (names_of scope.now) columns.now name) result }
 {
     let found = match name {
         Name::Word(symbol) => meant(scope, columns, piece(scope.text, symbol)),

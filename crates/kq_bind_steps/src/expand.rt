@@ -2,7 +2,7 @@
 ghost use Rattle.std.specs.Prelude.{◌≡◌, IfOk, Ok, slice_set};
 ghost use Rattle.kq_bind_steps.specs.Clauses as the;
 ghost use Rattle.kq_bind_steps.specs.Seen.{flow_of, scoping_of};
-ghost use Rattle.kq_bind_expression.specs.Verdicts.{Answers};
+ghost use Rattle.kq_bind_expression.specs.Verdicts.{AnswersVerdict};
 ghost use Rattle.kq_expr.specs.Terms.{typed_of};
 ghost use Rattle.kq_grammar.specs.Views.{tree_of, item_view};
 
@@ -20,7 +20,7 @@ use kq_value::{Field, Memory, Text, Ty};
 use std::alloc::Global;
 
 fn part_type<N: Names>(scope: &Scope<N>, word: Option<Symbol>) -> Result<Option<Ty>, BindFault>
-    ensures { Answers (λ t. t) (the.part_type (scoping_of N.known scope.now) word) result }
+    ensures { AnswersVerdict (λ t. t) (the.part_type (scoping_of N.known scope.now) word) result }
 {
     match word {
         None => Ok(None),
@@ -73,7 +73,7 @@ fn item_value(item: &Item) -> &Expression
 }
 
 fn if_dynamic(at: usize, one: Typed) -> Result<Typed, BindFault>
-    ensures { Answers typed_of (the.if_dynamic at (typed_of one)) result }
+    ensures { AnswersVerdict typed_of (the.if_dynamic at (typed_of one)) result }
 {
     if one.ty.same(Ty::Dynamic) {
         Ok(one)
@@ -99,7 +99,7 @@ fn expanded_as(
     name: Text,
     ty: Option<Ty>,
 ) -> Result<Flow, BindFault>
-    ensures { Answers flow_of (Ok (the.expanded_as (flow_of flow) (typed_of one) name ty)) result }
+    ensures { AnswersVerdict flow_of (Ok (the.expanded_as (flow_of flow) (typed_of one) name ty)) result }
 {
     let mut fields = copied(alloc, columns(&flow))?;
     let place = first_named(&fields, name.as_str());
@@ -136,7 +136,7 @@ pub fn parts_of<N: Names>(
     item: &Item,
     word: Option<Symbol>,
 ) -> Result<Flow, BindFault>
-    ensures { Answers flow_of (the.parts_of (scoping_of N.known scope.now) (flow_of flow) (item_view item.now) word) result }
+    ensures { AnswersVerdict flow_of (the.parts_of (scoping_of N.known scope.now) (flow_of flow) (item_view item.now) word) result }
 {
     let seen = expression_scope(scope);
     let tree = item_value(item);

@@ -2,7 +2,7 @@
 ghost use Rattle.std.specs.Prelude.{◌≡◌, Ok, IfOk, map};
 ghost use Rattle.kq_bind_steps.specs.Flows.{added as the_added, following as the_following, next_stage as the_next_stage, again as the_again, columns_at as the_columns_at, columns as the_columns};
 ghost use Rattle.kq_bind_steps.specs.Seen.{flow_of, progress_of};
-ghost use Rattle.kq_bind_expression.specs.Verdicts.{Answers};
+ghost use Rattle.kq_bind_expression.specs.Verdicts.{AnswersVerdict};
 ghost use Rattle.kq_plan.specs.Plans.{doing_of, stepping_of};
 
 use kq_bind_expression::BindFault;
@@ -26,7 +26,7 @@ pub struct Flow {
 
 /// One stage more. More than a number counts are more than memory holds.
 pub fn next_stage(progress: Progress) -> Result<Progress, BindFault>
-    ensures { Answers progress_of (Ok (the_next_stage (progress_of progress))) result }
+    ensures { AnswersVerdict progress_of (Ok (the_next_stage (progress_of progress))) result }
 {
     match progress.stages.checked_add(1) {
         Some(stages) => Ok(Progress {
@@ -44,7 +44,7 @@ pub(crate) fn added(
     work: Work,
     columns: Vec<Field>,
 ) -> Result<Flow, BindFault>
-    ensures { Answers flow_of (Ok (the_added (progress_of progress) stage (doing_of work) columns.items)) result }
+    ensures { AnswersVerdict flow_of (Ok (the_added (progress_of progress) stage (doing_of work) columns.items)) result }
 {
     let mut steps = progress.steps;
     let input = steps.len();
@@ -62,7 +62,7 @@ pub(crate) fn added(
 
 /// The next stage is this step.
 pub fn following(progress: Progress, work: Work, columns: Vec<Field>) -> Result<Flow, BindFault>
-    ensures { Answers flow_of (Ok (the_following (progress_of progress) (doing_of work) columns.items)) result }
+    ensures { AnswersVerdict flow_of (Ok (the_following (progress_of progress) (doing_of work) columns.items)) result }
 {
     let progress = next_stage(progress)?;
     let stage = progress.stages;
@@ -71,7 +71,7 @@ pub fn following(progress: Progress, work: Work, columns: Vec<Field>) -> Result<
 
 // The rows of an earlier step go on, at one stage more.
 pub(crate) fn again(progress: Progress, input: usize) -> Result<Flow, BindFault>
-    ensures { Answers flow_of (Ok (the_again (progress_of progress) input)) result }
+    ensures { AnswersVerdict flow_of (Ok (the_again (progress_of progress) input)) result }
 {
     Ok(Flow {
         progress: next_stage(progress)?,

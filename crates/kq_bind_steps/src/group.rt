@@ -8,7 +8,7 @@ ghost use Rattle.kq_bind_steps.specs.Flows.{columns as the_columns};
 ghost use Rattle.kq_bind_steps.specs.Scopes.{names as the_names};
 ghost use Rattle.kq_bind_columns.specs.Items.{items_made, nothing_made as made_nothing};
 ghost use Rattle.kq_bind_columns.specs.Made.{made_of};
-ghost use Rattle.kq_bind_expression.specs.Verdicts.{Answers};
+ghost use Rattle.kq_bind_expression.specs.Verdicts.{AnswersVerdict};
 ghost use Rattle.kq_expr.specs.Terms.{term_of};
 ghost use Rattle.kq_grammar.specs.Views.{aggregate_view, grouping_view};
 
@@ -29,7 +29,7 @@ fn keys_made<N: Names>(
     keys: &Option<Grouping>,
 ) -> Result<Made, BindFault>
     ensures { let items = the.grouping_items (option_map grouping_view keys.now) in
-        Answers made_of (items_made (the_names (scoping_of N.known scope.now)) (the_columns (flow_of flow.now)) [] true made_nothing items) result }
+        AnswersVerdict made_of (items_made (the_names (scoping_of N.known scope.now)) (the_columns (flow_of flow.now)) [] true made_nothing items) result }
 {
     match keys {
         None => Ok(nothing_made(alloc)),
@@ -49,7 +49,7 @@ fn keys_made<N: Names>(
 }
 
 fn summarized_by(flow: Flow, keys: Vec<Expr>, gathered: Gathered) -> Result<Flow, BindFault>
-    ensures { Answers flow_of (Ok (the.summarized_by (flow_of flow) (map term_of keys.items) (gathering_of gathered))) result }
+    ensures { AnswersVerdict flow_of (Ok (the.summarized_by (flow_of flow) (map term_of keys.items) (gathering_of gathered))) result }
 {
     following(
         flow.progress,
@@ -69,7 +69,7 @@ pub fn grouped<N: Names>(
 ) -> Result<Flow, BindFault>
     ensures { let given = aggregate_view first.now ∷ map aggregate_view others.now in
         let items = the.grouping_items (option_map grouping_view keys.now) in
-        Answers flow_of (the.grouped (scoping_of N.known scope.now) (flow_of flow) given items) result }
+        AnswersVerdict flow_of (the.grouped (scoping_of N.known scope.now) (flow_of flow) given items) result }
 {
     let made = keys_made(alloc, scope, &flow, keys)?;
     let seen = expression_scope(scope);
@@ -85,7 +85,7 @@ pub fn grouped_by<N: Names>(
     keys: &Grouping,
 ) -> Result<Flow, BindFault>
     ensures { let g = grouping_view keys.now in
-        Answers flow_of (the.grouped (scoping_of N.known scope.now) (flow_of flow) [] (g.0 ∷ g.1)) result }
+        AnswersVerdict flow_of (the.grouped (scoping_of N.known scope.now) (flow_of flow) [] (g.0 ∷ g.1)) result }
 {
     let seen = expression_scope(scope);
     let made = all_made(

@@ -5,7 +5,7 @@ ghost use Rattle.kq_bind_steps.specs.Flows.{after as the_after};
 ghost use Rattle.kq_bind_steps.specs.Operators as the;
 ghost use Rattle.kq_bind_steps.specs.Seen.{flow_of, scoping_of};
 ghost use Rattle.kq_bind_columns.specs.Made.{columns_of};
-ghost use Rattle.kq_bind_expression.specs.Verdicts.{Answers};
+ghost use Rattle.kq_bind_expression.specs.Verdicts.{AnswersVerdict};
 ghost use Rattle.kq_expr.specs.Terms.{typed_of};
 ghost use Rattle.kq_grammar.specs.Views.{tree_of, item_view};
 ghost use Rattle.kq_plan.specs.Plans.{counted};
@@ -34,7 +34,7 @@ pub fn filtered<N: Names>(
     flow: Flow,
     tree: &Expression,
 ) -> Result<Flow, BindFault>
-    ensures { Answers flow_of (the.filtered (scoping_of N.known scope.now) (flow_of flow) (tree_of tree.now)) result }
+    ensures { AnswersVerdict flow_of (the.filtered (scoping_of N.known scope.now) (flow_of flow) (tree_of tree.now)) result }
 {
     let seen = expression_scope(scope);
     let one = bind_expression(alloc, &seen, columns(&flow), tree)?;
@@ -42,7 +42,7 @@ pub fn filtered<N: Names>(
 }
 
 fn where_true(alloc: Global, flow: Flow, at: usize, one: Typed) -> Result<Flow, BindFault>
-    ensures { Answers flow_of (the.where_true (flow_of flow) at (typed_of one)) result }
+    ensures { AnswersVerdict flow_of (the.where_true (flow_of flow) at (typed_of one)) result }
 {
     if one.ty.same(Ty::Bool) {
         let kept = copied(alloc, columns(&flow))?;
@@ -67,7 +67,7 @@ pub(crate) fn row_number<N: Names>(
     scope: &Scope<N>,
     number: Symbol,
 ) -> Result<u64, BindFault>
-    ensures { Answers (λ n. n) (the.row_number (scoping_of N.known scope.now) number) result }
+    ensures { AnswersVerdict (λ n. n) (the.row_number (scoping_of N.known scope.now) number) result }
 {
     let value = literal_value(alloc, scope.text, number)?;
     match natural(value) {
@@ -83,7 +83,7 @@ pub fn taken<N: Names>(
     flow: Flow,
     number: Symbol,
 ) -> Result<Flow, BindFault>
-    ensures { Answers flow_of (the.taken (scoping_of N.known scope.now) (flow_of flow) number) result }
+    ensures { AnswersVerdict flow_of (the.taken (scoping_of N.known scope.now) (flow_of flow) number) result }
 {
     let rows = row_number(alloc, scope, number)?;
     let kept = copied(alloc, columns(&flow))?;
@@ -101,7 +101,7 @@ fn count_column(alloc: Global) -> Result<Vec<Field>, Memory>
 
 /// `count`.
 pub fn counted_rows(alloc: Global, flow: Flow) -> Result<Flow, BindFault>
-    ensures { Answers flow_of (Ok (the_after (flow_of flow) counted the.count_column)) result }
+    ensures { AnswersVerdict flow_of (Ok (the_after (flow_of flow) counted the.count_column)) result }
 {
     let columns = count_column(alloc)?;
     following(flow.progress, Work::Count(flow.input), columns)
@@ -117,7 +117,7 @@ pub fn projected<N: Names>(
     first: &Item,
     others: &[Item],
 ) -> Result<Flow, BindFault>
-    ensures { Answers flow_of (the.projected (scoping_of N.known scope.now) (flow_of flow) (item_view first.now ∷ map item_view others.now)) result }
+    ensures { AnswersVerdict flow_of (the.projected (scoping_of N.known scope.now) (flow_of flow) (item_view first.now ∷ map item_view others.now)) result }
 {
     let seen = expression_scope(scope);
     let made = all_made(alloc, &seen, columns(&flow), &[], false, first, others)?;
@@ -129,7 +129,7 @@ pub fn projected<N: Names>(
 }
 
 fn laid_after(flow: Flow, laid: Laid) -> Result<Flow, BindFault>
-    ensures { Answers flow_of (Ok (the.laid_after (flow_of flow) (columns_of laid))) result }
+    ensures { AnswersVerdict flow_of (Ok (the.laid_after (flow_of flow) (columns_of laid))) result }
 {
     following(
         flow.progress,
@@ -146,7 +146,7 @@ pub fn extended<N: Names>(
     first: &Item,
     others: &[Item],
 ) -> Result<Flow, BindFault>
-    ensures { Answers flow_of (the.extended (scoping_of N.known scope.now) (flow_of flow) (item_view first.now ∷ map item_view others.now)) result }
+    ensures { AnswersVerdict flow_of (the.extended (scoping_of N.known scope.now) (flow_of flow) (item_view first.now ∷ map item_view others.now)) result }
 {
     let seen = expression_scope(scope);
     let made = all_made(
@@ -170,7 +170,7 @@ pub fn dropped<N: Names>(
     first: Name,
     others: &[Name],
 ) -> Result<Flow, BindFault>
-    ensures { Answers flow_of (the.dropped (scoping_of N.known scope.now) (flow_of flow) (first ∷ others.now)) result }
+    ensures { AnswersVerdict flow_of (the.dropped (scoping_of N.known scope.now) (flow_of flow) (first ∷ others.now)) result }
 {
     let numbers = chosen(alloc, scope.text, columns(&flow), false, first, others)?;
     let laid = without(alloc, columns(&flow), &numbers)?;
@@ -185,7 +185,7 @@ pub fn renamed<N: Names>(
     first: (Name, Name),
     others: &[(Name, Name)],
 ) -> Result<Flow, BindFault>
-    ensures { Answers flow_of (the.renamed (scoping_of N.known scope.now) (flow_of flow) (first ∷ others.now)) result }
+    ensures { AnswersVerdict flow_of (the.renamed (scoping_of N.known scope.now) (flow_of flow) (first ∷ others.now)) result }
 {
     let numbers = chosen_by_second(alloc, scope.text, columns(&flow), first, others)?;
     let others_kept = without(alloc, columns(&flow), &numbers)?;
@@ -205,7 +205,7 @@ pub fn distinct_rows<N: Names>(
     first: Name,
     others: &[Name],
 ) -> Result<Flow, BindFault>
-    ensures { Answers flow_of (the.distinct_rows (scoping_of N.known scope.now) (flow_of flow) (first ∷ others.now)) result }
+    ensures { AnswersVerdict flow_of (the.distinct_rows (scoping_of N.known scope.now) (flow_of flow) (first ∷ others.now)) result }
 {
     let numbers = chosen(alloc, scope.text, columns(&flow), true, first, others)?;
     let fields = columns_at(alloc, columns(&flow), &numbers)?;
@@ -214,7 +214,7 @@ pub fn distinct_rows<N: Names>(
 
 /// `distinct` of all columns.
 pub fn all_distinct(alloc: Global, flow: Flow, star: Symbol) -> Result<Flow, BindFault>
-    ensures { Answers flow_of (the.all_distinct (flow_of flow) star) result }
+    ensures { AnswersVerdict flow_of (the.all_distinct (flow_of flow) star) result }
 {
     let numbers = all_chosen(alloc, star.from, columns(&flow))?;
     let kept = copied(alloc, columns(&flow))?;

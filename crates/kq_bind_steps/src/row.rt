@@ -2,7 +2,7 @@
 ghost use Rattle.std.specs.Prelude.{◌≡◌, ◌∷◌, map};
 ghost use Rattle.kq_bind_steps.specs.Operators.{printed_row as the_printed_row};
 ghost use Rattle.kq_bind_steps.specs.Seen.{flow_of, progress_of, scoping_of};
-ghost use Rattle.kq_bind_expression.specs.Verdicts.{Answers};
+ghost use Rattle.kq_bind_expression.specs.Verdicts.{AnswersVerdict};
 ghost use Rattle.kq_grammar.specs.Views.{item_view};
 
 use crate::flow::{Flow, Progress, following};
@@ -21,7 +21,7 @@ pub fn printed_row<N: Names>(
     first: &Item,
     others: &[Item],
 ) -> Result<Flow, BindFault>
-    ensures { Answers flow_of (the_printed_row (scoping_of N.known scope.now) (progress_of progress) (item_view first.now ∷ map item_view others.now)) result }
+    ensures { AnswersVerdict flow_of (the_printed_row (scoping_of N.known scope.now) (progress_of progress) (item_view first.now ∷ map item_view others.now)) result }
 {
     let seen = expression_scope(scope);
     let made = printed(alloc, &seen, first, others)?;

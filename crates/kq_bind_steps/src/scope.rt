@@ -4,7 +4,7 @@ ghost use Rattle.std.specs.Option.{option_map};
 ghost use Rattle.kq_bind_steps.specs.Scopes.{leaf_kind as the_leaf_kind, leaf_of as the_leaf_of, named_rows as the_named_rows, source_named as the_source_named, part_of as the_part_of, part_named as the_part_named, tabling_named as the_tabling_named, names as the_names};
 ghost use Rattle.kq_bind_steps.specs.Seen.{flow_of, progress_of, tabling_of, scoping_of};
 ghost use Rattle.kq_bind_expression.specs.Names.{names_of};
-ghost use Rattle.kq_bind_expression.specs.Verdicts.{Answers};
+ghost use Rattle.kq_bind_expression.specs.Verdicts.{AnswersVerdict};
 ghost use Rattle.kq_plan.specs.Names.{known_of};
 
 use crate::flow::{Flow, Progress, again, copied, following};
@@ -70,7 +70,7 @@ fn leaf(
     name: Text,
     found: Option<(NameKind, &Schema)>,
 ) -> Result<Flow, BindFault>
-    ensures { Answers flow_of (the_leaf_of at (progress_of progress) name (option_map known_of found.entry)) result }
+    ensures { AnswersVerdict flow_of (the_leaf_of at (progress_of progress) name (option_map known_of found.entry)) result }
 {
     match found {
         Some((kind, schema)) => {
@@ -88,7 +88,7 @@ pub fn source_named<N: Names>(
     progress: Progress,
     name: Name,
 ) -> Result<Flow, BindFault>
-    ensures { Answers flow_of (the_source_named (scoping_of N.known scope.now) (progress_of progress) name) result }
+    ensures { AnswersVerdict flow_of (the_source_named (scoping_of N.known scope.now) (progress_of progress) name) result }
 {
     let at = name_place(name);
     let name = name_text(alloc, scope.text, name)?;
@@ -112,7 +112,7 @@ fn part(
     name: Text,
     found: Option<(NameKind, &Schema)>,
 ) -> Result<Flow, BindFault>
-    ensures { Answers flow_of (the_part_of at (progress_of progress) name (option_map known_of found.entry)) result }
+    ensures { AnswersVerdict flow_of (the_part_of at (progress_of progress) name (option_map known_of found.entry)) result }
 {
     match found {
         Some((NameKind::View, schema)) => {
@@ -131,7 +131,7 @@ pub fn part_named<N: Names>(
     progress: Progress,
     string: Symbol,
 ) -> Result<Flow, BindFault>
-    ensures { Answers flow_of (the_part_named (scoping_of N.known scope.now) (progress_of progress) string) result }
+    ensures { AnswersVerdict flow_of (the_part_named (scoping_of N.known scope.now) (progress_of progress) string) result }
 {
     let name = string_text(alloc, piece(scope.text, string))?;
     let found = scope.names.find(&name);

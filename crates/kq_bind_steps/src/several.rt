@@ -3,7 +3,7 @@ ghost use Rattle.std.specs.Prelude.{◌≡◌, ◌∷◌, map, Ok, IfOk};
 ghost use Rattle.kq_bind_steps.specs.Clauses as the;
 ghost use Rattle.kq_bind_steps.specs.Seen.{flow_of, progress_of, scoping_of};
 ghost use Rattle.kq_bind_clauses.specs.Seen.{arm_of};
-ghost use Rattle.kq_bind_expression.specs.Verdicts.{Answers};
+ghost use Rattle.kq_bind_expression.specs.Verdicts.{AnswersVerdict};
 ghost use Rattle.kq_plan.specs.Plans.{stepping_of};
 
 use crate::flow::{Flow, Progress, added, columns, columns_at, copied};
@@ -29,7 +29,7 @@ pub fn joined_on<N: Names>(
     first: JoinKey,
     others: &[JoinKey],
 ) -> Result<Flow, BindFault>
-    ensures { Answers flow_of (the.joined_on (scoping_of N.known scope.now) stage left kind (flow_of right) (first ∷ others.now)) result }
+    ensures { AnswersVerdict flow_of (the.joined_on (scoping_of N.known scope.now) stage left kind (flow_of right) (first ∷ others.now)) result }
 {
     let steps = right.progress.steps.as_slice();
     let on = on_keys(
@@ -70,7 +70,7 @@ pub fn all_together(
     progress: Progress,
     inputs: &[usize],
 ) -> Result<Flow, BindFault>
-    ensures { Answers flow_of (Ok (the.all_together stage kind (progress_of progress) inputs.now)) result }
+    ensures { AnswersVerdict flow_of (Ok (the.all_together stage kind (progress_of progress) inputs.now)) result }
 {
     let arms = arms_of(alloc, &progress.steps, inputs)?;
     let sources = union_sources(alloc, is_inner(kind), &arms)?;

@@ -2,7 +2,7 @@
 ghost use Rattle.std.specs.Prelude.{◌≡◌, ◌∷◌, map};
 ghost use Rattle.kq_bind_steps.specs.Clauses as the;
 ghost use Rattle.kq_bind_steps.specs.Seen.{flow_of, scoping_of};
-ghost use Rattle.kq_bind_expression.specs.Verdicts.{Answers};
+ghost use Rattle.kq_bind_expression.specs.Verdicts.{AnswersVerdict};
 ghost use Rattle.kq_grammar.specs.Views.{key_view};
 
 use crate::flow::{Flow, columns, copied, following};
@@ -23,7 +23,7 @@ pub fn sorted_by<N: Names>(
     first: &Key,
     others: &[Key],
 ) -> Result<Flow, BindFault>
-    ensures { Answers flow_of (the.sorted_by (scoping_of N.known scope.now) (flow_of flow) (key_view first.now ∷ map key_view others.now)) result }
+    ensures { AnswersVerdict flow_of (the.sorted_by (scoping_of N.known scope.now) (flow_of flow) (key_view first.now ∷ map key_view others.now)) result }
 {
     let seen = expression_scope(scope);
     let keys = sort_keys(alloc, &seen, columns(&flow), first, others)?;
@@ -39,7 +39,7 @@ pub fn topped_by<N: Names>(
     number: Symbol,
     key: &Key,
 ) -> Result<Flow, BindFault>
-    ensures { Answers flow_of (the.topped_by (scoping_of N.known scope.now) (flow_of flow) number (key_view key.now)) result }
+    ensures { AnswersVerdict flow_of (the.topped_by (scoping_of N.known scope.now) (flow_of flow) number (key_view key.now)) result }
 {
     let rows = row_number(alloc, scope, number)?;
     let seen = expression_scope(scope);

@@ -2,7 +2,7 @@
 ghost use Rattle.std.specs.Prelude.{◌≡◌, ◌∷◌};
 ghost use Rattle.kq_bind_steps.specs.Clauses.{range_rows as the_range_rows, table_rows as the_table_rows};
 ghost use Rattle.kq_bind_steps.specs.Seen.{flow_of, progress_of, scoping_of};
-ghost use Rattle.kq_bind_expression.specs.Verdicts.{Answers};
+ghost use Rattle.kq_bind_expression.specs.Verdicts.{AnswersVerdict};
 ghost use Rattle.kq_grammar.specs.Views.{tree_of};
 
 use crate::flow::{Flow, Progress, following};
@@ -23,7 +23,7 @@ pub fn range_rows<N: Names>(
     last: &Expression,
     step: &Expression,
 ) -> Result<Flow, BindFault>
-    ensures { Answers flow_of (the_range_rows (scoping_of N.known scope.now) (progress_of progress) name (tree_of first.now) (tree_of last.now) (tree_of step.now)) result }
+    ensures { AnswersVerdict flow_of (the_range_rows (scoping_of N.known scope.now) (progress_of progress) name (tree_of first.now) (tree_of last.now) (tree_of step.now)) result }
 {
     let seen = expression_scope(scope);
     let range = ranged(alloc, &seen, first, last, step)?;
@@ -45,7 +45,7 @@ pub fn table_rows<N: Names>(
     others: &[Column],
     cells: &[Cell],
 ) -> Result<Flow, BindFault>
-    ensures { Answers flow_of (the_table_rows (scoping_of N.known scope.now) (progress_of progress) at (first ∷ others.now) cells.now) result }
+    ensures { AnswersVerdict flow_of (the_table_rows (scoping_of N.known scope.now) (progress_of progress) at (first ∷ others.now) cells.now) result }
 {
     let table = tabled(alloc, scope.text, at, first, others, cells)?;
     following(progress, Work::Table(table.rows), table.columns)

@@ -1,6 +1,6 @@
 // The form of a view's body.
 ghost use Rattle.std.specs.Prelude.{◌≡◌, [], true, false, map};
-ghost use Rattle.kq_body.specs.Bodies.{Judges};
+ghost use Rattle.kq_body.specs.Bodies.{JudgesBody};
 ghost use Rattle.kq_body.specs.Parts as the;
 ghost use Rattle.kq_body.specs.Faults.{body_fault, steps_fault};
 ghost use Rattle.kq_grammar.specs.TabularViews.{tabular_of, source_of, operator_of, operators_of, body_of, right_of, let_of, query_of};
@@ -172,7 +172,7 @@ fn fault(text: &str, query: &Query, name: &str) -> Option<usize>
 
 /// Whether a query has the form of a body of a view over the table of this name, which is compared byte by byte. Takes no memory.
 pub fn check_body(text: &str, query: &Query, source: &str) -> Result<(), BodyFault>
-    ensures { Judges (the.query_parts text.now source.now (query_of query.now)) result }
+    ensures { JudgesBody (the.query_parts text.now source.now (query_of query.now)) result }
 {
     match fault(text, query, source) {
         Some(at) => Err(BodyFault::BadView { at }),

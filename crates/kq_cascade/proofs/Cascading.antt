@@ -13,7 +13,7 @@ use Rattle.kq_model.specs.Derived.{Row, Queries, Made, Failed, TooMany, FailsBy,
 use Rattle.kq_model.specs.Enabled.{enabled}
 use Rattle.kq_model.specs.Force.{Rules, IsStanding}
 use Rattle.kq_cascade.specs.Makes.{among, Makes, RefusesBy}
-use Rattle.kq_cascade.specs.Runs.{batch_of, IsReady, Opens, Notes, Runs, opens, notes, FailsWhole}
+use Rattle.kq_cascade.specs.Runs.{batch_of, IsReady, Opens, Notes, RunsDue, opens, notes, FailsWhole}
 use Rattle.kq_cascade.specs.Steps.{State, begun, due_at, no_due, opened, left, IsLaid, Settles, FallsTo}
 use Rattle.kq_model.specs.Typed.{IsTyped}
 use Rattle.kq_cascade.proofs.Following.{Course, Agrees, Rests, Rests-begun, Then-left, Rests-opened, Rests-too_many, Found, Settled, Settles-settled, GoesOn, Fallen, Falls-fallen}
@@ -173,7 +173,7 @@ opened-under_way limit r q dues own asked s t u d are standing way from room ope
 
 -- after its query
 pub ran : (limit : ℕ) (r : Rules) (q : Queries) (dues : List Due) (own : Batch) (asked more : List Due) (s t u : State) (d : Due) → dues ≡ enabled r.policies → All (IsStanding r.policies) dues → IsUnderWay limit r q dues own asked s
-    → SettledFrom dues s (Some d) t → length asked < limit → more ≡ asked ++ d ∷ [] → Runs r q dues d t u → IsUnderWay limit r q dues own more u
+    → SettledFrom dues s (Some d) t → length asked < limit → more ≡ asked ++ d ∷ [] → RunsDue r q dues d t u → IsUnderWay limit r q dues own more u
 ran limit r q dues own asked more s t u d are standing way from room is (opens opened_) = subst (λ (ds : List Due). IsUnderWay limit r q dues own ds u) (sym is) (opened-under_way limit r q dues own asked s t u d are standing way from room opened_)
 ran limit r q dues own asked more s t u d are standing way from room is (notes notes_) = subst (λ (ds : List Due). IsUnderWay limit r q dues own ds u) (sym is) (noted-under_way limit r q dues own asked s t u d way from room notes_)
 

@@ -14,12 +14,12 @@ use Rattle.kq_model.specs.declared.policy.Due.{Due}
 use Rattle.kq_cascade.specs.declared.tables.QueryFault.{QueryFault}
 use Rattle.kq_cascade.specs.declared.tables.QueryFault.TheVariants.{Fails, Memory}
 use Rattle.kq_model.specs.Derived.{Row, Queries, gave_none}
-use Rattle.kq_cascade.specs.Queried.{Answers, IsQueried}
+use Rattle.kq_cascade.specs.Queried.{AnswersEntry, IsQueried}
 use Rattle.kq_model.specs.Typed.{IsLead, IsTyped}
 use Rattle.kq_model.specs.declared.batch.Batch.{Batch}
 use Rattle.kq_model.proofs.Leading.{lead-typed, leads-typed}
 
-pub Queried-err : (q : Queries) (d : Due) (rows : List Row) (fault : QueryFault) → Answers (q d rows) (Err fault) → IsQueried q d rows (Err fault)
+pub Queried-err : (q : Queries) (d : Due) (rows : List Row) (fault : QueryFault) → AnswersEntry (q d rows) (Err fault) → IsQueried q d rows (Err fault)
 Queried-err q d rows (Fails cause) answer = gave_none answer
 Queried-err q d rows Memory answer = tt
 

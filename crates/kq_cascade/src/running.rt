@@ -2,7 +2,7 @@
 ghost use Rattle.std.specs.Prelude.{◌<◌, All, IfErr, IfOk, OnOk, length, true};
 ghost use Rattle.kq_value.specs.Typed.{HasTypes};
 ghost use Rattle.kq_cascade.specs.Makes.{Makes, RefusesBy};
-ghost use Rattle.kq_cascade.specs.Runs.{FailsWhole, IsReady, IsWhole, Runs};
+ghost use Rattle.kq_cascade.specs.Runs.{FailsWhole, IsReady, FaultIsWhole, RunsDue};
 ghost use Rattle.kq_cascade.specs.Steps.{FallsTo, IsLaid, state_of};
 
 use crate::batch::BatchRows;
@@ -85,7 +85,7 @@ pub fn cascade<T: Tables>(
     })
 }
 
-// Runs the query of an entry for the batch whose entries run, which is laid out for all of them.
+// RunsDue the query of an entry for the batch whose entries run, which is laid out for all of them.
 fn run<T: Tables>(
     alloc: Global,
     tables: &T,
@@ -94,7 +94,7 @@ fn run<T: Tables>(
     progress: &mut Progress,
 ) -> Result<(), CascadeFault>
     requires ready { IsReady (T.rules tables.now) dues.now due (state_of progress.old) }
-    ensures ok { OnOk result (Runs (T.rules tables.now) (T.gives tables.now) dues.now due (state_of progress.old) (state_of progress.new)) }
+    ensures ok { OnOk result (RunsDue (T.rules tables.now) (T.gives tables.now) dues.now due (state_of progress.old) (state_of progress.new)) }
     ensures err { IfErr result (FailsWhole (T.gives tables.now) dues.now due (state_of progress.old)) }
 {
     progress.lay_out(alloc, tables)?;
@@ -118,7 +118,7 @@ fn fall(
     requires laid { IsLaid dues.now (state_of progress.old) }
     requires within { progress.old.top.at < length dues.now }
     ensures ok { OnOk result (FallsTo dues.now target cause (state_of progress.old) true (state_of progress.new)) }
-    ensures err { IfErr result (IsWhole dues.now target cause (state_of progress.old)) }
+    ensures err { IfErr result (FaultIsWhole dues.now target cause (state_of progress.old)) }
 {
     if progress.fail(dues, target, cause)? {
         Ok(())

@@ -3,7 +3,7 @@ ghost use Rattle.std.specs.Prelude.{◌≡◌, All, IfOk};
 ghost use Rattle.kq_model.specs.Enabled.{enabled};
 ghost use Rattle.kq_model.specs.Force.{IsStanding};
 ghost use Rattle.kq_cascade.specs.Lent.{HoldsRows};
-ghost use Rattle.kq_cascade.specs.Queried.{Answers};
+ghost use Rattle.kq_cascade.specs.Queried.{AnswersEntry};
 ghost use Rattle.kq_model.specs.Typed.{IsLead};
 ghost use Rattle.kq_value.specs.Typed.{HasTypes};
 
@@ -62,6 +62,6 @@ pub trait Tables {
     fn run(&self, alloc: Global, due: Due, batch: &BatchRows) -> Result<Rows, QueryFault>
         requires standing { IsStanding (rules self.now).policies due }
         requires typed { All (HasTypes ((rules self.now).columns due.source)) batch.now.rows }
-        ensures answer { Answers (gives self.now due batch.now.rows) result }
+        ensures answer { AnswersEntry (gives self.now due batch.now.rows) result }
         ensures typed { IfOk result (All (IsLead ((rules self.now).columns due.target))) };
 }

@@ -19,7 +19,7 @@ use Rattle.kq_extent.specs.Split.{is_small, put}
 use Rattle.kq_extent.specs.Wide.{wide, wide_held}
 use Rattle.kq_extent.proofs.Wide.{held_records-wide}
 use Rattle.kq_model.specs.declared.table.Table.{Table}
-use Rattle.kq_model.specs.Edits.{changed, edited, edited_by, empty_state, with_records, tables_after, Fits, FitAll, with_columns}
+use Rattle.kq_model.specs.Edits.{changed, edited, edited_by, empty_state, with_records, tables_after, FitsTables, FitAll, with_columns}
 use Rattle.kq_model.specs.Records.{ExtentItem, is_small_item}
 use Rattle.kq_model.specs.Tables.{TableState}
 use Rattle.kq_catalog.specs.declared.edit.Change.{Change}
@@ -162,7 +162,7 @@ held_columns cursor columns h s is =
 held_table : (t : Table) → IsHeld (empty_table t) (empty_state t)
 held_table t = record { table = refl; once = IsPermutation-refl []; in_order = record { small = refl; big = refl }; typed = All-nil (HasTypes t.schema) }
 
-one_change : (c : Change) (hs : List HeldTable) (ss : List TableState) → AllZip IsHeld hs ss → Fits (tables_in hs) (edit_of c) → AllZip IsHeld (put_in hs c) (edited ss (edit_of c))
+one_change : (c : Change) (hs : List HeldTable) (ss : List TableState) → AllZip IsHeld hs ss → FitsTables (tables_in hs) (edit_of c) → AllZip IsHeld (put_in hs c) (edited ss (edit_of c))
 one_change (PutTable table) hs ss all fits = AllZip-last IsHeld hs ss (empty_table (arc_value table)) (empty_state (arc_value table)) all (held_table (arc_value table))
 one_change (PutColumns n cursor columns) hs ss all fits =
     AllZip-changed IsHeld (wider_table cursor columns) (with_columns cursor columns) n hs ss (λ h s at is. held_columns cursor columns h s is) all

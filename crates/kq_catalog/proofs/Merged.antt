@@ -36,7 +36,7 @@ use Rattle.kq_catalog.specs.declared.merging.Merging.{Merging}
 use Rattle.kq_catalog.specs.Edits.{with_merged}
 use Rattle.kq_catalog.specs.Held.{AreItems, HeldTable, IsHeld, extent_item}
 use Rattle.kq_catalog.specs.Merges.{IsGone, IsInFront, IsUnion, WasPicked, comes_first, merge_event}
-use Rattle.kq_catalog.specs.Seen.{CatalogView, Holds, Sound, hist}
+use Rattle.kq_catalog.specs.Seen.{CatalogView, HoldsHistory, Sound, hist}
 use Rattle.kq_catalog.specs.Tagged.{TellsTags}
 use Rattle.kq_catalog.proofs.Keeping.{AllZip-changed_at, items-put, records-put}
 use Rattle.kq_catalog.proofs.Standing.{count_held, held_at, schema_held}
@@ -333,8 +333,8 @@ items_at h n zero k (t ∷ ts) s at is = let same : s.items ≡ extents h n = cc
 items_at h n (suc i) k (t ∷ ts) s at is = items_at h (n + 1) i k ts s (omega (arith, at)) is
 
 -- a catalogue after a merge
-pub Holds-merge : (c : CatalogView) (cursor made : ℕ) (by : By) (m : Merging) (index : List Entry) → Holds c cursor made index → WasPicked (hist c) m → IsInFront (small_items (hist c) m.table) m.old
-    → Holds (record {
+pub HoldsHistory-merge : (c : CatalogView) (cursor made : ℕ) (by : By) (m : Merging) (index : List Entry) → HoldsHistory c cursor made index → WasPicked (hist c) m → IsInFront (small_items (hist c) m.table) m.old
+    → HoldsHistory (record {
       limits = c.limits;
       history = hist c ++ merge_event by (1 + extents_made (hist c)) m ∷ [];
       held = changed (with_merged (length m.old) (record { id = 1 + extents_made (hist c); records = m.extent.records; tags = m.extent.tags })) m.table c.held;
@@ -342,7 +342,7 @@ pub Holds-merge : (c : CatalogView) (cursor made : ℕ) (by : By) (m : Merging) 
       views = c.views;
       failures = c.failures;
     }) cursor (made + 1) index
-Holds-merge c cursor made by m index holds picked_then front =
+HoldsHistory-merge c cursor made by m index holds picked_then front =
     let h = hist c in
     let new = 1 + extents_made h in
     let event = merge_event by new m in

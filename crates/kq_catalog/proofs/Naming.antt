@@ -4,7 +4,7 @@ use Rattle.std.specs.List.{slice_get}
 use Rattle.std.specs.Cmp.Lexicographic.{pointwise}
 use Rattle.kq_names.specs.Places.{place_from, place_of}
 use Rattle.kq_model.specs.declared.table.Table.{Table}
-use Rattle.kq_model.specs.History.{Numbered, numbered_from, table_numbered, table_named}
+use Rattle.kq_model.specs.History.{NumberedTable, numbered_from, table_numbered, table_named}
 use Rattle.kq_catalog.specs.Held.{HeldTable, tables_in}
 
 abbrev pub names_in : List HeldTable → List (List ℕ)
@@ -15,7 +15,7 @@ none_from k name [] e = refl
 none_from k name (h ∷ hs) e = by_test (pointwise nat_eq h.table.name name) e (none_from (k + 1) name hs)
   where
     by_test : (is : Bool) → cond is (Some k) (place_from (k + 1) name (names_in hs)) ≡ None → (place_from (k + 1) name (names_in hs) ≡ None → numbered_from (k + 1) name (tables_in hs) ≡ None)
-        → cond is (Some (let m : Numbered = record { number = k; table = h.table } in m)) (numbered_from (k + 1) name (tables_in hs)) ≡ None
+        → cond is (Some (let m : NumberedTable = record { number = k; table = h.table } in m)) (numbered_from (k + 1) name (tables_in hs)) ≡ None
     by_test true e later = cc
     by_test false e later = later e
 
@@ -31,7 +31,7 @@ record IsNumbered (k : ℕ) (name : List ℕ) (hs : List HeldTable) (n : ℕ) : 
   is : (h : HeldTable) → slice_get hs index ≡ Some h → numbered_from k name (tables_in hs) ≡ Some (record { number = n; table = h.table })
 
 -- a table under its number
-abbrev pub some_table : ℕ → Table → Option Numbered
+abbrev pub some_table : ℕ → Table → Option NumberedTable
 some_table n t = Some (record { number = n; table = t })
 
 some_from : (k : ℕ) (name : List ℕ) (hs : List HeldTable) (n : ℕ) → place_from k name (names_in hs) ≡ Some n → IsNumbered k name hs n
@@ -48,7 +48,7 @@ some_from k name (h ∷ hs) n e = by_test (pointwise nat_eq h.table.name name) r
           within = omega arith;
           is = λ x at.
               let here : h ≡ x = cc in
-              ap (λ (b : Bool). cond b (Some (let m : Numbered = record { number = k; table = h.table } in m)) (numbered_from (k + 1) name (tables_in hs))) test
+              ap (λ (b : Bool). cond b (Some (let m : NumberedTable = record { number = k; table = h.table } in m)) (numbered_from (k + 1) name (tables_in hs))) test
               ∙ ap (λ (m : ℕ). some_table m h.table) same ∙ ap (λ (y : HeldTable). some_table n y.table) here;
         }
     by_test false test e later =
@@ -58,7 +58,7 @@ some_from k name (h ∷ hs) n e = by_test (pointwise nat_eq h.table.name name) r
           at = let at = found.at in omega (arith, at);
           within = let within = found.within in omega (arith, within);
           is = λ x at.
-              ap (λ (b : Bool). cond b (Some (let m : Numbered = record { number = k; table = h.table } in m)) (numbered_from (k + 1) name (tables_in hs))) test ∙ found.is x at;
+              ap (λ (b : Bool). cond b (Some (let m : NumberedTable = record { number = k; table = h.table } in m)) (numbered_from (k + 1) name (tables_in hs))) test ∙ found.is x at;
         }
 
 -- a name at a place has the table that stands there, with the place as its number

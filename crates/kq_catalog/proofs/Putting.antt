@@ -2,7 +2,7 @@
 use Rattle.std.proofs.Common.{◌≡◌, ◌<◌, refl, subst, ℕ, zero, suc, List, [], ◌∷◌, ◌++◌, length, take, get_or, slice_get, slice_set, Some, ap, sym, arith}
 use Rattle.std.proofs.lemmas.Option.{slice_get_within}
 use Rattle.kq_model.specs.declared.table.Table.{Table}
-use Rattle.kq_model.specs.Edits.{changed, Fits, FitAll}
+use Rattle.kq_model.specs.Edits.{changed, FitsTables, FitAll}
 use Rattle.kq_catalog.specs.declared.edit.Change.{Change}
 use Rattle.kq_catalog.specs.Edits.{edit_of, edits_by, put_in, put_all}
 use Rattle.kq_catalog.specs.Held.{HeldTable, tables_in}
@@ -13,9 +13,9 @@ put_all-push hs [] c = refl
 put_all-push hs (x ∷ cs) c = put_all-push (put_in hs x) cs c
 
 -- each change fits what those before it leave
-pub FitAll-at : (hs : List HeldTable) (cs : List Change) (n : ℕ) (c : Change) → n < length cs → c ≡ get_or cs n c → FitAll (tables_in hs) (edits_by cs) → Fits (tables_in (put_all hs (take n cs))) (edit_of c)
+pub FitAll-at : (hs : List HeldTable) (cs : List Change) (n : ℕ) (c : Change) → n < length cs → c ≡ get_or cs n c → FitAll (tables_in hs) (edits_by cs) → FitsTables (tables_in (put_all hs (take n cs))) (edit_of c)
 FitAll-at hs [] n c within is fits = absurd (omega (arith, within))
-FitAll-at hs (x ∷ cs) zero c within is fits = subst (λ (y : Change). Fits (tables_in hs) (edit_of y)) (sym is) fits.0
+FitAll-at hs (x ∷ cs) zero c within is fits = subst (λ (y : Change). FitsTables (tables_in hs) (edit_of y)) (sym is) fits.0
 FitAll-at hs (x ∷ cs) (suc n) c within is fits =
     FitAll-at (put_in hs x) cs n c (omega (arith, within)) is (subst (λ (ts : List Table). FitAll ts (edits_by cs)) (sym (tables_in-put x hs)) fits.1)
 

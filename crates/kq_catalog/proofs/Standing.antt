@@ -28,14 +28,14 @@ use Rattle.kq_model.proofs.States.{table_states-push, table_states-tables}
 use Rattle.kq_model.proofs.Fitting.{FitAll-lawful}
 use Rattle.kq_model.specs.Tagged.{is_tagged_by}
 use Rattle.kq_tagged.specs.declared.entry.Entry.{Entry}
-use Rattle.kq_tagged.specs.Index.{Adds}
+use Rattle.kq_tagged.specs.Index.{AddsTags}
 use Rattle.kq_catalog.specs.declared.edit.Change.{Change}
 use Rattle.kq_catalog.specs.declared.intent.Intent.{Intent}
 use Rattle.kq_catalog.specs.Edits.{edits_by, put_all}
 use Rattle.kq_catalog.specs.Held.{HeldTable, IsHeld, tables_in}
-use Rattle.kq_catalog.specs.Intents.{Begins, commit_of, view_by}
+use Rattle.kq_catalog.specs.Intents.{BeginsEmpty, commit_of, view_by}
 use Rattle.kq_catalog.specs.Policies.{SetsStanding}
-use Rattle.kq_catalog.specs.Seen.{CatalogView, Holds, Sound, hist}
+use Rattle.kq_catalog.specs.Seen.{CatalogView, HoldsHistory, Sound, hist}
 use Rattle.kq_catalog.specs.Tagged.{TellsTags}
 use Rattle.kq_catalog.specs.Views.{with_new}
 use Rattle.kq_catalog.proofs.Keeping.{all_changes}
@@ -128,12 +128,12 @@ changes_fit c cursor id commit cs sound lawful are =
     (subst (FitAll (tables (log (hist c)))) (sym are) (FitAll-lawful c.limits (hist c) cursor id commit sound.lawful lawful))
 
 -- a catalogue with one commit more
-pub Holds-push : (c : CatalogView) (cursor made more : ℕ) (event : Event) (intent : Intent) (cs : List Change) (index tags : List Entry) → Holds c cursor made index → LawfulCommit c.limits (log (hist c)) (commit_of intent) → Begins intent
+pub HoldsHistory-push : (c : CatalogView) (cursor made more : ℕ) (event : Event) (intent : Intent) (cs : List Change) (index tags : List Entry) → HoldsHistory c cursor made index → LawfulCommit c.limits (log (hist c)) (commit_of intent) → BeginsEmpty intent
     → event.operation ≡ operation.Commit (commit_of intent)
     → edits_by cs ≡ edits_of (cursor_of (hist c) + 1) (1 + extents_made (hist c)) (commit_of intent) → more ≡ commit_extents (commit_of intent)
-    → Adds index (λ t tag. is_tagged_by t tag (commit_of intent)) (cursor + 1) tags
-    → Holds (record { limits = c.limits; history = hist c ++ event ∷ []; held = put_all c.held cs; policies = policies_with (commit_of intent) c.policies; views = with_new c.views (view_by (cursor_of (hist c) + 1) intent); failures = c.failures ++ noted_by (cursor_of (hist c) + 1) (commit_of intent) }) (cursor + 1) (made + more) tags
-Holds-push c cursor made more event intent cs index tags holds lawful begins is are count adds =
+    → AddsTags index (λ t tag. is_tagged_by t tag (commit_of intent)) (cursor + 1) tags
+    → HoldsHistory (record { limits = c.limits; history = hist c ++ event ∷ []; held = put_all c.held cs; policies = policies_with (commit_of intent) c.policies; views = with_new c.views (view_by (cursor_of (hist c) + 1) intent); failures = c.failures ++ noted_by (cursor_of (hist c) + 1) (commit_of intent) }) (cursor + 1) (made + more) tags
+HoldsHistory-push c cursor made more event intent cs index tags holds lawful begins is are count adds =
     let h = hist c in
     let commit = commit_of intent in
     let logged : log (h ++ event ∷ []) ≡ log h ++ commit ∷ [] = log-push h event ∙ ap (λ (o : Operation). log h ++ commits_of o) is in
@@ -151,5 +151,5 @@ Holds-push c cursor made more event intent cs index tags holds lawful begins is 
       count = ap (λ (n : ℕ). n + 1) holds.count ∙ sym (ap length logged ∙ length_push (log h) commit);
       made_count = ap (λ (n : ℕ). n + more) holds.made_count ∙ ap (λ (n : ℕ). extents_made h + n) (count ∙ sym (ap operation_extents is)) ∙ sym (extents_made-push h event);
       tags = subst (TellsTags tags) (sym logged)
-          (TellsTags-push index tags (log h) commit holds.tags (subst (λ (n : ℕ). Adds index (λ t tag. is_tagged_by t tag commit) (n + 1) tags) holds.count adds));
+          (TellsTags-push index tags (log h) commit holds.tags (subst (λ (n : ℕ). AddsTags index (λ t tag. is_tagged_by t tag commit) (n + 1) tags) holds.count adds));
     }

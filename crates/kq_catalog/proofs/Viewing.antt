@@ -34,8 +34,8 @@ use Rattle.kq_model.proofs.Views.{covered-go_on, covered-none, log-commit, view_
 use Rattle.kq_catalog.specs.declared.intent.Intent.{Intent}
 use Rattle.kq_catalog.specs.declared.intent.Intent.TheVariants.{CreateTable, SetPolicy, CreateView, AlterMerge, Ingest}
 use Rattle.kq_catalog.specs.Held.{IsHeld}
-use Rattle.kq_catalog.specs.Intents.{Begins, commit_of, view_by}
-use Rattle.kq_catalog.specs.Seen.{CatalogView, Holds, hist}
+use Rattle.kq_catalog.specs.Intents.{BeginsEmpty, commit_of, view_by}
+use Rattle.kq_catalog.specs.Seen.{CatalogView, HoldsHistory, hist}
 use Rattle.kq_catalog.specs.Tagged.{TellsTags}
 use Rattle.kq_catalog.specs.Views.{AreHeldViews, HeldView, IsHeldView, IsPart, WasFolded, fold_event, folded_view, names_held, new_view, viewed_of, with_new}
 use Rattle.kq_catalog.proofs.Keeping.{map-changed}
@@ -89,7 +89,7 @@ no_new limits h e c held lawful are is none = record {
 }
 
 -- a part of no rows is that of a view that covers none
-held_new : (limits : Limits) (h : History) (e : Event) (intent : Intent) (x : HeldView) → AreLawful limits h → e.operation ≡ operation.Commit (commit_of intent) → view_by (cursor_of h + 1) intent ≡ Some x → Begins intent
+held_new : (limits : Limits) (h : History) (e : Event) (intent : Intent) (x : HeldView) → AreLawful limits h → e.operation ≡ operation.Commit (commit_of intent) → view_by (cursor_of h + 1) intent ≡ Some x → BeginsEmpty intent
     → IsHeldView (h ++ e ∷ []) (view_count (log h)) x
 held_new limits h e (CreateTable name schema) x lawful is new begins = cc
 held_new limits h e (CreateView view part) x lawful is new begins =
@@ -106,7 +106,7 @@ held_new limits h e (Ingest parts failures) x lawful is new begins = cc
 
 -- a commit that makes a view
 one_new : (limits : Limits) (h : History) (e : Event) (intent : Intent) (held : List HeldView) (x : HeldView) → AreLawful limits h → AreHeldViews h held → e.operation ≡ operation.Commit (commit_of intent)
-    → view_by (cursor_of h + 1) intent ≡ Some x → views_by (cursor_of h + 1) (commit_of intent) ≡ viewed_of x ∷ [] → Begins intent → AreHeldViews (h ++ e ∷ []) (held ++ x ∷ [])
+    → view_by (cursor_of h + 1) intent ≡ Some x → views_by (cursor_of h + 1) (commit_of intent) ≡ viewed_of x ∷ [] → BeginsEmpty intent → AreHeldViews (h ++ e ∷ []) (held ++ x ∷ [])
 one_new limits h e intent held x lawful are is new viewed begins = record {
   views = map_push viewed_of held x ∙ ap (λ (vs : List Viewed). vs ++ viewed_of x ∷ []) are.views
       ∙ sym (ap views (log-commit h e (commit_of intent) is) ∙ views-push (log h) (commit_of intent) ∙ ap (λ (vs : List Viewed). views (log h) ++ vs) viewed);
@@ -121,7 +121,7 @@ one_new limits h e intent held x lawful are is new viewed begins = record {
         subst (λ (k : ℕ). IsHeldView (h ++ e ∷ []) k y) (sym (last.0 ∙ count_views h held are)) (subst (IsHeldView (h ++ e ∷ []) (view_count (log h))) (sym last.1) (held_new limits h e intent x lawful is new begins))
 
 -- the views after a commit
-pub views-commit : (limits : Limits) (h : History) (e : Event) (intent : Intent) (held : List HeldView) → AreLawful limits h → AreHeldViews h held → e.operation ≡ operation.Commit (commit_of intent) → Begins intent
+pub views-commit : (limits : Limits) (h : History) (e : Event) (intent : Intent) (held : List HeldView) → AreLawful limits h → AreHeldViews h held → e.operation ≡ operation.Commit (commit_of intent) → BeginsEmpty intent
     → AreHeldViews (h ++ e ∷ []) (with_new held (view_by (cursor_of h + 1) intent))
 views-commit limits h e (CreateTable name schema) held lawful are is begins = no_new limits h e (commit_of (CreateTable name schema)) held lawful are is refl
 views-commit limits h e (CreateView view part) held lawful are is begins = one_new limits h e (CreateView view part) held (new_view (cursor_of h + 1) view part) lawful are is refl refl begins
@@ -212,9 +212,9 @@ fold_stands h view to part folded =
     (omega (arith, stood, more, all), omega (arith, within, longer))
 
 -- a catalogue after a fold
-pub Holds-fold : (c : CatalogView) (cursor made : ℕ) (by : By) (view to : ℕ) (part : Grouping) (index : List Entry) → Holds c cursor made index → WasFolded (hist c) view to part → view_cursor (hist c) view < to
-    → Holds (record { limits = c.limits; history = hist c ++ fold_event by view to ∷ []; held = c.held; policies = c.policies; views = changed (folded_view to part) view c.views; failures = c.failures }) cursor made index
-Holds-fold c cursor made by view to part index holds folded ahead =
+pub HoldsHistory-fold : (c : CatalogView) (cursor made : ℕ) (by : By) (view to : ℕ) (part : Grouping) (index : List Entry) → HoldsHistory c cursor made index → WasFolded (hist c) view to part → view_cursor (hist c) view < to
+    → HoldsHistory (record { limits = c.limits; history = hist c ++ fold_event by view to ∷ []; held = c.held; policies = c.policies; views = changed (folded_view to part) view c.views; failures = c.failures }) cursor made index
+HoldsHistory-fold c cursor made by view to part index holds folded ahead =
     let h = hist c in
     let e = fold_event by view to in
     let logged : log (h ++ e ∷ []) ≡ log h = same_log h e refl in

@@ -33,12 +33,12 @@ view_by cursor (AlterMerge table columns) = None
 view_by cursor (Ingest parts failures) = None
 
 -- the part of a new view stands for no rows
-abbrev pub Begins : Intent → Type 0
-Begins (CreateTable name schema) = Unit {0}
-Begins (SetPolicy table entries) = Unit {0}
-Begins (CreateView view part) = StandsFor (planned_of view.body) [] part
-Begins (AlterMerge table columns) = Unit {0}
-Begins (Ingest parts failures) = Unit {0}
+abbrev pub BeginsEmpty : Intent → Type 0
+BeginsEmpty (CreateTable name schema) = Unit {0}
+BeginsEmpty (SetPolicy table entries) = Unit {0}
+BeginsEmpty (CreateView view part) = StandsFor (planned_of view.body) [] part
+BeginsEmpty (AlterMerge table columns) = Unit {0}
+BeginsEmpty (Ingest parts failures) = Unit {0}
 
 -- the event of a commit with the request id of its command
 abbrev pub event_by : By → Intent → Event

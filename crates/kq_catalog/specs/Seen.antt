@@ -46,7 +46,7 @@ pub record Sound (c : CatalogView) : Type 0 where
   pub lawful : AreLawful c.limits (hist c)
 
 -- a sound catalogue, with the number of its commits, that of the extents that were made, and an index of their tags
-pub record Holds (c : CatalogView) (cursor made : ℕ) (index : List Tagging) : Type 0 where
+pub record HoldsHistory (c : CatalogView) (cursor made : ℕ) (index : List Tagging) : Type 0 where
   pub sound : Sound c
   pub count : cursor ≡ cursor_of (hist c)
   pub made_count : made ≡ extents_made (hist c)

@@ -3,7 +3,7 @@ ghost use Rattle.std.specs.Prelude.{◌≡◌, ◌<◌, ◌+◌, [], IfErr, IfOk
 ghost use Rattle.kq_model.specs.History.{log, cursor as cursor_of, view_cursor};
 ghost use Rattle.kq_model.specs.Lawful.{LawfulCommit};
 ghost use Rattle.kq_model.specs.Records.{extents_made};
-ghost use Rattle.kq_catalog.specs.Intents.{Begins, commit_of, event_by};
+ghost use Rattle.kq_catalog.specs.Intents.{BeginsEmpty, commit_of, event_by};
 ghost use Rattle.kq_catalog.specs.Merges.{Moves, WasPicked, merge_event};
 ghost use Rattle.kq_catalog.specs.Seen.{hist, Sound};
 ghost use Rattle.kq_catalog.specs.Staged.{IsNext, IsStaged};
@@ -118,7 +118,7 @@ impl Catalog {
     /// Makes the next state beside the one that stands, which doesn't change.
     pub fn stage(&self, by: By, intent: Intent) -> Result<Staged, Memory>
         requires lawful { LawfulCommit self.now.limits (log (hist self.now)) (commit_of intent) }
-        requires begins { Begins intent }
+        requires begins { BeginsEmpty intent }
         ensures staged { IfOk result (IsStaged self.now (event_by by intent)) }
     {
         let present = &self.present;

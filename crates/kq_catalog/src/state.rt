@@ -15,7 +15,7 @@ ghost use Rattle.kq_model.specs.Records.{records, rows_in, extents, extents_made
 ghost use Rattle.kq_model.specs.Tagged.{first_tagged};
 ghost use Rattle.kq_catalog.specs.Edits.{IsPlan};
 ghost use Rattle.kq_catalog.specs.Held.{AreItems, FindsTable};
-ghost use Rattle.kq_catalog.specs.Intents.{Begins, commit_of, event_by};
+ghost use Rattle.kq_catalog.specs.Intents.{BeginsEmpty, commit_of, event_by};
 ghost use Rattle.kq_catalog.specs.Merges.{IsGone, IsInFront, WasPicked, comes_first, merge_event};
 ghost use Rattle.kq_catalog.specs.Seen.{Sound};
 ghost use Rattle.kq_catalog.specs.Views.{FindsView, HoldsPart, WasFolded, fold_event};
@@ -57,7 +57,7 @@ impl Model for State {
     ghost use Rattle.std.specs.Coded.{codes};
     ghost use Rattle.kq_value.specs.contracts.value.Value as cell;
     ghost use Rattle.kq_expr.specs.contracts.expr.Expr as expr;
-    ghost use Rattle.kq_catalog.specs.Seen.{CatalogView, Holds};
+    ghost use Rattle.kq_catalog.specs.Seen.{CatalogView, HoldsHistory};
 
     ghost Value = { CatalogView };
 
@@ -65,7 +65,7 @@ impl Model for State {
 
     ghost view = { λ s. record { limits = s.limits; history = s.journal; held = s.tables; policies = s.policies; views = s.views; failures = s.failures } };
 
-    ghost invariant = { λ s. Holds (record { limits = s.limits; history = s.journal; held = s.tables; policies = s.policies; views = s.views; failures = s.failures }) s.cursor s.made s.tags };
+    ghost invariant = { λ s. HoldsHistory (record { limits = s.limits; history = s.journal; held = s.tables; policies = s.policies; views = s.views; failures = s.failures }) s.cursor s.made s.tags };
 }
 
 impl State {
@@ -261,7 +261,7 @@ impl State {
     // The state after one event more.
     pub(crate) fn with_event(&self, by: By, intent: Intent) -> Result<State, Memory>
         requires lawful { LawfulCommit self.now.limits (log self.now.history) (commit_of intent) }
-        requires begins { Begins intent }
+        requires begins { BeginsEmpty intent }
         ensures limits { IfOk result (λ s. s.limits ≡ self.now.limits) }
         ensures history { IfOk result (λ s. s.history ≡ self.now.history ++ event_by by intent ∷ []) }
     {

@@ -1,7 +1,7 @@
 // The tables by number and by name.
 ghost use Rattle.std.specs.Prelude.{◌≡◌, ◌<◌, ◌≤◌, ◌++◌, ◌∷◌, [], IfOk, OnOk, Some, length, slice_get};
 ghost use Rattle.std.specs.Arc.{arc_value};
-ghost use Rattle.kq_model.specs.Edits.{Fits, FitAll, changed};
+ghost use Rattle.kq_model.specs.Edits.{FitsTables, FitAll, changed};
 ghost use Rattle.kq_model.specs.Edits.Edit.{NewTable};
 ghost use Rattle.kq_catalog.specs.Edits.{edit_of, edits_by, empty_table, with_extent, with_merged, put_in, put_all, wider_table};
 ghost use Rattle.kq_catalog.specs.Held.{FindsTable, HeldTable as Held, tables_in};
@@ -76,7 +76,7 @@ impl Tables {
     }
 
     fn put_table(&mut self, alloc: Global, table: Arc<Table, Global>) -> Result<(), Memory>
-        requires { Fits (tables_in self.old) (NewTable (arc_value table)) }
+        requires { FitsTables (tables_in self.old) (NewTable (arc_value table)) }
         ensures { OnOk result (self.new ≡ self.old ++ empty_table (arc_value table) ∷ []) }
     {
         let names = Arc::new(alloc, self.names.with(&table.name)?)?;
@@ -153,7 +153,7 @@ impl Tables {
 
     // Makes one change.
     pub(crate) fn put(&mut self, alloc: Global, change: Change) -> Result<(), Memory>
-        requires { Fits (tables_in self.old) (edit_of change) }
+        requires { FitsTables (tables_in self.old) (edit_of change) }
         ensures { OnOk result (self.new ≡ put_in self.old change) }
     {
         match change {

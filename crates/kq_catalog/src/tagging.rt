@@ -3,7 +3,7 @@ ghost use Rattle.std.specs.Prelude.{◌&&◌, IfOk, nat_eq};
 ghost use Rattle.std.specs.List.{list_any};
 ghost use Rattle.kq_model.specs.Names.{is_among};
 ghost use Rattle.kq_model.specs.Tagged.{gives_tag, is_tagged_by};
-ghost use Rattle.kq_tagged.specs.Index.{Adds};
+ghost use Rattle.kq_tagged.specs.Index.{AddsTags};
 
 use kq_model::{Batch, Commit};
 use kq_tagged::TagIndex;
@@ -15,7 +15,7 @@ pub(crate) fn with_commit(
     commit: &Commit,
     cursor: u64,
 ) -> Result<TagIndex, Memory>
-    ensures { IfOk result (Adds index.now (λ t tag. is_tagged_by t tag commit.now) cursor) }
+    ensures { IfOk result (AddsTags index.now (λ t tag. is_tagged_by t tag commit.now) cursor) }
 {
     match commit {
         Commit::CreateTable { .. }
@@ -27,7 +27,7 @@ pub(crate) fn with_commit(
 }
 
 fn with_batches(index: &TagIndex, batches: &[Batch], cursor: u64) -> Result<TagIndex, Memory>
-    ensures { IfOk result (Adds index.now (λ t tag. list_any (gives_tag t tag) batches.now) cursor) }
+    ensures { IfOk result (AddsTags index.now (λ t tag. list_any (gives_tag t tag) batches.now) cursor) }
 {
     let mut all = index.share()?;
     for batch in batches {
@@ -37,7 +37,7 @@ fn with_batches(index: &TagIndex, batches: &[Batch], cursor: u64) -> Result<TagI
 }
 
 fn with_tags(index: &TagIndex, table: u32, tags: &[Text], cursor: u64) -> Result<TagIndex, Memory>
-    ensures { IfOk result (Adds index.now (λ t tag. nat_eq table t && is_among tag tags.now) cursor) }
+    ensures { IfOk result (AddsTags index.now (λ t tag. nat_eq table t && is_among tag tags.now) cursor) }
 {
     let mut all = index.share()?;
     for tag in tags {

@@ -17,7 +17,7 @@ use Rattle.kq_command.specs.Meanings.{identifier_of, columns_of, string_at}
 use Rattle.kq_command.specs.Rows.{rows_after}
 use Rattle.kq_command.specs.Unsupported.{unsupported}
 use Rattle.kq_control.specs.ControlTrees.{PropertiesTree, ControlTree, create_table, alter_merge, ingest, show_extents, show_journal, merge, StatementTree, query, control, create_view, set_policy, show_view, show_failures, fold}
-use Rattle.kq_control.specs.Statements.{IsStatement, IsRefused}
+use Rattle.kq_control.specs.Statements.{IsStatement, IsRefusedText}
 use Rattle.kq_grammar.specs.declared.expression.Name.{Name}
 use Rattle.kq_grammar.specs.TabularViews.{query_of}
 use Rattle.kq_parse.specs.declared.asking.ParseFault.TheVariants as parse
@@ -80,8 +80,8 @@ pub record IsCommand (text : List ℕ) (command : Command) : Type 0 where
 abbrev pub ReadsText : List ℕ → Result Command CommandFault → Type 0
 ReadsText text (Ok command) = IsCommand text command
 ReadsText text (Err (fault.NotText place)) = ⊥
-ReadsText text (Err (fault.Syntax place)) = IsRefused text (parse.Syntax place)
-ReadsText text (Err (fault.Deep place)) = IsRefused text (parse.Deep place)
+ReadsText text (Err (fault.Syntax place)) = IsRefusedText text (parse.Syntax place)
+ReadsText text (Err (fault.Deep place)) = IsRefusedText text (parse.Deep place)
 ReadsText text (Err (fault.Unsupported place)) = IsUnsupported text place
 ReadsText text (Err fault.Memory) = ⊤
 

@@ -15,7 +15,7 @@ use Rattle.kq_session.proofs.Completing.{complete_by}
 use Rattle.kq_gen.specs.Commands.{script}
 use Rattle.kq_gen.specs.Source.{script_read, script_unread}
 use Rattle.kq_gen.proofs.Lengths.{length-script}
-use Rattle.kq_console.specs.Headline.{AreComplete, AreExplained, AreUntroubled, Completes, IsCaused, IsCompleteRun, IsUntroubledBy, RanBy, Runs, first_status, given_to_sessions}
+use Rattle.kq_console.specs.Headline.{AreComplete, AreExplained, AreUntroubled, CompletesRun, IsCaused, IsCompleteRun, IsUntroubledBy, RanBy, RunsProgram, first_status, given_to_sessions}
 use Rattle.kq_console.specs.Scripts.{ByScript, as_reading, unfailed, with_source}
 use Rattle.kq_console.specs.Views.{EndedView, Given, RunView}
 use Rattle.kq_console.specs.Words.{feeds_of, generate_of}
@@ -93,8 +93,8 @@ form : (said : Option Asked) → IsSome said → said ≡ None → ⊥
 form None some none = absurd cc
 form (Some asked) some none = cc
 
-pub Completes-runs : (said : Option Asked) (count count_now : ℕ) (first : Contents) (of_feed : List ℕ → Contents) (run : RunView)
-    → IsUpTo 1000000 (generate_of said) → (run.status ≡ 2 → said ≡ None) → (run.status ≡ 5 → Rose count count_now) → Runs (generate_of said) (feeds_of said) first of_feed run → Completes said count count_now first of_feed run
-Completes-runs said count count_now first of_feed run few words failed runs some well untroubled =
+pub CompletesRun-runs : (said : Option Asked) (count count_now : ℕ) (first : Contents) (of_feed : List ℕ → Contents) (run : RunView)
+    → IsUpTo 1000000 (generate_of said) → (run.status ≡ 2 → said ≡ None) → (run.status ≡ 5 → Rose count count_now) → RunsProgram (generate_of said) (feeds_of said) first of_feed run → CompletesRun said count count_now first of_feed run
+CompletesRun-runs said count count_now first of_feed run few words failed runs some well untroubled =
     complete_run (feeds_of said) (given_to_sessions (generate_of said) first of_feed (feeds_of said)) run.status run.catalog run.sessions (few, few_feeds of_feed (feeds_of said))
     (λ e. form said some (words e)) (λ e. well (failed e)) runs untroubled

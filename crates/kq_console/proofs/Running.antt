@@ -13,7 +13,7 @@ use Rattle.kq_session.specs.declared.end.End.TheVariants.{Finished, Short, Sourc
 use Rattle.kq_session.specs.declared.receipt.Receipt.{Receipt}
 use Rattle.kq_session.specs.Ends.{status_of, wants_memory}
 use Rattle.kq_session.specs.Session.{Explained}
-use Rattle.kq_console.specs.Headline.{Ran, AreExplained, IsCaused, first_status, given_to_sessions}
+use Rattle.kq_console.specs.Headline.{RanSessions, AreExplained, IsCaused, first_status, given_to_sessions}
 use Rattle.kq_console.specs.Opening.{AreOpened}
 use Rattle.kq_console.specs.Together.{IsServed, AreServed, ServedAll}
 use Rattle.kq_console.specs.Views.{EndedView, Given, OpenedView}
@@ -65,11 +65,11 @@ caused_all limits h n told (name ∷ names) [] ss opened served = absurd opened
 caused_all limits h n told (name ∷ names) (o ∷ os) [] opened served = absurd served
 caused_all limits h n told (name ∷ names) (o ∷ os) (s ∷ ss) opened served = All-cons IsCaused s ss (caused_one limits h n o s opened.0.source opened.0.sink served.0) (caused_all limits h (n + 1) told names os ss opened.1 served.1)
 
-pub Ran-all : (c : CatalogView) (limits : Limits) (old new : PassView) (o : OpenedView) (os : List OpenedView) (ss : List EndedView) (generate : Option ℕ) (first : Contents) (told : List ℕ → Contents) (names : List (List ℕ)) (status : ℕ)
+pub RanSessions-all : (c : CatalogView) (limits : Limits) (old new : PassView) (o : OpenedView) (os : List OpenedView) (ss : List EndedView) (generate : Option ℕ) (first : Contents) (told : List ℕ → Contents) (names : List (List ℕ)) (status : ℕ)
     → o.name ≡ [] → o.generate ≡ generate → o.objects.contents ≡ first → o.objects.source_faults ≡ 0 → o.objects.sink_faults ≡ 0 → AreOpened told names os → ServedAll limits old new (o ∷ os) ss → old.made ≡ 0
-    → Sound c → AreFull limits → c.limits ≡ limits → IsPrefix new.seen (hist c) → cursor (hist c) ≡ new.made → status ≡ first_status ss → Ran names (given_to_sessions generate first told names) status c ss
-Ran-all c limits old new o os [] generate first told names status name script contents source sink opened all none sound full same seen made is_status = absurd all.served
-Ran-all c limits old new o os (s ∷ ss) generate first told names status name script contents source sink opened all none sound full same seen made is_status =
+    → Sound c → AreFull limits → c.limits ≡ limits → IsPrefix new.seen (hist c) → cursor (hist c) ≡ new.made → status ≡ first_status ss → RanSessions names (given_to_sessions generate first told names) status c ss
+RanSessions-all c limits old new o os [] generate first told names status name script contents source sink opened all none sound full same seen made is_status = absurd all.served
+RanSessions-all c limits old new o os (s ∷ ss) generate first told names status name script contents source sink opened all none sound full same seen made is_status =
     let h = hist c in
     let served = AreServed-later limits new.seen h 0 (o ∷ os) (s ∷ ss) seen all.served in
     let given = given_to_sessions generate first told names in

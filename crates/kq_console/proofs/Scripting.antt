@@ -11,7 +11,7 @@ use Rattle.kq_session.specs.declared.end.End.{End}
 use Rattle.kq_session.specs.declared.end.End.TheVariants as ends
 use Rattle.kq_session.specs.Ends.{status_of}
 use Rattle.kq_session.specs.Objects.{Objects, SessionView}
-use Rattle.kq_session.specs.Session.{SessionEnds, Explained, GoesOn, owns}
+use Rattle.kq_session.specs.Session.{SessionEnds, Explained, PassGoesOn, owns}
 use Rattle.kq_session.specs.Exchanges.{Rises}
 use Rattle.kq_session.proofs.Serving.{SessionEnds-none}
 use Rattle.kq_gen.specs.Commands.{script}
@@ -59,7 +59,7 @@ by_script name n before = record { name = name; generate = Some n; objects = bef
 -- it was read in place of the session's own source
 pub ServedOne-script : (limits : Limits) (old new : PassView) (actor n : ℕ) (name : List ℕ) (first now : ScriptState) (before : Objects) (s : SessionView) (end : End)
     → first ≡ record { text = script n; at = 0; ended = false } → SessionEnds limits new.seen actor (with_source (script_told first) before.contents) (with_source (script_told now) s.objects.contents) s.receipts end → s.status ≡ status_of end s.receipts
-    → GoesOn old new s.receipts → s.objects.contents.source ≡ before.contents.source → s.objects.source_faults ≡ before.source_faults → Rises 0 0 (s.status ≡ 3) → Rises before.sink_faults s.objects.sink_faults (s.status ≡ 4)
+    → PassGoesOn old new s.receipts → s.objects.contents.source ≡ before.contents.source → s.objects.source_faults ≡ before.source_faults → Rises 0 0 (s.status ≡ 3) → Rises before.sink_faults s.objects.sink_faults (s.status ≡ 4)
     → ServedOne limits old new actor (by_script name n before) (record { name = name; session = s })
 ServedOne-script limits old new actor n name first now before s end is_first so by_end goes_on source faults fault sink =
     let unread = with_source (script_unread n) before.contents in

@@ -42,7 +42,7 @@ pub record IsCaused (s : EndedView) : Type 0 where
   pub sink_stays : s.session.status ≢ 4 → s.session.objects.sink_faults ≡ 0
 
 -- a run that began its sessions
-pub record Ran (feeds : List (List ℕ)) (given : List Given) (status : ℕ) (c : CatalogView) (sessions : List EndedView) : Type 0 where
+pub record RanSessions (feeds : List (List ℕ)) (given : List Given) (status : ℕ) (c : CatalogView) (sessions : List EndedView) : Type 0 where
   pub headline : Headline feeds given c sessions
   pub limits : AreFull c.limits
   pub status_is : status ≡ first_status sessions
@@ -50,15 +50,15 @@ pub record Ran (feeds : List (List ℕ)) (given : List Given) (status : ℕ) (c 
 
 abbrev pub RanBy : List (List ℕ) → List Given → ℕ → Option CatalogView → List EndedView → Type 0
 RanBy feeds given status None sessions = (sessions ≡ []) × ((status ≡ 2) ⊎ (status ≡ 5) ⊎ (status ≡ 1))
-RanBy feeds given status (Some c) sessions = Ran feeds given status c sessions
+RanBy feeds given status (Some c) sessions = RanSessions feeds given status c sessions
 
 -- what the sessions are given: session 0, whose script may be generated, and then the feeds, whose scripts are their own
 abbrev pub given_to_sessions : Option ℕ → Contents → (List ℕ → Contents) → List (List ℕ) → List Given
 given_to_sessions generate first of_feed feeds = record { generate = generate; contents = first } ∷ map (λ (name : List ℕ). record { generate = None; contents = of_feed name }) feeds
 
 -- a run, which has a catalogue exactly where it began its sessions
-abbrev pub Runs : Option ℕ → List (List ℕ) → Contents → (List ℕ → Contents) → RunView → Type 0
-Runs generate feeds first of_feed run = RanBy feeds (given_to_sessions generate first of_feed feeds) run.status run.catalog run.sessions
+abbrev pub RunsProgram : Option ℕ → List (List ℕ) → Contents → (List ℕ → Contents) → RunView → Type 0
+RunsProgram generate feeds first of_feed run = RanBy feeds (given_to_sessions generate first of_feed feeds) run.status run.catalog run.sessions
 
 -- ---- completeness
 
@@ -93,7 +93,7 @@ pub record IsCompleteRun (given : List Given) (run : RunView) : Type 0 where
   pub sessions : AreCompleteBy run.catalog given run.sessions
 
 -- where the words have the form, the World failed in no opening and nothing troubled a session, the run is complete
-abbrev pub Completes : Option Asked → ℕ → ℕ → Contents → (List ℕ → Contents) → RunView → Type 0
-Completes said count_before count_now first of_feed run =
+abbrev pub CompletesRun : Option Asked → ℕ → ℕ → Contents → (List ℕ → Contents) → RunView → Type 0
+CompletesRun said count_before count_now first of_feed run =
     let given = given_to_sessions (generate_of said) first of_feed (feeds_of said) in
     IsSome said → ¬ Rose count_before count_now → (IsSome run.catalog → AreUntroubled given run.sessions) → IsCompleteRun given run

@@ -3,7 +3,7 @@ use Rattle.std.specs.Prelude.{◌≡◌, ◌≢◌, ◌<◌, ◌≤◌, ◌+◌,
 use Rattle.kq_world.specs.Outside.{Contents, Rose}
 use Rattle.kq_world.specs.declared.outside.OpenFault.{OpenFault}
 use Rattle.kq_world.specs.declared.outside.OpenFault.TheVariants.{Failed, Memory}
-use Rattle.kq_console.specs.Headline.{Runs}
+use Rattle.kq_console.specs.Headline.{RunsProgram}
 use Rattle.kq_console.specs.Views.{OpenedView, RunView}
 
 -- the feed of a name was opened: it has the name and what was told of it, its script is its own, and it has not failed yet
@@ -39,4 +39,4 @@ pub record OpensFeeds (feeds before now : List (List ℕ)) (count_before count_n
 
 -- a run of feeds that were opened, whatever their names are and the world told of them
 abbrev pub RunsOpened : Option ℕ → List OpenedView → Contents → RunView → Type 0
-RunsOpened generate opened first run = (told : List ℕ → Contents) (names : List (List ℕ)) → AreOpened told names opened → Runs generate names first told run
+RunsOpened generate opened first run = (told : List ℕ → Contents) (names : List (List ℕ)) → AreOpened told names opened → RunsProgram generate names first told run

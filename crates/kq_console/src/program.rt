@@ -1,7 +1,7 @@
 // The top call.
 ghost use Rattle.std.specs.Prelude.{◌≡◌, ◌≢◌, ◌≤◌, [], IsSome, None, false, length, true};
 ghost use Rattle.kq_words.specs.Words.{are_distinct};
-ghost use Rattle.kq_console.specs.Headline.{Completes, Runs, first_status};
+ghost use Rattle.kq_console.specs.Headline.{CompletesRun, RunsProgram, first_status};
 ghost use Rattle.kq_console.specs.Opening.{OpensFeeds, RunsOpened};
 ghost use Rattle.kq_console.specs.Words.{IsJustWhere, asked_in, feeds_of, generate_of};
 
@@ -29,7 +29,7 @@ pub const MEMORY: u8 = 1;
 /// A feed couldn't be opened.
 pub const NOT_OPENED: u8 = 5;
 
-/// Runs session 0, the feeds and the workers beside each other on a new catalogue. `words` are the words after the
+/// RunsProgram session 0, the feeds and the workers beside each other on a new catalogue. `words` are the words after the
 /// program's name. Where they ask for a generated script, session 0 has that in place of its own. It waits for all of them.
 pub fn run<R: Threads + Wait + Sync, W: World, G: Gate + Sync>(
     rt: &R,
@@ -43,8 +43,8 @@ pub fn run<R: Threads + Wait + Sync, W: World, G: Gate + Sync>(
     ensures untouched { result.status ≡ WRONG_WORDS → world.new ≡ world.old }
     ensures served { IsSome result.catalog → IsSome (asked_in words.now) }
     ensures opens { OpensFeeds (feeds_of (asked_in words.now)) (W.asked world.old) (W.asked world.new) (W.faults world.old) (W.faults world.new) result }
-    ensures run { let said = asked_in words.now in Runs (generate_of said) (feeds_of said) (W.first_contents world.old) (W.feed_contents world.old) result }
-    ensures complete { Completes (asked_in words.now) (W.faults world.old) (W.faults world.new) (W.first_contents world.old) (W.feed_contents world.old) result }
+    ensures run { let said = asked_in words.now in RunsProgram (generate_of said) (feeds_of said) (W.first_contents world.old) (W.feed_contents world.old) result }
+    ensures complete { CompletesRun (asked_in words.now) (W.faults world.old) (W.faults world.new) (W.first_contents world.old) (W.feed_contents world.old) result }
 {
     match Options::from_words(alloc, words) {
         Ok(options) => run_sessions(rt, alloc, world, options, gate),
@@ -67,7 +67,7 @@ fn run_sessions<R: Threads + Wait + Sync, W: World, G: Gate + Sync>(
     requires few_workers { options.workers ≤ 8 }
     ensures status { result.status ≢ WRONG_WORDS }
     ensures opens { OpensFeeds options.feeds.items (W.asked world.old) (W.asked world.new) (W.faults world.old) (W.faults world.new) result }
-    ensures run { Runs options.generate options.feeds.items (W.first_contents world.old) (W.feed_contents world.old) result }
+    ensures run { RunsProgram options.generate options.feeds.items (W.first_contents world.old) (W.feed_contents world.old) result }
 {
     let Options {
         workers,
@@ -81,7 +81,7 @@ fn run_sessions<R: Threads + Wait + Sync, W: World, G: Gate + Sync>(
     }
 }
 
-// Runs the feeds that were opened, and the workers, beside session 0, whose script may be generated.
+// RunsProgram the feeds that were opened, and the workers, beside session 0, whose script may be generated.
 fn run_opened<R: Threads + Wait + Sync, W: World, G: Gate + Sync>(
     rt: &R,
     alloc: Global,

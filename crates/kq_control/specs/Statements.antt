@@ -5,7 +5,7 @@ use Rattle.kq_control.specs.Controls.{statement_text}
 use Rattle.kq_control.specs.Symbols.{symbols_of}
 use Rattle.kq_parse.specs.declared.asking.ParseFault.{ParseFault}
 use Rattle.kq_parse.specs.declared.asking.ParseFault.TheVariants as fault
-use Rattle.kq_parse.specs.Places.{Answers, RefusesAt}
+use Rattle.kq_parse.specs.Places.{AcceptsOnly, RefusesAt}
 use Rattle.kq_token.specs.declared.token.Token.{Token}
 use Rattle.kq_token.specs.declared.token.LexFault.TheVariants as lexed
 use Rattle.kq_token.specs.Reading.{AreTokens, IsFault}
@@ -14,7 +14,7 @@ use Rattle.kq_token.specs.Reading.{AreTokens, IsFault}
 pub record IsStatement (text : List ℕ) (s : StatementTree) : Type 0 where
   pub tokens : List Token
   pub are : AreTokens text tokens
-  pub is : Answers statement_text (symbols_of text tokens) s
+  pub is : AcceptsOnly statement_text (symbols_of text tokens) s
 
 -- The text has these tokens, and no command has their symbols.
 pub record IsNone (text : List ℕ) (f : ParseFault) : Type 0 where
@@ -23,7 +23,7 @@ pub record IsNone (text : List ℕ) (f : ParseFault) : Type 0 where
   pub refused : RefusesAt statement_text (symbols_of text tokens) (length text) f
 
 -- Tokens come first: a text that isn't all tokens is refused where none starts.
-abbrev pub IsRefused : List ℕ → ParseFault → Type 0
-IsRefused text (fault.Syntax place) = IsFault text (lexed.Syntax place) ⊎ IsNone text (fault.Syntax place)
-IsRefused text (fault.Deep place) = IsNone text (fault.Deep place)
-IsRefused text fault.Memory = Unit {0}
+abbrev pub IsRefusedText : List ℕ → ParseFault → Type 0
+IsRefusedText text (fault.Syntax place) = IsFault text (lexed.Syntax place) ⊎ IsNone text (fault.Syntax place)
+IsRefusedText text (fault.Deep place) = IsNone text (fault.Deep place)
+IsRefusedText text fault.Memory = Unit {0}

@@ -2,8 +2,8 @@
 ghost use Rattle.std.specs.Prelude.{◌≡◌, MatchResult};
 ghost use Rattle.kq_control.specs.Controls.{statement_text};
 ghost use Rattle.kq_control.specs.ControlViews.{statement_of};
-ghost use Rattle.kq_control.specs.Statements.{IsStatement, IsRefused};
-ghost use Rattle.kq_parse.specs.Places.{Answers, RefusesAt};
+ghost use Rattle.kq_control.specs.Statements.{IsStatement, IsRefusedText};
+ghost use Rattle.kq_parse.specs.Places.{AcceptsOnly, RefusesAt};
 
 use crate::controls::read_statement;
 use crate::symbols::read_symbols;
@@ -15,7 +15,7 @@ use std::alloc::Global;
 
 // The command that has exactly these symbols of a text that ends at `end`.
 fn statement_in(alloc: Global, symbols: &[Symbol], end: usize) -> Result<Statement, ParseFault>
-    ensures { MatchResult result (λ s. Answers statement_text symbols.now (statement_of s)) (RefusesAt statement_text symbols.now end) }
+    ensures { MatchResult result (λ s. AcceptsOnly statement_text symbols.now (statement_of s)) (RefusesAt statement_text symbols.now end) }
 {
     if let Some(at) = too_deep(symbols) {
         return Err(ParseFault::Deep { at });
@@ -28,7 +28,7 @@ fn statement_in(alloc: Global, symbols: &[Symbol], end: usize) -> Result<Stateme
 /// The command that the text is. A text that isn't all tokens is refused where none starts, before brackets are counted and
 /// the grammar is tried.
 pub fn parse_statement(alloc: Global, text: &str) -> Result<Statement, ParseFault>
-    ensures { MatchResult result (λ s. IsStatement text.now (statement_of s)) (IsRefused text.now) }
+    ensures { MatchResult result (λ s. IsStatement text.now (statement_of s)) (IsRefusedText text.now) }
 {
     match tokens(alloc, text) {
         Ok(tokens) => match read_symbols(alloc, &tokens) {

@@ -5,7 +5,7 @@ use Rattle.std.proofs.lemmas.List.{length_push}
 use Rattle.std.proofs.lemmas.List.Elements.{Contains-append_left, Contains-push, Contains-push_cases}
 use Rattle.std.specs.List.{Contains}
 use Rattle.kq_model.specs.declared.policy.Entry.{Entry}
-use Rattle.kq_cycle.specs.Search.{Adds, HasSource, is_marked, marked_with, open_with, unmarked}
+use Rattle.kq_cycle.specs.Search.{AddsSources, HasSource, is_marked, marked_with, open_with, unmarked}
 
 set-marked : (marked : List Bool) (t : ℕ) → is_marked (set marked t true) t ≡ true
 set-marked [] t = refl
@@ -52,8 +52,8 @@ HasSource-cases es e s has = by_case (Contains-push_cases es e has.entry has.sta
     by_case (inl before) = inl (record { entry = has.entry; stands = before; names = has.names })
     by_case (inr same) = inr (ap (λ (x : Entry). x.source) same ∙ has.names)
 
-pub Adds-none : (target : ℕ) (marked : List Bool) (open_ones : List ℕ) → Adds [] target marked open_ones marked open_ones
-Adds-none target marked open_ones = record {
+pub AddsSources-none : (target : ℕ) (marked : List Bool) (open_ones : List ℕ) → AddsSources [] target marked open_ones marked open_ones
+AddsSources-none target marked open_ones = record {
   count = refl;
   kept = λ t is. is;
   stay = λ t is. is;
@@ -63,9 +63,9 @@ Adds-none target marked open_ones = record {
 }
 
 -- one source more, which isn't the target
-pub Adds-more : (es : List Entry) (e : Entry) (target : ℕ) (a b : List Bool) (o p : List ℕ) → (e.source ≡ target → ⊥) → Adds es target a o b p
-    → Adds (es ++ e ∷ []) target a o (marked_with b e.source) (open_with b p e.source)
-Adds-more es e target a b o p other adds = by_test (is_marked b e.source) refl
+pub AddsSources-more : (es : List Entry) (e : Entry) (target : ℕ) (a b : List Bool) (o p : List ℕ) → (e.source ≡ target → ⊥) → AddsSources es target a o b p
+    → AddsSources (es ++ e ∷ []) target a o (marked_with b e.source) (open_with b p e.source)
+AddsSources-more es e target a b o p other adds = by_test (is_marked b e.source) refl
   where
     source_of : (after : List Bool) → ((t : ℕ) → is_marked b t ≡ true → is_marked after t ≡ true) → is_marked after e.source ≡ true → (s : ℕ) → HasSource (es ++ e ∷ []) s → (s ≡ target → ⊥) × (is_marked after s ≡ true)
     source_of after keeps here s has = by_case (HasSource-cases es e s has)
@@ -85,7 +85,7 @@ Adds-more es e target a b o p other adds = by_test (is_marked b e.source) refl
         by_case (inl before) = by_before (adds.came t before)
         by_case (inr same) = inr (record { entry = e; stands = Contains-push es e; names = same })
 
-    by_test : (seen : Bool) → is_marked b e.source ≡ seen → Adds (es ++ e ∷ []) target a o (cond seen b (set b e.source true)) (cond seen p (p ++ e.source ∷ []))
+    by_test : (seen : Bool) → is_marked b e.source ≡ seen → AddsSources (es ++ e ∷ []) target a o (cond seen b (set b e.source true)) (cond seen p (p ++ e.source ∷ []))
     by_test true is = record {
       count = adds.count;
       kept = adds.kept;

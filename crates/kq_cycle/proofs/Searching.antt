@@ -7,7 +7,7 @@ use Rattle.std.specs.List.{Contains}
 use Rattle.kq_model.specs.declared.policy.Entry.{Entry}
 use Rattle.kq_model.specs.Cycles.{Feeds, IsOnCycle, Reaches, at_once, by_way_of}
 use Rattle.kq_model.specs.Force.{policy_at}
-use Rattle.kq_cycle.specs.Search.{Adds, HasSource, Searches, is_marked, unmarked}
+use Rattle.kq_cycle.specs.Search.{AddsSources, HasSource, Searches, is_marked, unmarked}
 
 -- a source of a table that is the target, or whose batches come to it
 lead : (policies : List (List Entry)) (target t s : ℕ) → (t ≡ target) ⊎ Reaches policies t target → Feeds policies s t → Reaches policies s target
@@ -25,7 +25,7 @@ pub found : (policies : List (List Entry)) (target t : ℕ) (marked : List Bool)
 found policies target t marked rest searches has = lead policies target t target (searches.leads t (Contains-push rest t)) (feeds_by policies t target has)
 
 -- the sources of the last of the open tables were added
-pub Searches-more : (policies : List (List Entry)) (target t : ℕ) (a b : List Bool) (rest o : List ℕ) → Searches policies target a (rest ++ t ∷ []) → Adds (policy_at policies t) target a rest b o → Searches policies target b o
+pub Searches-more : (policies : List (List Entry)) (target t : ℕ) (a b : List Bool) (rest o : List ℕ) → Searches policies target a (rest ++ t ∷ []) → AddsSources (policy_at policies t) target a rest b o → Searches policies target b o
 Searches-more policies target t a b rest o searches adds = record { leads = leads; closed = closed }
   where
     leads_by : (n : ℕ) → Contains rest n ⊎ HasSource (policy_at policies t) n → (n ≡ target) ⊎ Reaches policies n target
@@ -98,7 +98,7 @@ Searches-first policies target count past = record { leads = leads; closed = clo
 -- ---- a round
 
 -- the last of the open tables was taken, and its sources were added: a table fewer is unmarked or open
-pub fewer : (entries : List Entry) (target t : ℕ) (a b : List Bool) (opened rest o : List ℕ) → opened ≡ rest ++ t ∷ [] → Adds entries target a rest b o → unmarked b + length o + 1 ≡ unmarked a + length opened
+pub fewer : (entries : List Entry) (target t : ℕ) (a b : List Bool) (opened rest o : List ℕ) → opened ≡ rest ++ t ∷ [] → AddsSources entries target a rest b o → unmarked b + length o + 1 ≡ unmarked a + length opened
 fewer entries target t a b opened rest o is adds =
     let long = ap length is ∙ length_push rest t in
     let same = adds.count in

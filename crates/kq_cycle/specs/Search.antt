@@ -27,7 +27,7 @@ abbrev pub open_with : List Bool → List ℕ → ℕ → List ℕ
 open_with marked open_ones table = if is_marked marked table then open_ones else open_ones ++ table ∷ []
 
 -- the sources of entries were added to what was found and what is open; the target isn't among them
-pub record Adds (entries : List Entry) (target : ℕ) (marked : List Bool) (open_ones : List ℕ) (marked_after : List Bool) (open_after : List ℕ) : Type 0 where
+pub record AddsSources (entries : List Entry) (target : ℕ) (marked : List Bool) (open_ones : List ℕ) (marked_after : List Bool) (open_after : List ℕ) : Type 0 where
   pub count : unmarked marked_after + length open_after ≡ unmarked marked + length open_ones
   pub kept : (t : ℕ) → is_marked marked t ≡ true → is_marked marked_after t ≡ true
   pub stay : (t : ℕ) → Contains open_ones t → Contains open_after t

@@ -1,11 +1,11 @@
 // The sources of a policy among the tables that were found.
 ghost use Rattle.std.specs.Prelude.{◌≡◌, OnOk, IfOk, true, false};
-ghost use Rattle.kq_cycle.specs.Search.{Adds, HasSource, marked_with, open_with};
+ghost use Rattle.kq_cycle.specs.Search.{AddsSources, HasSource, marked_with, open_with};
 
 use kq_model::Entry;
 use kq_value::Memory;
 
-// Adds the sources of a policy that weren't found before to those that are still to be gone through. It stops where one is the target.
+// AddsSources the sources of a policy that weren't found before to those that are still to be gone through. It stops where one is the target.
 pub(crate) fn add_sources(
     policy: &[Entry],
     target: u32,
@@ -13,7 +13,7 @@ pub(crate) fn add_sources(
     open: &mut Vec<u32>,
 ) -> Result<bool, Memory>
     ensures found { IfOk result (λ found. found ≡ true → HasSource policy.now target) }
-    ensures added { IfOk result (λ found. found ≡ false → Adds policy.now target marked.old.items open.old.items marked.new.items open.new.items) }
+    ensures added { IfOk result (λ found. found ≡ false → AddsSources policy.now target marked.old.items open.old.items marked.new.items open.new.items) }
 {
     for entry in policy {
         if entry.source == target {

@@ -12,7 +12,7 @@ use Rattle.kq_reply.specs.Number.{kind_of}
 use Rattle.kq_engine.specs.declared.work.Outcome.{Outcome}
 use Rattle.kq_engine.specs.declared.work.Work.{Work}
 use Rattle.kq_engine.specs.Due.{reply_to}
-use Rattle.kq_engine.specs.Fits.{Acts, Answers, Did, Makes}
+use Rattle.kq_engine.specs.Fits.{Acts, AnswersCommand, Did, Makes}
 use Rattle.kq_engine.specs.Found.{IsCommitDue}
 use Rattle.kq_engine.specs.Merges.{IsSettled}
 use Rattle.kq_engine.proofs.Accepting.{Accept-commit}
@@ -24,7 +24,7 @@ pub Acts-commit : (limits : Limits) (old new : History) (work : Work) (began : �
 Acts-commit limits old new work began c place reply due added at is = (at, (c, added, subst (λ (r : Reply). Makes limits (log old) work.command r c) (sym is) due))
 
 -- nothing was appended
-pub Acts-answer : (limits : Limits) (h : History) (work : Work) (began : ℕ) (place : ℕ) (reply : Reply) → place ≡ length h → Answers limits h work.now work.command reply → IsSettled (cursor h) reply → Acts limits h h work began (record { place = place; own = false; reply = reply })
+pub Acts-answer : (limits : Limits) (h : History) (work : Work) (began : ℕ) (place : ℕ) (reply : Reply) → place ≡ length h → AnswersCommand limits h work.now work.command reply → IsSettled (cursor h) reply → Acts limits h h work began (record { place = place; own = false; reply = reply })
 Acts-answer limits h work began place reply at answers settled = (at, inl (refl, answers, settled_less (cursor (take began h)) (cursor h) reply (cursor_take began h) settled))
 
 -- memory was wanting

@@ -13,7 +13,7 @@ use Rattle.kq_command.specs.declared.command.Command.{Command}
 use Rattle.kq_engine.specs.declared.work.Outcome.{Outcome}
 use Rattle.kq_reply.specs.declared.reply.Reply.{Reply}
 use Rattle.kq_engine.specs.declared.work.Work.{Work}
-use Rattle.kq_engine.specs.Fits.{Answers, FitsNow, Fits, Tends, Tended, Acts, Appends, Advances, own_commit}
+use Rattle.kq_engine.specs.Fits.{AnswersCommand, FitsNow, Fits, Tends, Tended, Acts, Appends, Advances, own_commit}
 use Rattle.kq_engine.specs.Merges.{IsMergedBy, IsSettled, NamesAll}
 use Rattle.kq_engine.proofs.Acting.{Acts-since}
 use Rattle.kq_engine.proofs.Telling.{Makes-still, settled_requested, settled_names, still_requested, still_names}
@@ -82,10 +82,10 @@ acts_at limits old new work began place true reply since acts =
     }
 acts_at limits old new work began place false reply since acts = by_case acts.1
   where
-    by_case : ((new ≡ old) × Answers limits old work.now work.command reply × IsSettled (cursor (take began old)) reply) ⊎ Tended limits old new work began reply → Advances limits old new work began (record { place = place; own = false; reply = reply })
+    by_case : ((new ≡ old) × AnswersCommand limits old work.now work.command reply × IsSettled (cursor (take began old)) reply) ⊎ Tended limits old new work began reply → Advances limits old new work began (record { place = place; own = false; reply = reply })
     by_case (inl stays) = record {
       appends = subst (λ (h : History). Appends limits old h work.by work.command (record { place = place; own = false; reply = reply })) (sym stays.0) (Appends-none limits old work.by work.command place reply);
-      fits = Fits-end limits new work.by work.command work.now place false reply acts.0 (subst (λ (h : History). Answers limits h work.now work.command reply) (sym stays.0) stays.1) (settled_requested (cursor (take began old)) new work.by reply stays.2);
+      fits = Fits-end limits new work.by work.command work.now place false reply acts.0 (subst (λ (h : History). AnswersCommand limits h work.now work.command reply) (sym stays.0) stays.1) (settled_requested (cursor (take began old)) new work.by reply stays.2);
       since = omega (arith, ap length stays.0);
       names_all = settled_names (cursor (take began old)) (take place new) began reply (same_cursor old new began place stays.0 (omega (arith, acts.0))) stays.2;
     }

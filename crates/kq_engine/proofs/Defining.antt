@@ -15,7 +15,7 @@ use Rattle.kq_command.specs.declared.definition.NewView.{NewView}
 use Rattle.kq_grouping.specs.Bodies.{IsBody}
 use Rattle.kq_model.specs.declared.limits.Limits.{Limits}
 use Rattle.kq_model.specs.declared.table.Table.{Table}
-use Rattle.kq_model.specs.History.{History, Numbered, log, numbered_from, table_numbered, tables}
+use Rattle.kq_model.specs.History.{History, NumberedTable, log, numbered_from, table_numbered, tables}
 use Rattle.kq_plan.specs.declared.names.NameKind.TheVariants as name
 use Rattle.kq_plan.specs.declared.plan.Plan.{Plan}
 use Rattle.kq_plan.specs.Plans.{Planned, planned_of}
@@ -37,34 +37,34 @@ Finds-map P Q f (Err r) (inr is) = inr (f (refused r) is)
 
 -- ---- the table
 
-numbered_name : (k : ℕ) (said : List ℕ) (ts : List Table) (n : Numbered) → numbered_from k said ts ≡ Some n → n.table.name ≡ said
+numbered_name : (k : ℕ) (said : List ℕ) (ts : List Table) (n : NumberedTable) → numbered_from k said ts ≡ Some n → n.table.name ≡ said
 numbered_name k said [] n e = cc
 numbered_name k said (t ∷ ts) n e = by_test (pointwise nat_eq t.name said) refl e (numbered_name (k + 1) said ts n)
   where
-    by_test : (b : Bool) → pointwise nat_eq t.name said ≡ b → cond b (Some (let m : Numbered = record { number = k; table = t } in m)) (numbered_from (k + 1) said ts) ≡ Some n → (numbered_from (k + 1) said ts ≡ Some n → n.table.name ≡ said) → n.table.name ≡ said
+    by_test : (b : Bool) → pointwise nat_eq t.name said ≡ b → cond b (Some (let m : NumberedTable = record { number = k; table = t } in m)) (numbered_from (k + 1) said ts) ≡ Some n → (numbered_from (k + 1) said ts ≡ Some n → n.table.name ≡ said) → n.table.name ≡ said
     by_test true is e later =
-        let m : Numbered = record { number = k; table = t } in
+        let m : NumberedTable = record { number = k; table = t } in
         let same : m ≡ n = cc in
-        ap (λ (x : Numbered). x.table.name) (sym same) ∙ (bytes_eq-Decides t.name said).0 is
+        ap (λ (x : NumberedTable). x.table.name) (sym same) ∙ (bytes_eq-Decides t.name said).0 is
     by_test false is e later = later e
 
 -- a table that a name finds has the name
-pub table_name : (said : List ℕ) (ts : List Table) (n : Numbered) → table_numbered said ts ≡ Some n → n.table.name ≡ said
+pub table_name : (said : List ℕ) (ts : List Table) (n : NumberedTable) → table_numbered said ts ≡ Some n → n.table.name ≡ said
 table_name said ts n e = numbered_name 0 said ts n e
 
 -- and is what the name stands for
-pub table_known : (h : History) (said : List ℕ) (n : Numbered) → table_numbered said (tables (log h)) ≡ Some n → known_in h said ≡ Some (name.Table, n.table.schema)
-table_known h said n e = ap (λ (o : Option Numbered). option_or (option_map known_table o) (option_map known_view (view_found h said))) e
+pub table_known : (h : History) (said : List ℕ) (n : NumberedTable) → table_numbered said (tables (log h)) ≡ Some n → known_in h said ≡ Some (name.Table, n.table.schema)
+table_known h said n e = ap (λ (o : Option NumberedTable). option_or (option_map known_table o) (option_map known_view (view_found h said))) e
 
 -- ---- the body
 
-pub formed_due : (limits : Limits) (h : History) (view : NewView) (table : Numbered) (p : Planned) → query_bound view.body.text (known_in h) (tree_in view) ≡ Ok p
+pub formed_due : (limits : Limits) (h : History) (view : NewView) (table : NumberedTable) (p : Planned) → query_bound view.body.text (known_in h) (tree_in view) ≡ Ok p
     → is_body (query_parts view.body.text view.table.text (tree_in view)) ≡ true → IsBody table.table.name table.table.schema p → (due : Due)
     → IsNamedDue limits (log h) view table.number p due → IsViewDue limits (log h) view (Some table) due
 formed_due limits h view table p bound parts body due is = (Ok p, record { history = h; logged = refl; bound = bound }, inl (record { parts = parts; body = body; due_so = is }))
 
 -- a body that isn't bound, or that leaves the form
-pub unbound_due : (limits : Limits) (h : History) (view : NewView) (table : Numbered) (f : ViewFault)
+pub unbound_due : (limits : Limits) (h : History) (view : NewView) (table : NumberedTable) (f : ViewFault)
     → AnswersBody (query_bound view.body.text (known_in h) (tree_in view)) (query_parts view.body.text view.table.text (tree_in view)) (Err f) → Finds (IsViewDue limits (log h) view (Some table)) (Err (refusal_for f))
 unbound_due limits h view table (unbound.Unsupported at) is = inr (Err (unsupported at), record { history = h; logged = refl; bound = is }, refl)
 unbound_due limits h view table (unbound.Unknown at) is = inr (Err (unknown at), record { history = h; logged = refl; bound = is }, refl)
@@ -73,7 +73,7 @@ unbound_due limits h view table (unbound.BadView at) is = inr (Ok is.0, record {
 unbound_due limits h view table unbound.Memory is = inl refl
 
 -- a body that is bound is due what its name is
-pub bound_named : (limits : Limits) (h : History) (view : NewView) (table : Numbered) (plan : Plan) (r : Result Found Refusal) → table_numbered view.table.text (tables (log h)) ≡ Some table
+pub bound_named : (limits : Limits) (h : History) (view : NewView) (table : NumberedTable) (plan : Plan) (r : Result Found Refusal) → table_numbered view.table.text (tables (log h)) ≡ Some table
     → AnswersBody (query_bound view.body.text (known_in h) (tree_in view)) (query_parts view.body.text view.table.text (tree_in view)) (Ok plan) → IsBody view.table.text table.table.schema (planned_of plan)
     → Finds (IsNamedDue limits (log h) view table.number (planned_of plan)) r → Finds (IsViewDue limits (log h) view (Some table)) r
 bound_named limits h view table plan r named answer body is =

@@ -21,7 +21,7 @@ use Rattle.kq_model.specs.declared.event.Commit.{Commit}
 use Rattle.kq_model.specs.declared.event.Commit.TheVariants as commits
 use Rattle.kq_model.specs.declared.limits.Limits.{Limits}
 use Rattle.kq_model.specs.declared.table.Table.{Table}
-use Rattle.kq_model.specs.History.{Log, Numbered, Viewed, names_of_views, tables, table_named, table_numbered, is_view, view_count, views}
+use Rattle.kq_model.specs.History.{Log, NumberedTable, Viewed, names_of_views, tables, table_named, table_numbered, is_view, view_count, views}
 use Rattle.kq_model.specs.Beside.{DueGives}
 use Rattle.kq_model.specs.Derived.{Cascade, Failed, IsDerived, Made, TooMany}
 use Rattle.kq_model.specs.Lawful.{IsIngestion, IsNewView, batch_violation, table_violation, view_violation, own_rows}
@@ -44,7 +44,7 @@ use Rattle.kq_ingest.proofs.RowLemmas.{rows_typed}
 use Rattle.kq_reply.specs.declared.refusal.Refusal.{Refusal}
 use Rattle.kq_reply.specs.declared.refusal.Refusal.TheVariants as refusals
 use Rattle.kq_reply.specs.declared.reply.Reply.TheVariants as replies
-use Rattle.kq_engine.specs.Due.{Due, Says, Commits, IsBoundDue, IsChangeDue, IsCounted, IsDueByLog, IsDueByText, IsNewDue, IsPlannedDue, IsViewDue, IsViewMade, MakesView, bad_tags, IsBodyDue, IsIngestDue, IsRowsDue, IsTaggedDue, IsValuesDue, base_for, stood_due, view_named, barring_tags, counted, derived_due, kept_due, named_due, own_batch, refusal_of, refused, table_due, text_refusal, unnamed_due}
+use Rattle.kq_engine.specs.Due.{Due, Says, Commits, IsBoundDue, IsChangeDue, IsWithinViews, IsDueByLog, IsDueByText, IsNewDue, IsPlannedDue, IsViewDue, IsViewMade, MakesView, bad_tags, IsBodyDue, IsIngestDue, IsRowsDue, IsTaggedDue, IsValuesDue, base_for, stood_due, view_named, barring_tags, counted, derived_due, kept_due, named_due, own_batch, refusal_of, refused, table_due, text_refusal, unnamed_due}
 use Rattle.kq_show.specs.JournalRows.{name_of}
 use Rattle.kq_engine.specs.Found.{IsCommitDue}
 use Rattle.kq_engine.proofs.Fit.{IsFit, MakesNoView, counted-commit, no_commit}
@@ -145,11 +145,11 @@ body_put : (limits : Limits) (l : Log) (own : Batch) (barring : List (List ℕ))
 body_put limits l own barring c (Some fault) due = absurd (no_commit c (refusal_of fault) due)
 body_put limits l own barring c None due = (refl, tagged_put limits l own c (least_tagged l own.table barring) due)
 
-rows_put : (limits : Limits) (l : Log) (i : Ingestion) (found : Numbered) (c : Commit) → IsRowsDue limits l i found (Commits c)
+rows_put : (limits : Limits) (l : Log) (i : Ingestion) (found : NumberedTable) (c : Commit) → IsRowsDue limits l i found (Commits c)
     → (first_fault found.table.schema i.properties.ignore_first limits.batch i.body ≡ None) × IsPut limits l (own_batch found i) c
 rows_put limits l i found c due = body_put limits l (own_batch found i) (barring_tags i.properties) c (first_fault found.table.schema i.properties.ignore_first limits.batch i.body) (good_values c (bad_tags i.properties) _ due)
 
-own_ingestion : (limits : Limits) (l : Log) (i : Ingestion) (found : Numbered) (c : Commit) → table_numbered i.table.text (tables l) ≡ Some found → (put : IsPut limits l (own_batch found i) c) → IsIngestion limits l put.batches put.failures
+own_ingestion : (limits : Limits) (l : Log) (i : Ingestion) (found : NumberedTable) (c : Commit) → table_numbered i.table.text (tables l) ≡ Some found → (put : IsPut limits l (own_batch found i) c) → IsIngestion limits l put.batches put.failures
 own_ingestion limits l i found c named put = record {
   own = own_batch found i;
   table = found.table;
@@ -161,7 +161,7 @@ own_ingestion limits l i found c named put = record {
 free_batch : (limits : Limits) (l : Log) (rows : ℕ) → nat_lt limits.batch rows ≡ false → nat_lt (length l) limits.commits ≡ true → batch_violation limits l rows ≡ None
 free_batch limits l rows few room = rw (few, room) refl
 
-rows-fit : (limits : Limits) (l : Log) (i : Ingestion) (found : Numbered) (c : Commit) → table_numbered i.table.text (tables l) ≡ Some found → IsRowsDue limits l i found (Commits c) → IsFit limits l c
+rows-fit : (limits : Limits) (l : Log) (i : Ingestion) (found : NumberedTable) (c : Commit) → table_numbered i.table.text (tables l) ≡ Some found → IsRowsDue limits l i found (Commits c) → IsFit limits l c
 rows-fit limits l i found c named due =
     let (sound, put) = rows_put limits l i found c due in
     let led = IsDerived-led limits.cascade (rules l) (DueGives l) (own_batch found i) put.batches put.failures put.derived in
@@ -169,12 +169,12 @@ rows-fit limits l i found c named due =
     let violation = ap (batch_violation limits l) (ap own_rows led.is) ∙ free_batch limits l (length (own_batch found i).rows) few put.room in
     subst (IsFit limits l) put.is (record { room = ltb-true (length l) limits.commits put.room; lawful = (own_ingestion limits l i found c named put, violation) })
 
-ingest-fit : (limits : Limits) (l : Log) (i : Ingestion) (o : Option Numbered) (c : Commit) → table_numbered i.table.text (tables l) ≡ o → IsIngestDue limits l i o (Commits c) → IsFit limits l c
+ingest-fit : (limits : Limits) (l : Log) (i : Ingestion) (o : Option NumberedTable) (c : Commit) → table_numbered i.table.text (tables l) ≡ o → IsIngestDue limits l i o (Commits c) → IsFit limits l c
 ingest-fit limits l i None c named due = absurd (no_commit c (refusals.Unknown i.table.at) due)
 ingest-fit limits l i (Some found) c named due = rows-fit limits l i found c named due
 
 -- rows that are put in are no view
-pub ingest-no_view : (limits : Limits) (l : Log) (i : Ingestion) (o : Option Numbered) (c : Commit) → IsIngestDue limits l i o (Commits c) → MakesNoView c
+pub ingest-no_view : (limits : Limits) (l : Log) (i : Ingestion) (o : Option NumberedTable) (c : Commit) → IsIngestDue limits l i o (Commits c) → MakesNoView c
 ingest-no_view limits l i None c due = absurd (no_commit c (refusals.Unknown i.table.at) due)
 ingest-no_view limits l i (Some found) c due = subst MakesNoView (rows_put limits l i found c due).1.is tt
 
@@ -187,7 +187,7 @@ record IsMaking (limits : Limits) (l : Log) (view : NewView) (number : ℕ) (p :
   makes : MakesView l view number p (Commits c)
 
 counts : (limits : Limits) (l : Log) (view : NewView) (number : ℕ) (p : Planned) (c : Commit) (few room : Bool) → nat_lt (view_count l) limits.views ≡ few → nat_lt (length l) limits.commits ≡ room → table_named view.name.text (tables l) ≡ None → is_view view.name.text l ≡ false
-    → IsCounted limits l view number p few room (Commits c) → IsMaking limits l view number p c
+    → IsWithinViews limits l view number p few room (Commits c) → IsMaking limits l view number p c
 counts limits l view number p c false room is has unnamed unviewed e = absurd (no_commit c (refusals.Full limits.views) e)
 counts limits l view number p c true false is has unnamed unviewed e = absurd (no_commit c (refusals.Full limits.commits) e)
 counts limits l view number p c true true is has unnamed unviewed e = record { room = ltb-true (length l) limits.commits has; violation = rw (unnamed, unviewed, is, has) refl; makes = e }
@@ -235,7 +235,7 @@ base_of_new : (backfill : Bool) (at base : ℕ) → base ≡ base_for backfill a
 base_of_new true at base is = inl is
 base_of_new false at base is = inr is
 
-made_new : (limits : Limits) (l : Log) (view : NewView) (table : Numbered) (p : Planned) (v : View) → table_numbered view.table.text (tables l) ≡ Some table → IsBody table.table.name table.table.schema p → view_violation limits l view.name.text ≡ None
+made_new : (limits : Limits) (l : Log) (view : NewView) (table : NumberedTable) (p : Planned) (v : View) → table_numbered view.table.text (tables l) ≡ Some table → IsBody table.table.name table.table.schema p → view_violation limits l view.name.text ≡ None
     → IsViewMade l view table.number p v → IsNewView limits l v
 made_new limits l view table p v named body violation made = record {
   table = table.table;
@@ -245,7 +245,7 @@ made_new limits l view table p v named body violation made = record {
   within = ap (view_violation limits l) made.name ∙ violation;
 }
 
-view_lawful : (limits : Limits) (l : Log) (view : NewView) (table : Numbered) (p : Planned) (c : Commit) → table_numbered view.table.text (tables l) ≡ Some table → IsBody table.table.name table.table.schema p → IsMaking limits l view table.number p c → IsFit limits l c
+view_lawful : (limits : Limits) (l : Log) (view : NewView) (table : NumberedTable) (p : Planned) (c : Commit) → table_numbered view.table.text (tables l) ≡ Some table → IsBody table.table.name table.table.schema p → IsMaking limits l view table.number p c → IsFit limits l c
 view_lawful limits l view table p (commits.CreateTable name schema) named body making = absurd making.makes
 view_lawful limits l view table p (commits.CreateView v) named body making =
     record { room = making.room; lawful = made_new limits l view table p v named body making.violation making.makes }
@@ -253,13 +253,13 @@ view_lawful limits l view table p (commits.SetPolicy target entries) named body 
 view_lawful limits l view table p (commits.AlterMerge more columns) named body making = absurd making.makes
 view_lawful limits l view table p (commits.Ingest batches failures) named body making = absurd making.makes
 
-bound_fit : (limits : Limits) (l : Log) (view : NewView) (table : Numbered) (v : Verdict Planned) (c : Commit) → table_numbered view.table.text (tables l) ≡ Some table → IsBoundDue limits l view table v (Commits c) → IsFit limits l c
+bound_fit : (limits : Limits) (l : Log) (view : NewView) (table : NumberedTable) (v : Verdict Planned) (c : Commit) → table_numbered view.table.text (tables l) ≡ Some table → IsBoundDue limits l view table v (Commits c) → IsFit limits l c
 bound_fit limits l view table (Err fault) c named e = absurd (no_commit c (refusal_by fault) e)
 bound_fit limits l view table (Ok p) c named (inl formed) =
     view_lawful limits l view table p c named formed.body (planned_making limits l view table.number p c (view_named view.name.text l) refl formed.due_so)
 bound_fit limits l view table (Ok p) c named (inr unformed) = absurd (no_commit c (refusals.BadView unformed.at) unformed.is)
 
-view-fit : (limits : Limits) (l : Log) (view : NewView) (o : Option Numbered) (c : Commit) → table_numbered view.table.text (tables l) ≡ o → IsViewDue limits l view o (Commits c) → IsFit limits l c
+view-fit : (limits : Limits) (l : Log) (view : NewView) (o : Option NumberedTable) (c : Commit) → table_numbered view.table.text (tables l) ≡ o → IsViewDue limits l view o (Commits c) → IsFit limits l c
 view-fit limits l view None c named due = absurd (no_commit c (refusals.Unknown view.table.at) due)
 view-fit limits l view (Some table) c named due = bound_fit limits l view table due.0 c named due.2
 

@@ -11,13 +11,13 @@ use Rattle.kq_model.specs.declared.event.Commit.{Commit}
 use Rattle.kq_model.specs.declared.event.Commit.TheVariants as commits
 use Rattle.kq_model.specs.declared.limits.Limits.{Limits}
 use Rattle.kq_model.specs.declared.policy.Entry.{Entry}
-use Rattle.kq_model.specs.History.{History, Log, Numbered, log, table_numbered, tables}
+use Rattle.kq_model.specs.History.{History, Log, NumberedTable, log, table_numbered, tables}
 use Rattle.kq_model.specs.Lawful.{IsEntry, IsNewPolicy, tables_known}
 use Rattle.kq_model.specs.PolicyBodies.{IsPolicyBody, reads_view, view_read}
 use Rattle.kq_model.proofs.Tables.{table_numbered-at}
 use Rattle.kq_plan.specs.declared.names.NameKind.TheVariants as name
 use Rattle.kq_plan.specs.declared.work.LeafKind.TheVariants as kind
-use Rattle.kq_plan.specs.Fits.{FitAfter, Fits, FitsStep}
+use Rattle.kq_plan.specs.Fits.{FitAfter, FitsNames, FitsStep}
 use Rattle.kq_plan.specs.Names.{Known}
 use Rattle.kq_plan.specs.Plans.{Doing, leaf, one_row, numbers, written, scalar, kept, mapped, cut, counted as totalled, sorted, topped, apart, summarized, joined, united, expanded, Planned, Stepping, planned_of}
 use Rattle.kq_policy_json.specs.declared.entry.Written.{Written}
@@ -36,7 +36,7 @@ some_same h = cc
 no_table : (columns : List Field) (v : NumberedView) → Some (known_view v) ≡ Some (name.Table, columns) → ⊥
 no_table columns v e = let kinds : name.View ≡ name.Table = ap (λ (k : Known). k.0) (some_same e) in cc
 
-table_alone : (o : Option Numbered) (v : Option NumberedView) (columns : List Field) → option_or (option_map known_table o) (option_map known_view v) ≡ Some (name.Table, columns) → option_map known_table o ≡ Some (name.Table, columns)
+table_alone : (o : Option NumberedTable) (v : Option NumberedView) (columns : List Field) → option_or (option_map known_table o) (option_map known_view v) ≡ Some (name.Table, columns) → option_map known_table o ≡ Some (name.Table, columns)
 table_alone (Some n) v columns e = e
 table_alone None (Some v) columns e = absurd (no_table columns v e)
 table_alone None None columns e = e
@@ -76,7 +76,7 @@ fit_after known other before (s ∷ ss) keeps viewless fit = (
 )
 
 -- a plan that names no view fits the tables alone
-fits_tables : (h : History) (source : List ℕ) (p : Planned) (target : List Field) → IsPolicyBody source p → Fits (known_in h) p target → Fits (tables_known (log h)) p target
+fits_tables : (h : History) (source : List ℕ) (p : Planned) (target : List Field) → IsPolicyBody source p → FitsNames (known_in h) p target → FitsNames (tables_known (log h)) p target
 fits_tables h source p target body fits = record {
   steps = fit_after (known_in h) (tables_known (log h)) [] p.steps (table_known_so h) body.no_view fits.steps;
   output = fits.output;
@@ -84,7 +84,7 @@ fits_tables h source p target body fits = record {
 
 -- ---- entries
 
-entry_from : (h : History) (target : List Field) (w : Written) (e : Entry) (o : Option Numbered) → table_numbered w.source (tables (log h)) ≡ o → IsEntryFrom (known_in h) target w o e → IsEntry (log h) target e
+entry_from : (h : History) (target : List Field) (w : Written) (e : Entry) (o : Option NumberedTable) → table_numbered w.source (tables (log h)) ≡ o → IsEntryFrom (known_in h) target w o e → IsEntry (log h) target e
 entry_from h target w e None named is = absurd is
 entry_from h target w e (Some source) named is = record {
   source = source.table;
@@ -108,7 +108,7 @@ entries_lawful h target (x ∷ xs) (e ∷ es) all = All-cons (IsEntry (log h) ta
 
 -- ---- policies
 
-policy_lawful : (limits : Limits) (l : Log) (name : List ℕ) (found : Numbered) (policy : List ℕ) (h : History) (entries : List Entry) → table_numbered name (tables l) ≡ Some found → log h ≡ l
+policy_lawful : (limits : Limits) (l : Log) (name : List ℕ) (found : NumberedTable) (policy : List ℕ) (h : History) (entries : List Entry) → table_numbered name (tables l) ≡ Some found → log h ≡ l
     → IsPolicyOf (known_in h) l found.table.schema limits.policies policy entries → SetsPolicy limits l found entries (Commits (commits.SetPolicy found.number entries)) → length l < limits.commits → IsNewPolicy limits l found.number entries
 policy_lawful limits l name found policy h entries named logged gives sets room =
     let few = few_elements limits.policies policy gives.sound in
@@ -123,7 +123,7 @@ policy_lawful limits l name found policy h entries named logged gives sets room 
       room = room;
     }
 
-entries_fit : (limits : Limits) (l : Log) (name : List ℕ) (found : Numbered) (policy : List ℕ) (h : History) (entries : List Entry) (c : Commit) → table_numbered name (tables l) ≡ Some found → log h ≡ l
+entries_fit : (limits : Limits) (l : Log) (name : List ℕ) (found : NumberedTable) (policy : List ℕ) (h : History) (entries : List Entry) (c : Commit) → table_numbered name (tables l) ≡ Some found → log h ≡ l
     → IsPolicyOf (known_in h) l found.table.schema limits.policies policy entries → IsEntriesDue limits l found entries (Commits c) → IsFit limits l c
 entries_fit limits l name found policy h entries c named logged gives (inl sets) =
     let (room, is) = counted-commit limits l (commits.SetPolicy found.number entries) c sets.due_so in
@@ -132,17 +132,17 @@ entries_fit limits l name found policy h entries c named logged gives (inl sets)
     subst (IsFit limits l) is (record { room = within; lawful = policy_lawful limits l name found policy h entries named logged gives here within })
 entries_fit limits l name found policy h entries c named logged gives (inr closes) = absurd (no_commit c (refusals.Cycle found.table.name) closes.is)
 
-pub policy-fit : (limits : Limits) (l : Log) (target : Identifier) (policy : List ℕ) (o : Option Numbered) (c : Commit) → table_numbered target.text (tables l) ≡ o → IsPolicyDue limits l target policy o (Commits c) → IsFit limits l c
+pub policy-fit : (limits : Limits) (l : Log) (target : Identifier) (policy : List ℕ) (o : Option NumberedTable) (c : Commit) → table_numbered target.text (tables l) ≡ o → IsPolicyDue limits l target policy o (Commits c) → IsFit limits l c
 policy-fit limits l target policy None c named due = absurd (no_commit c (refusals.Unknown target.at) due)
 policy-fit limits l target policy (Some found) c named (inl gives) = entries_fit limits l target.text found policy gives.history gives.entries c named gives.logged gives.gives gives.due_so
 policy-fit limits l target policy (Some found) c named (inr none) = absurd (no_commit c none.refusal none.is)
 
-entries-no_view : (limits : Limits) (l : Log) (found : Numbered) (entries : List Entry) (c : Commit) → IsEntriesDue limits l found entries (Commits c) → MakesNoView c
+entries-no_view : (limits : Limits) (l : Log) (found : NumberedTable) (entries : List Entry) (c : Commit) → IsEntriesDue limits l found entries (Commits c) → MakesNoView c
 entries-no_view limits l found entries c (inl sets) = subst MakesNoView (counted-commit limits l (commits.SetPolicy found.number entries) c sets.due_so).1 tt
 entries-no_view limits l found entries c (inr closes) = absurd (no_commit c (refusals.Cycle found.table.name) closes.is)
 
 -- a policy that is set is no view
-pub policy-no_view : (limits : Limits) (l : Log) (target : Identifier) (policy : List ℕ) (o : Option Numbered) (c : Commit) → IsPolicyDue limits l target policy o (Commits c) → MakesNoView c
+pub policy-no_view : (limits : Limits) (l : Log) (target : Identifier) (policy : List ℕ) (o : Option NumberedTable) (c : Commit) → IsPolicyDue limits l target policy o (Commits c) → MakesNoView c
 policy-no_view limits l target policy None c due = absurd (no_commit c (refusals.Unknown target.at) due)
 policy-no_view limits l target policy (Some found) c (inl gives) = entries-no_view limits l found gives.entries c gives.due_so
 policy-no_view limits l target policy (Some found) c (inr none) = absurd (no_commit c none.refusal none.is)

@@ -2,7 +2,7 @@
 use Rattle.std.proofs.Common.{◌≡◌, ◌<◌, Bool, true, false, cond, length, nat_lt, refl}
 use Rattle.kq_catalog.specs.declared.intent.Intent.{Intent}
 use Rattle.kq_catalog.specs.declared.intent.Intent.TheVariants as intents
-use Rattle.kq_catalog.specs.Intents.{Begins, commit_of}
+use Rattle.kq_catalog.specs.Intents.{BeginsEmpty, commit_of}
 use Rattle.kq_model.specs.declared.event.Commit.{Commit}
 use Rattle.kq_model.specs.declared.event.Commit.TheVariants as commits
 use Rattle.kq_model.specs.declared.limits.Limits.{Limits}
@@ -33,12 +33,12 @@ MakesNoView (commits.AlterMerge table columns) = Unit {0}
 MakesNoView (commits.Ingest batches failures) = Unit {0}
 
 -- so it is offered without a part
-pub Begins-offered : (intent : Intent) → MakesNoView (commit_of intent) → Begins intent
-Begins-offered (intents.CreateTable name schema) none = tt
-Begins-offered (intents.SetPolicy table entries) none = tt
-Begins-offered (intents.CreateView view part) none = absurd none
-Begins-offered (intents.AlterMerge table columns) none = tt
-Begins-offered (intents.Ingest parts failures) none = tt
+pub BeginsEmpty-offered : (intent : Intent) → MakesNoView (commit_of intent) → BeginsEmpty intent
+BeginsEmpty-offered (intents.CreateTable name schema) none = tt
+BeginsEmpty-offered (intents.SetPolicy table entries) none = tt
+BeginsEmpty-offered (intents.CreateView view part) none = absurd none
+BeginsEmpty-offered (intents.AlterMerge table columns) none = tt
+BeginsEmpty-offered (intents.Ingest parts failures) none = tt
 
 -- the commit may be made, and one more is allowed
 pub record IsFit (limits : Limits) (l : Log) (c : Commit) : Type 0 where

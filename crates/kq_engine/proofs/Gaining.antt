@@ -8,7 +8,7 @@ use Rattle.kq_value.specs.declared.schema.Field.{Field}
 use Rattle.kq_model.specs.declared.event.Commit.{Commit}
 use Rattle.kq_model.specs.declared.event.Commit.TheVariants as commits
 use Rattle.kq_model.specs.declared.limits.Limits.{Limits}
-use Rattle.kq_model.specs.History.{Log, Numbered, tables, table_numbered}
+use Rattle.kq_model.specs.History.{Log, NumberedTable, tables, table_numbered}
 use Rattle.kq_model.specs.Lawful.{IsWidening}
 use Rattle.kq_model.specs.Names.{is_among, names_of, repeat_of}
 use Rattle.kq_model.proofs.Repeats.{repeat_of-filter}
@@ -67,13 +67,13 @@ no_keep : (c : Commit) (cursor : ℕ) → Commits c ≡ Says (replies.Kept curso
 no_keep c cursor e = cc
 
 -- the columns that a table gains by a commit that is due
-record Gained (limits : Limits) (l : Log) (found : Numbered) (more : List Field) (c : Commit) : Type 0 where
+record Gained (limits : Limits) (l : Log) (found : NumberedTable) (more : List Field) (c : Commit) : Type 0 where
   some : 0 < length more
   narrow : nat_lt limits.columns (length found.table.schema + length more) ≡ false
   room : nat_lt (length l) limits.commits ≡ true
   is : commits.AlterMerge found.number more ≡ c
 
-wider-gains : (limits : Limits) (l : Log) (found : Numbered) (more : List Field) (c : Commit) → 0 < length more → Commits c ≡ wider_due limits l found more → Gained limits l found more c
+wider-gains : (limits : Limits) (l : Log) (found : NumberedTable) (more : List Field) (c : Commit) → 0 < length more → Commits c ≡ wider_due limits l found more → Gained limits l found more c
 wider-gains limits l found more c some due = by_width (nat_lt limits.columns (length found.table.schema + length more)) refl due
   where
     by_width : (b : Bool) → nat_lt limits.columns (length found.table.schema + length more) ≡ b
@@ -83,16 +83,16 @@ wider-gains limits l found more c some due = by_width (nat_lt limits.columns (le
         let (room, is) = counted-commit limits l (commits.AlterMerge found.number more) c e in
         record { some = some; narrow = narrow; room = room; is = is }
 
-lacking-gains : (limits : Limits) (l : Log) (found : Numbered) (more : List Field) (c : Commit) → Commits c ≡ lacking_due limits l found more → Gained limits l found more c
+lacking-gains : (limits : Limits) (l : Log) (found : NumberedTable) (more : List Field) (c : Commit) → Commits c ≡ lacking_due limits l found more → Gained limits l found more c
 lacking-gains limits l found [] c due = absurd (no_keep c found.table.widened due)
 lacking-gains limits l found (f ∷ more) c due = wider-gains limits l found (f ∷ more) c (omega arith) due
 
-clash-gains : (limits : Limits) (l : Log) (found : Numbered) (columns : List Column) (clash : Option ℕ) (c : Commit) → Commits c ≡ clash_due limits l found columns clash → Gained limits l found (schema_of (new_columns found.table.schema columns)) c
+clash-gains : (limits : Limits) (l : Log) (found : NumberedTable) (columns : List Column) (clash : Option ℕ) (c : Commit) → Commits c ≡ clash_due limits l found columns clash → Gained limits l found (schema_of (new_columns found.table.schema columns)) c
 clash-gains limits l found columns (Some at) c due = absurd (no_commit c (refusals.Mistyped at) due)
 clash-gains limits l found columns None c due = lacking-gains limits l found (schema_of (new_columns found.table.schema columns)) c due
 
 -- a commit that is due to `.alter-merge table` may be made
-pub widening-fit : (limits : Limits) (l : Log) (name : Identifier) (columns : List Column) (o : Option Numbered) (c : Commit) → repeat_of (names_of (schema_of columns)) ≡ None → table_numbered name.text (tables l) ≡ o
+pub widening-fit : (limits : Limits) (l : Log) (name : Identifier) (columns : List Column) (o : Option NumberedTable) (c : Commit) → repeat_of (names_of (schema_of columns)) ≡ None → table_numbered name.text (tables l) ≡ o
     → Commits c ≡ widening_due limits l name columns o → IsFit limits l c
 widening-fit limits l name columns None c once named due = absurd (no_commit c (refusals.Unknown name.at) due)
 widening-fit limits l name columns (Some found) c once named due =
@@ -110,10 +110,10 @@ widening-fit limits l name columns (Some found) c once named due =
     subst (IsFit limits l) gained.is (record { room = ltb-true (length l) limits.commits gained.room; lawful = widening })
 
 -- it makes no view
-pub widening-no_view : (limits : Limits) (l : Log) (name : Identifier) (columns : List Column) (o : Option Numbered) (c : Commit) → Commits c ≡ widening_due limits l name columns o → MakesNoView c
+pub widening-no_view : (limits : Limits) (l : Log) (name : Identifier) (columns : List Column) (o : Option NumberedTable) (c : Commit) → Commits c ≡ widening_due limits l name columns o → MakesNoView c
 widening-no_view limits l name columns None c due = absurd (no_commit c (refusals.Unknown name.at) due)
 widening-no_view limits l name columns (Some found) c due = subst MakesNoView (clash-gains limits l found columns (first_clash found.table.schema columns) c due).is tt
 
 -- and then the table gains a column
-pub widening-gains : (limits : Limits) (l : Log) (name : Identifier) (columns : List Column) (found : Numbered) (c : Commit) → Commits c ≡ widening_due limits l name columns (Some found) → 0 < length (schema_of (new_columns found.table.schema columns))
+pub widening-gains : (limits : Limits) (l : Log) (name : Identifier) (columns : List Column) (found : NumberedTable) (c : Commit) → Commits c ≡ widening_due limits l name columns (Some found) → 0 < length (schema_of (new_columns found.table.schema columns))
 widening-gains limits l name columns found c due = (clash-gains limits l found columns (first_clash found.table.schema columns) c due).some

@@ -20,7 +20,7 @@ use Rattle.kq_ingest.specs.declared.fault.IngestFault.{IngestFault}
 use Rattle.kq_ingest.specs.Ingestion.{first_fault, rows_of}
 use Rattle.kq_model.specs.Derived.{Cascade, Comes, Failed, Follows, IsDerived, Made, Queries, Row, TooMany, after, ended, first, goes_on, no_more, too_many}
 use Rattle.kq_model.specs.Force.{Rules, in_force}
-use Rattle.kq_model.specs.History.{Log, Numbered, log, tables}
+use Rattle.kq_model.specs.History.{Log, NumberedTable, log, tables}
 use Rattle.kq_model.specs.Policies.{dues, policies, rules}
 use Rattle.kq_model.specs.Tagged.{least_tagged}
 use Rattle.kq_model.proofs.Wider.{Comes-wider}
@@ -133,7 +133,7 @@ pub stands_unwidened : (l : Log) (b : Barring) → stands_alone l b ≡ true →
 stands_unwidened l b e = (stands_so l b e).unwidened
 
 -- the offer of all that comes of a batch, found where no tag bars it
-offer-kept : (limits : Limits) (l : Log) (table : Numbered) (own : Batch) (b : Barring) (d : Derived) (offer : Offer) → own.table ≡ b.table → b.table ≡ table.number → b.widened ≡ table.table.widened → b.looked.items ≡ looked l d.asked.items → b.alone ≡ is_alone l b.table
+offer-kept : (limits : Limits) (l : Log) (table : NumberedTable) (own : Batch) (b : Barring) (d : Derived) (offer : Offer) → own.table ≡ b.table → b.table ≡ table.number → b.widened ≡ table.table.widened → b.looked.items ≡ looked l d.asked.items → b.alone ≡ is_alone l b.table
     → least_tagged l b.table b.tags ≡ None → Makes limits.cascade (rules l) (DueGives l) own d → OffersCommit limits l (commits.Ingest d.batches.items d.failures) (Some b) (founds.Commits offer)
     → IsKept limits l table (λ (later : Log) (due : Due). IsBatchDue limits later own b.tags due) offer
 offer-kept limits l table own b d offer into number widened asked alone_then none makes offered = record {
@@ -162,7 +162,7 @@ offer-kept limits l table own b d offer into number widened asked alone_then non
         subst (λ (u : Option Barring). IsBatchDue limits later own b.tags (unless_tagged (barred_at later u) (counted limits later (commit_of offer.intent)))) (sym offered.1)
         (subst (λ (t : ℕ). IsBatchDue limits later own b.tags (unless_tagged (least_tagged later t b.tags) (counted limits later (commit_of offer.intent)))) into due)
 
-pub Offers-kept : (limits : Limits) (l : Log) (table : Numbered) (own : Batch) (b : Barring) (d : Derived) (result : Result Found Refusal) → own.table ≡ b.table → b.table ≡ table.number → b.widened ≡ table.table.widened → b.looked.items ≡ looked l d.asked.items → b.alone ≡ is_alone l b.table
+pub Offers-kept : (limits : Limits) (l : Log) (table : NumberedTable) (own : Batch) (b : Barring) (d : Derived) (result : Result Found Refusal) → own.table ≡ b.table → b.table ≡ table.number → b.widened ≡ table.table.widened → b.looked.items ≡ looked l d.asked.items → b.alone ≡ is_alone l b.table
     → least_tagged l b.table b.tags ≡ None → Makes limits.cascade (rules l) (DueGives l) own d → IfOk result (OffersCommit limits l (commits.Ingest d.batches.items d.failures) (Some b)) → IfOk result (IsOfferOf limits l table own b.tags)
 Offers-kept limits l table own b d (Ok (founds.Says reply)) into number widened asked alone_then none makes offered = tt
 Offers-kept limits l table own b d (Ok (founds.Commits offer)) into number widened asked alone_then none makes offered = offer-kept limits l table own b d offer into number widened asked alone_then none makes offered
@@ -172,7 +172,7 @@ Offers-kept limits l table own b d (Err r) into number widened asked alone_then 
 
 -- ---- rows of a text
 
-rows_due : (limits : Limits) (later : Log) (i : Ingestion) (table : Numbered) (rows : List Row) (labels : Labels) (due : Due) → AreLabels i.properties labels → rows ≡ rows_of table.table.schema i.properties.ignore_first i.body
+rows_due : (limits : Limits) (later : Log) (i : Ingestion) (table : NumberedTable) (rows : List Row) (labels : Labels) (due : Due) → AreLabels i.properties labels → rows ≡ rows_of table.table.schema i.properties.ignore_first i.body
     → first_fault table.table.schema i.properties.ignore_first limits.batch i.body ≡ None → IsBatchDue limits later (batch_read table rows labels) labels.barring due → IsRowsDue limits later i table due
 rows_due limits later i table rows labels due are so sound is =
     let bars = barring_tags i.properties in
@@ -183,7 +183,7 @@ rows_due limits later i table rows labels due are so sound is =
     (subst (λ (b : Batch). IsBatchDue limits later b bars due) own (subst (λ (ts : List (List ℕ)). IsBatchDue limits later (batch_read table rows labels) ts due) are.barring is)))
 
 -- an offer of what comes of the rows of a text is one for the text
-pub Offers-rows : (limits : Limits) (l : Log) (i : Ingestion) (table : Numbered) (rows : List Row) (labels : Labels) (result : Result Found Refusal) → AreLabels i.properties labels → rows ≡ rows_of table.table.schema i.properties.ignore_first i.body
+pub Offers-rows : (limits : Limits) (l : Log) (i : Ingestion) (table : NumberedTable) (rows : List Row) (labels : Labels) (result : Result Found Refusal) → AreLabels i.properties labels → rows ≡ rows_of table.table.schema i.properties.ignore_first i.body
     → first_fault table.table.schema i.properties.ignore_first limits.batch i.body ≡ None → IfOk result (IsOfferOf limits l table (batch_read table rows labels) labels.barring) → IfOk result (OffersRows limits l i table)
 Offers-rows limits l i table rows labels (Ok (founds.Says reply)) are so sound offered = tt
 Offers-rows limits l i table rows labels (Ok (founds.Commits offer)) are so sound offered = record {

@@ -6,7 +6,7 @@ use Rattle.std.proofs.lemmas.List.{take-append-drop}
 use Rattle.kq_model.specs.declared.event.Commit.{Commit}
 use Rattle.kq_model.specs.declared.limits.Limits.{Limits}
 use Rattle.kq_model.specs.declared.table.Table.{Table}
-use Rattle.kq_model.specs.History.{History, Log, Numbered, log, tables, table_numbered}
+use Rattle.kq_model.specs.History.{History, Log, NumberedTable, log, tables, table_numbered}
 use Rattle.kq_model.proofs.Histories.{log-append}
 use Rattle.kq_model.proofs.Tables.{still_same}
 use Rattle.kq_catalog.specs.Intents.{commit_of}
@@ -32,7 +32,7 @@ use Rattle.kq_engine.specs.Found.{Finds, FindsFold, FindsMerge, IsCommitDue, IsD
 use Rattle.kq_engine.proofs.Dues.{Due-is_good, ingest-no_view, table-no_view}
 use Rattle.kq_engine.proofs.Gaining.{widening-no_view}
 use Rattle.kq_engine.proofs.Entering.{policy-no_view}
-use Rattle.kq_engine.proofs.Fit.{Begins-offered, no_commit}
+use Rattle.kq_engine.proofs.Fit.{BeginsEmpty-offered, no_commit}
 use Rattle.kq_engine.proofs.Keeping.{stands_unwidened}
 use Rattle.kq_engine.proofs.Telling.{change_still}
 
@@ -43,7 +43,7 @@ widened_so None cursor e = absurd (false≢true e)
 widened_so (Some t) cursor e = (t, refl, eqb-true t.widened cursor e)
 
 -- a name finds the table for which rows were read, where it was not widened since
-read_still : (l more : Log) (name : List ℕ) (found : Numbered) (b : Barring) → table_numbered name (tables l) ≡ Some found → b.table ≡ found.number → b.widened ≡ found.table.widened → is_widened_at (slice_get (tables (l ++ more)) b.table) b.widened ≡ true
+read_still : (l more : Log) (name : List ℕ) (found : NumberedTable) (b : Barring) → table_numbered name (tables l) ≡ Some found → b.table ≡ found.number → b.widened ≡ found.table.widened → is_widened_at (slice_get (tables (l ++ more)) b.table) b.widened ≡ true
     → table_numbered name (tables (l ++ more)) ≡ Some found
 read_still l more name found b named number widened still =
     let now = widened_so (slice_get (tables (l ++ more)) b.table) b.widened still in
@@ -58,19 +58,19 @@ good_due limits l change due good by = subst (λ o. IsDueByText limits l change 
 abbrev IsDueSo : Limits → Ingestion → Offer → Log → Type 0
 IsDueSo limits i offer l = IsIngestDue limits l i (table_numbered i.table.text (tables l)) (offer_due limits l offer)
 
-still_or_alone : (limits : Limits) (l : Log) (since : History) (i : Ingestion) (table : Numbered) (offer : Offer) → table_numbered i.table.text (tables l) ≡ Some table
+still_or_alone : (limits : Limits) (l : Log) (since : History) (i : Ingestion) (table : NumberedTable) (offer : Offer) → table_numbered i.table.text (tables l) ≡ Some table
     → (kept : IsKept limits l table (λ (later : Log) (due : Due). IsRowsDue limits later i table due) offer) → (alone : Bool) → stands_alone (l ++ log since) kept.barring ≡ alone → alone || is_quiet kept.barring.looked.items since ≡ true → IsDueSo limits i offer (l ++ log since)
 still_or_alone limits l since i table offer named kept true stands still =
     let later = l ++ log since in
     let unwidened = stands_unwidened later kept.barring stands in
-    subst (λ (o : Option Numbered). IsIngestDue limits later i o (offer_due limits later offer))
+    subst (λ (o : Option NumberedTable). IsIngestDue limits later i o (offer_due limits later offer))
     (sym (read_still l (log since) i.table.text table kept.barring named kept.number kept.widened unwidened)) (kept.alone later stands)
 still_or_alone limits l since i table offer named kept false stands still =
     let later = l ++ log since in
     let same : table_numbered i.table.text (tables later) ≡ Some table = ap (table_numbered i.table.text) (tables-quiet kept.barring.looked.items l since still) ∙ named in
-    subst (λ (o : Option Numbered). IsIngestDue limits later i o (offer_due limits later offer)) (sym same) (kept.quiet since still)
+    subst (λ (o : Option NumberedTable). IsIngestDue limits later i o (offer_due limits later offer)) (sym same) (kept.quiet since still)
 
-rows_later : (limits : Limits) (l : Log) (since : History) (i : Ingestion) (offer : Offer) (o : Option Numbered) → table_numbered i.table.text (tables l) ≡ o → IsIngestDue limits l i o (Commits (commit_of offer.intent)) → OffersInto limits l i (founds.Commits offer)
+rows_later : (limits : Limits) (l : Log) (since : History) (i : Ingestion) (offer : Offer) (o : Option NumberedTable) → table_numbered i.table.text (tables l) ≡ o → IsIngestDue limits l i o (Commits (commit_of offer.intent)) → OffersInto limits l i (founds.Commits offer)
     → is_as_read since (l ++ log since) offer.unless ≡ true → IsDueSo limits i offer (l ++ log since)
 rows_later limits l since i offer None named due offers still = absurd (no_commit (commit_of offer.intent) (refusals.Unknown i.table.at) due)
 rows_later limits l since i offer (Some table) named due offers still =
@@ -89,17 +89,17 @@ commit_good limits l Unbuilt c due = absurd due
 pub Offered-change : (limits : Limits) (l : Log) (change : Changing) (offer : Offer) → text_refusal change ≡ None → IsDueByLog limits l change (Commits (commit_of offer.intent)) → OffersChange limits l change (founds.Commits offer) → IsOffered limits l (Change change) offer
 Offered-change limits l (CreateTable name columns) offer good due offers = record {
   due = (good_due limits l (CreateTable name columns) (Commits (commit_of offer.intent)) good due, refl);
-  begins = Begins-offered offer.intent (table-no_view limits l name columns (commit_of offer.intent) due);
+  begins = BeginsEmpty-offered offer.intent (table-no_view limits l name columns (commit_of offer.intent) due);
   later = λ outside. absurd (false≢true outside);
 }
 Offered-change limits l (AlterMerge name columns) offer good due offers = record {
   due = (good_due limits l (AlterMerge name columns) (Commits (commit_of offer.intent)) good due, refl);
-  begins = Begins-offered offer.intent (widening-no_view limits l name columns (table_numbered name.text (tables l)) (commit_of offer.intent) due);
+  begins = BeginsEmpty-offered offer.intent (widening-no_view limits l name columns (table_numbered name.text (tables l)) (commit_of offer.intent) due);
   later = λ outside. absurd (false≢true outside);
 }
 Offered-change limits l (Ingest i) offer good due offers = record {
   due = (good_due limits l (Ingest i) (Commits (commit_of offer.intent)) good due, refl);
-  begins = Begins-offered offer.intent (ingest-no_view limits l i (table_numbered i.table.text (tables l)) (commit_of offer.intent) due);
+  begins = BeginsEmpty-offered offer.intent (ingest-no_view limits l i (table_numbered i.table.text (tables l)) (commit_of offer.intent) due);
   later = λ outside since still. good_due limits (l ++ log since) (Ingest i) (offer_due limits (l ++ log since) offer) good (rows_later limits l since i offer (table_numbered i.table.text (tables l)) refl due offers still);
 }
 Offered-change limits l (CreateView view) offer good due offers = record {
@@ -109,7 +109,7 @@ Offered-change limits l (CreateView view) offer good due offers = record {
 }
 Offered-change limits l (SetPolicy target policy) offer good due offers = record {
   due = (good_due limits l (SetPolicy target policy) (Commits (commit_of offer.intent)) good due, refl);
-  begins = Begins-offered offer.intent (policy-no_view limits l target policy (table_numbered target.text (tables l)) (commit_of offer.intent) due);
+  begins = BeginsEmpty-offered offer.intent (policy-no_view limits l target policy (table_numbered target.text (tables l)) (commit_of offer.intent) due);
   later = λ outside. absurd (false≢true outside);
 }
 

@@ -9,13 +9,13 @@ use Rattle.kq_model.specs.declared.limits.Limits.{Limits}
 use Rattle.kq_model.specs.History.{History, cursor}
 use Rattle.kq_engine.specs.declared.work.Outcome.{Outcome}
 use Rattle.kq_engine.specs.declared.work.Work.{Work}
-use Rattle.kq_engine.specs.Fits.{Advances, Answers, event_by}
+use Rattle.kq_engine.specs.Fits.{Advances, AnswersCommand, event_by}
 use Rattle.kq_engine.specs.Found.{IsReady}
 use Rattle.kq_reply.specs.declared.refusal.Refusal.{Refusal}
 use Rattle.kq_reply.specs.declared.reply.Reply.{Reply}
 use Rattle.kq_reply.specs.declared.reply.Reply.TheVariants as replies
 use Rattle.kq_engine.specs.declared.work.Ready.TheVariants as readies
-use Rattle.kq_engine.specs.Shared.{PassView, Applies, Finishes, IsFresh, Concludes, commit_count}
+use Rattle.kq_engine.specs.Shared.{PassView, Applies, Finishes, IsJustTaken, Concludes, commit_count}
 use Rattle.kq_engine.proofs.Advancing.{Appends-none, Fits-end}
 use Rattle.kq_engine.proofs.Counting.{cursor-gained}
 use Rattle.kq_engine.specs.Merges.{NamesAll}
@@ -41,7 +41,7 @@ Finishes-step limits of seen old new worth made taken work began outcome here be
     }
 
 -- what was answered on a snapshot of what was seen concludes with no take
-pub Concludes-answered : (limits : Limits) (pass : PassView) (work : Work) (reply : Reply) → IsFresh pass → IsReady limits pass.seen work.now work.command (readies.Answered reply)
+pub Concludes-answered : (limits : Limits) (pass : PassView) (work : Work) (reply : Reply) → IsJustTaken pass → IsReady limits pass.seen work.now work.command (readies.Answered reply)
     → Concludes limits pass pass work (record { place = length pass.seen; own = false; reply = reply })
 Concludes-answered limits pass work reply fresh due = record {
   of = refl;
@@ -93,7 +93,7 @@ Applies-concluded limits old mid new work outcome begins took concludes =
 
 -- what was refused on what one take found
 pub Applies-refused : (limits : Limits) (old new : PassView) (work : Work) (r : Refusal) → IsPrefix old.seen new.seen → new ≡ record old { seen = new.seen; taken = old.taken ++ length new.seen ∷ [] }
-    → Answers limits new.seen work.now work.command (replies.Refused r) → Applies limits old new work (record { place = length new.seen; own = false; reply = replies.Refused r })
+    → AnswersCommand limits new.seen work.now work.command (replies.Refused r) → Applies limits old new work (record { place = length new.seen; own = false; reply = replies.Refused r })
 Applies-refused limits old new work r begins took fits = Applies-concluded limits old new new work (record { place = length new.seen; own = false; reply = replies.Refused r }) begins took (record {
   of = refl;
   worth = refl;

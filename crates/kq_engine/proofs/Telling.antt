@@ -9,7 +9,7 @@ use Rattle.kq_model.specs.declared.event.Commit.TheVariants as commits
 use Rattle.kq_model.specs.declared.limits.Limits.{Limits}
 use Rattle.kq_model.specs.declared.policy.Entry.{Entry}
 use Rattle.kq_model.specs.declared.table.Table.{Table}
-use Rattle.kq_model.specs.History.{History, Log, Numbered, Viewed, cursor, log, is_view, tables, table_named, table_numbered, view_count}
+use Rattle.kq_model.specs.History.{History, Log, NumberedTable, Viewed, cursor, log, is_view, tables, table_named, table_numbered, view_count}
 use Rattle.kq_model.specs.Derived.{Cascade, Failed, Made, TooMany}
 use Rattle.kq_model.specs.Tagged.{least_tagged}
 use Rattle.kq_command.specs.declared.columns.Column.{Column}
@@ -37,7 +37,7 @@ use Rattle.kq_reply.specs.declared.refusal.Refusal.{Refusal}
 use Rattle.kq_reply.specs.declared.refusal.Refusal.TheVariants as refusals
 use Rattle.kq_reply.specs.declared.reply.Reply.{Reply}
 use Rattle.kq_reply.specs.declared.reply.Reply.TheVariants as replies
-use Rattle.kq_engine.specs.Due.{Due, Says, Commits, IsBoundDue, IsCounted, IsDueByLog, IsNewDue, IsPlannedDue, IsViewDue, MakesView, stood_due, view_named, bad_tags, barring_tags, IsBodyDue, IsIngestDue, IsTaggedDue, IsValuesDue, clash_due, counted, derived_due, lacking_due, made_due, named_due, own_batch, refused, refusal_of, reply_to, table_due, widening_due, IsEntriesDue, IsPolicyDue}
+use Rattle.kq_engine.specs.Due.{Due, Says, Commits, IsBoundDue, IsWithinViews, IsDueByLog, IsNewDue, IsPlannedDue, IsViewDue, MakesView, stood_due, view_named, bad_tags, barring_tags, IsBodyDue, IsIngestDue, IsTaggedDue, IsValuesDue, clash_due, counted, derived_due, lacking_due, made_due, named_due, own_batch, refused, refusal_of, reply_to, table_due, widening_due, IsEntriesDue, IsPolicyDue}
 use Rattle.kq_engine.specs.Fits.{Makes}
 use Rattle.kq_engine.specs.Folds.{view_number}
 use Rattle.kq_engine.specs.Merges.{IsMergedBy, IsSettled, IsStill, NamesAll}
@@ -132,7 +132,7 @@ NamesAll-since h from later reply before names = record {
 pub printed_still : (IsSo : Answer → Type 0) (reply : Reply) → PrintsAnswer IsSo reply → IsStill reply
 printed_still IsSo reply printed = still_by reply (replies.Rows printed.text) printed.is (rows_still printed.text)
 
-extents_still : (h : History) (table : Identifier) (found : Option Numbered) (reply : Reply) → ShowsExtents h table found reply → IsStill reply
+extents_still : (h : History) (table : Identifier) (found : Option NumberedTable) (reply : Reply) → ShowsExtents h table found reply → IsStill reply
 extents_still h table None reply is = still_by reply (replies.Refused (refusals.Unknown table.at)) is (refused_still (refusals.Unknown table.at))
 extents_still h table (Some found) reply printed = printed_still _ reply printed
 
@@ -171,17 +171,17 @@ table_quiet limits l name schema =
     let named = table_named name.text (tables l) in
     quiet_if (nat_lt limits.columns (length schema)) (refused (refusals.Full limits.columns)) (named_due limits l name schema named) (refused_still (refusals.Full limits.columns)) (named_quiet limits l name schema named)
 
-lacking_quiet : (limits : Limits) (l : Log) (found : Numbered) (more : List Field) → IsQuiet (lacking_due limits l found more)
+lacking_quiet : (limits : Limits) (l : Log) (found : NumberedTable) (more : List Field) → IsQuiet (lacking_due limits l found more)
 lacking_quiet limits l found [] = kept_still found.table.widened
 lacking_quiet limits l found (f ∷ more) =
     let wider = commits.AlterMerge found.number (f ∷ more) in
     quiet_if (nat_lt limits.columns (length found.table.schema + length (f ∷ more))) (refused (refusals.Full limits.columns)) (counted limits l wider) (refused_still (refusals.Full limits.columns)) (counted_quiet limits l wider)
 
-clash_quiet : (limits : Limits) (l : Log) (found : Numbered) (columns : List Column) (clash : Option ℕ) → IsQuiet (clash_due limits l found columns clash)
+clash_quiet : (limits : Limits) (l : Log) (found : NumberedTable) (columns : List Column) (clash : Option ℕ) → IsQuiet (clash_due limits l found columns clash)
 clash_quiet limits l found columns (Some at) = refused_still (refusals.Mistyped at)
 clash_quiet limits l found columns None = lacking_quiet limits l found (schema_of (new_columns found.table.schema columns))
 
-widening_quiet : (limits : Limits) (l : Log) (name : Identifier) (columns : List Column) (o : Option Numbered) → IsQuiet (widening_due limits l name columns o)
+widening_quiet : (limits : Limits) (l : Log) (name : Identifier) (columns : List Column) (o : Option NumberedTable) → IsQuiet (widening_due limits l name columns o)
 widening_quiet limits l name columns None = refused_still (refusals.Unknown name.at)
 widening_quiet limits l name columns (Some found) = clash_quiet limits l found columns (first_clash found.table.schema columns)
 
@@ -211,7 +211,7 @@ values_quiet : (o : Option ℕ) (IsElseDue : Due → Type 0) (due : Due) → (Is
 values_quiet None IsElseDue due quiet is = quiet is
 values_quiet (Some at) IsElseDue due quiet is = quiet_refusal due (refusals.BadTags at) is
 
-ingest_quiet : (limits : Limits) (l : Log) (i : Ingestion) (o : Option Numbered) (due : Due) → IsIngestDue limits l i o due → IsQuiet due
+ingest_quiet : (limits : Limits) (l : Log) (i : Ingestion) (o : Option NumberedTable) (due : Due) → IsIngestDue limits l i o due → IsQuiet due
 ingest_quiet limits l i None due is = quiet_refusal due (refusals.Unknown i.table.at) is
 ingest_quiet limits l i (Some found) due is =
     values_quiet (bad_tags i.properties) _ due (body_quiet limits l (own_batch found i) (barring_tags i.properties) (first_fault found.table.schema i.properties.ignore_first limits.batch i.body) due) is
@@ -220,7 +220,7 @@ makes_quiet : (l : Log) (view : NewView) (number : ℕ) (p : Planned) (due : Due
 makes_quiet l view number p (Says reply) makes = absurd makes
 makes_quiet l view number p (Commits c) makes = tt
 
-counts_quiet : (limits : Limits) (l : Log) (view : NewView) (number : ℕ) (p : Planned) (few room : Bool) (due : Due) → IsCounted limits l view number p few room due → IsQuiet due
+counts_quiet : (limits : Limits) (l : Log) (view : NewView) (number : ℕ) (p : Planned) (few room : Bool) (due : Due) → IsWithinViews limits l view number p few room due → IsQuiet due
 counts_quiet limits l view number p false room due is = quiet_refusal due (refusals.Full limits.views) is
 counts_quiet limits l view number p true false due is = quiet_refusal due (refusals.Full limits.commits) is
 counts_quiet limits l view number p true true due is = makes_quiet l view number p due is
@@ -233,20 +233,20 @@ planned_quiet : (limits : Limits) (l : Log) (view : NewView) (number : ℕ) (p :
 planned_quiet limits l view number p (Some v) due is = quiet_by due (stood_due view v) is (stood_quiet view v)
 planned_quiet limits l view number p None due is = new_quiet limits l view number p (table_named view.name.text (tables l)) due is
 
-bound_quiet : (limits : Limits) (l : Log) (view : NewView) (table : Numbered) (v : Verdict Planned) (due : Due) → IsBoundDue limits l view table v due → IsQuiet due
+bound_quiet : (limits : Limits) (l : Log) (view : NewView) (table : NumberedTable) (v : Verdict Planned) (due : Due) → IsBoundDue limits l view table v due → IsQuiet due
 bound_quiet limits l view table (Err fault) due is = quiet_refusal due (refusal_by fault) is
 bound_quiet limits l view table (Ok p) due (inl formed) = planned_quiet limits l view table.number p (view_named view.name.text l) due formed.due_so
 bound_quiet limits l view table (Ok p) due (inr unformed) = quiet_refusal due (refusals.BadView unformed.at) unformed.is
 
-view_quiet : (limits : Limits) (l : Log) (view : NewView) (o : Option Numbered) (due : Due) → IsViewDue limits l view o due → IsQuiet due
+view_quiet : (limits : Limits) (l : Log) (view : NewView) (o : Option NumberedTable) (due : Due) → IsViewDue limits l view o due → IsQuiet due
 view_quiet limits l view None due is = quiet_refusal due (refusals.Unknown view.table.at) is
 view_quiet limits l view (Some found) due is = bound_quiet limits l view found is.0 due is.2
 
-entries_quiet : (limits : Limits) (l : Log) (table : Numbered) (entries : List Entry) (due : Due) → IsEntriesDue limits l table entries due → IsQuiet due
+entries_quiet : (limits : Limits) (l : Log) (table : NumberedTable) (entries : List Entry) (due : Due) → IsEntriesDue limits l table entries due → IsQuiet due
 entries_quiet limits l table entries due (inl sets) = quiet_by due (counted limits l (commits.SetPolicy table.number entries)) sets.due_so (counted_quiet limits l (commits.SetPolicy table.number entries))
 entries_quiet limits l table entries due (inr closes) = quiet_refusal due (refusals.Cycle table.table.name) closes.is
 
-policy_quiet : (limits : Limits) (l : Log) (target : Identifier) (policy : List ℕ) (o : Option Numbered) (due : Due) → IsPolicyDue limits l target policy o due → IsQuiet due
+policy_quiet : (limits : Limits) (l : Log) (target : Identifier) (policy : List ℕ) (o : Option NumberedTable) (due : Due) → IsPolicyDue limits l target policy o due → IsQuiet due
 policy_quiet limits l target policy None due is = quiet_refusal due (refusals.Unknown target.at) is
 policy_quiet limits l target policy (Some found) due (inl gives) = entries_quiet limits l found gives.entries due gives.due_so
 policy_quiet limits l target policy (Some found) due (inr none) = quiet_refusal due none.refusal none.is

@@ -7,7 +7,7 @@ use Rattle.kq_model.specs.declared.event.By.{By}
 use Rattle.kq_model.specs.declared.event.Event.{Event}
 use Rattle.kq_model.specs.declared.event.Operation.TheVariants as operation
 use Rattle.kq_model.specs.declared.limits.Limits.{Limits}
-use Rattle.kq_model.specs.History.{History, Log, Numbered, log, tables, table_numbered}
+use Rattle.kq_model.specs.History.{History, Log, NumberedTable, log, tables, table_numbered}
 use Rattle.kq_model.specs.Records.{ExtentItem, extents, is_small_item, item_ids, extents_made, picked, small_items}
 use Rattle.kq_model.proofs.Histories.{log-append, log-push}
 use Rattle.kq_model.proofs.Tables.{still_found}
@@ -53,11 +53,11 @@ merging_picked h place command m is =
 
 -- a name that found a table finds its number later too
 record StillNamed (h : History) (name : Identifier) (number : ℕ) : Type 0 where
-  found : Numbered
+  found : NumberedTable
   named : table_numbered name.text (tables (log h)) ≡ Some found
   same : found.number ≡ number
 
-still_named : (h : History) (at : ℕ) (name : Identifier) (found : Numbered) → table_numbered name.text (tables (log (take at h))) ≡ Some found → StillNamed h name found.number
+still_named : (h : History) (at : ℕ) (name : Identifier) (found : NumberedTable) → table_numbered name.text (tables (log (take at h))) ≡ Some found → StillNamed h name found.number
 still_named h at name found named =
     let whole : log (take at h) ++ log (drop at h) ≡ log h = sym (log-append (take at h) (drop at h)) ∙ ap log (take-append-drop at h) in
     let still = still_found (log (take at h)) (log (drop at h)) name.text found named in
@@ -88,7 +88,7 @@ Acts-merge limits old new work at m outcome within is puts = subst (Acts limits 
     merges : AsksMerge (take at old) work.command m
     merges = merges_of (take at old) work.command m is
 
-    found : Numbered
+    found : NumberedTable
     found = merges.of.found
 
     merging : IsMergingIn (take at old) found.number m

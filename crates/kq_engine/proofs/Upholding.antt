@@ -17,7 +17,7 @@ use Rattle.kq_model.specs.declared.event.Event.{Event}
 use Rattle.kq_model.specs.declared.event.Operation.{Operation}
 use Rattle.kq_model.specs.declared.event.Operation.TheVariants as operation
 use Rattle.kq_model.specs.declared.limits.Limits.{Limits}
-use Rattle.kq_model.specs.History.{History, Log, Numbered, cursor, log, view_cursor, tables, view_count, views}
+use Rattle.kq_model.specs.History.{History, Log, NumberedTable, cursor, log, view_cursor, tables, view_count, views}
 use Rattle.kq_model.specs.Lawful.{AreLawful}
 use Rattle.kq_model.specs.Records.{item_ids, extents_made, picked}
 use Rattle.kq_model.specs.Views.{covered}
@@ -279,7 +279,7 @@ Upholds-picked old new by m outcome merging puts =
 asked_due : (limits : Limits) (h : History) (now : ℤ) (command : Command) (upkeep : Upkeep) (reply : Reply) → AsksFor h command upkeep → TellsUpkeep h upkeep reply → IsDue limits h now command reply
 asked_due limits h now (commands.Fold name) (upkeeps.Fold view) reply asks tells = subst (λ (o : Option ℕ). FoldsNamed h name o reply) (sym asks) tells
 asked_due limits h now (commands.Merge name) (upkeeps.Merge table) reply asks tells =
-    subst (λ (o : Option Numbered). MergesNamed h name o reply) (sym asks.named) (subst (λ (n : ℕ). MergesTable h n reply) (sym asks.same) tells)
+    subst (λ (o : Option NumberedTable). MergesNamed h name o reply) (sym asks.named) (subst (λ (n : ℕ). MergesTable h n reply) (sym asks.same) tells)
 asked_due limits h now _ _ reply asks tells = absurd asks
 
 asked_answers : (limits : Limits) (h : History) (now : ℤ) (command : Command) (upkeep : Upkeep) (reply : Reply) → AsksFor h command upkeep → AnswersUpkeep h upkeep reply → (reply ≡ replies.Refused refusals.Memory) ⊎ IsDue limits h now command reply

@@ -8,7 +8,7 @@ use Rattle.kq_model.specs.declared.event.Commit.{Commit}
 use Rattle.kq_model.specs.declared.event.Commit.TheVariants as commits
 use Rattle.kq_model.specs.declared.limits.Limits.{Limits}
 use Rattle.kq_model.specs.declared.table.Table.{Table}
-use Rattle.kq_model.specs.History.{History, Log, Numbered, log, tables, table_named, table_numbered, is_view}
+use Rattle.kq_model.specs.History.{History, Log, NumberedTable, log, tables, table_named, table_numbered, is_view}
 use Rattle.kq_catalog.specs.declared.merging.Merging.{Merging}
 use Rattle.kq_command.specs.declared.columns.Column.{Column}
 use Rattle.kq_command.specs.declared.columns.Identifier.{Identifier}
@@ -35,11 +35,11 @@ use Rattle.kq_engine.proofs.Fit.{no_commit}
 use Rattle.kq_engine.proofs.Gaining.{widening-gains}
 
 -- rows were read only for a table that stands
-rows_wanted : (limits : Limits) (l : Log) (i : Ingestion) (o : Option Numbered) (c : Commit) → IsIngestDue limits l i o (Commits c) → Stands o
+rows_wanted : (limits : Limits) (l : Log) (i : Ingestion) (o : Option NumberedTable) (c : Commit) → IsIngestDue limits l i o (Commits c) → Stands o
 rows_wanted limits l i None c due = no_commit c (refusals.Unknown i.table.at) due
 rows_wanted limits l i (Some found) c due = tt
 
-columns_wanted : (limits : Limits) (l : Log) (name : Identifier) (columns : List Column) (o : Option Numbered) (c : Commit) → Commits c ≡ widening_due limits l name columns o → Gains columns o
+columns_wanted : (limits : Limits) (l : Log) (name : Identifier) (columns : List Column) (o : Option NumberedTable) (c : Commit) → Commits c ≡ widening_due limits l name columns o → Gains columns o
 columns_wanted limits l name columns None c due = no_commit c (refusals.Unknown name.at) due
 columns_wanted limits l name columns (Some found) c due = λ none.
     let some = widening-gains limits l name columns found c due in
@@ -47,12 +47,12 @@ columns_wanted limits l name columns (Some found) c due = λ none.
     omega (arith, some, empty)
 
 -- a body was bound only over a table that stands
-view_wanted : (limits : Limits) (l : Log) (view : NewView) (o : Option Numbered) (c : Commit) → IsViewDue limits l view o (Commits c) → Stands o
+view_wanted : (limits : Limits) (l : Log) (view : NewView) (o : Option NumberedTable) (c : Commit) → IsViewDue limits l view o (Commits c) → Stands o
 view_wanted limits l view None c due = absurd (no_commit c (refusals.Unknown view.table.at) due)
 view_wanted limits l view (Some found) c due = tt
 
 -- a text was read only for a table that stands
-policy_wanted : (limits : Limits) (l : Log) (target : Identifier) (policy : List ℕ) (o : Option Numbered) (c : Commit) → IsPolicyDue limits l target policy o (Commits c) → Stands o
+policy_wanted : (limits : Limits) (l : Log) (target : Identifier) (policy : List ℕ) (o : Option NumberedTable) (c : Commit) → IsPolicyDue limits l target policy o (Commits c) → Stands o
 policy_wanted limits l target policy None c due = absurd (no_commit c (refusals.Unknown target.at) due)
 policy_wanted limits l target policy (Some found) c due = tt
 
@@ -113,17 +113,17 @@ not_mistyped at e = cc
 not_unknown : (at : ℕ) → memory_due ≡ refused (refusals.Unknown at) → ⊥
 not_unknown at e = cc
 
-not_lacking : (limits : Limits) (l : Log) (found : Numbered) (more : List Field) → memory_due ≡ lacking_due limits l found more → ⊥
+not_lacking : (limits : Limits) (l : Log) (found : NumberedTable) (more : List Field) → memory_due ≡ lacking_due limits l found more → ⊥
 not_lacking limits l found [] e = not_kept found.table.widened e
 not_lacking limits l found (f ∷ more) e =
     let wider = commits.AlterMerge found.number (f ∷ more) in
     neither (nat_lt limits.columns (length found.table.schema + length (f ∷ more))) (refused (refusals.Full limits.columns)) (counted limits l wider) (not_full limits.columns) (not_counted limits l wider) e
 
-not_clash : (limits : Limits) (l : Log) (found : Numbered) (columns : List Column) (clash : Option ℕ) → memory_due ≡ clash_due limits l found columns clash → ⊥
+not_clash : (limits : Limits) (l : Log) (found : NumberedTable) (columns : List Column) (clash : Option ℕ) → memory_due ≡ clash_due limits l found columns clash → ⊥
 not_clash limits l found columns (Some at) e = not_mistyped at e
 not_clash limits l found columns None e = not_lacking limits l found (schema_of (new_columns found.table.schema columns)) e
 
-not_widening : (limits : Limits) (l : Log) (name : Identifier) (columns : List Column) (o : Option Numbered) → memory_due ≡ widening_due limits l name columns o → ⊥
+not_widening : (limits : Limits) (l : Log) (name : Identifier) (columns : List Column) (o : Option NumberedTable) → memory_due ≡ widening_due limits l name columns o → ⊥
 not_widening limits l name columns None e = not_unknown name.at e
 not_widening limits l name columns (Some found) e = not_clash limits l found columns (first_clash found.table.schema columns) e
 
@@ -133,7 +133,7 @@ not_columns limits l name columns None due = not_widening limits l name columns 
 
 -- ---- want of memory as a reply that is due
 
-extents_find : (h : History) (table : Identifier) (o : Option Numbered) → ShowsExtents h table o (replies.Refused refusals.Memory) → Stands o
+extents_find : (h : History) (table : Identifier) (o : Option NumberedTable) → ShowsExtents h table o (replies.Refused refusals.Memory) → Stands o
 extents_find h table None due = cc
 extents_find h table (Some found) due = tt
 
@@ -145,7 +145,7 @@ folds_find : (h : History) (view : Identifier) (o : Option ℕ) → FoldsNamed h
 folds_find h view None due = cc
 folds_find h view (Some number) due = absurd due
 
-views_find : (limits : Limits) (l : Log) (view : NewView) (o : Option Numbered) → IsViewDue limits l view o memory_due → Stands o
+views_find : (limits : Limits) (l : Log) (view : NewView) (o : Option NumberedTable) → IsViewDue limits l view o memory_due → Stands o
 views_find limits l view None due = cc
 views_find limits l view (Some found) due = tt
 
@@ -155,7 +155,7 @@ text_find limits l view (Some at) p due = cc
 text_find limits l view None (Some at) due = cc
 text_find limits l view None None due = views_find limits l view (table_numbered view.table.text (tables l)) due
 
-policy_finds : (limits : Limits) (l : Log) (target : Identifier) (policy : List ℕ) (o : Option Numbered) → IsPolicyDue limits l target policy o memory_due → Stands o
+policy_finds : (limits : Limits) (l : Log) (target : Identifier) (policy : List ℕ) (o : Option NumberedTable) → IsPolicyDue limits l target policy o memory_due → Stands o
 policy_finds limits l target policy None due = cc
 policy_finds limits l target policy (Some found) due = tt
 
@@ -165,11 +165,11 @@ show_finds h shows.Failures due = tt
 show_finds h (shows.Extents table) due = extents_find h table (table_numbered table.text (tables (log h))) due
 show_finds h shows.Journal due = tt
 
-named_finds : (h : History) (table : Identifier) (o : Option Numbered) → MergesNamed h table o (replies.Refused refusals.Memory) → Stands o
+named_finds : (h : History) (table : Identifier) (o : Option NumberedTable) → MergesNamed h table o (replies.Refused refusals.Memory) → Stands o
 named_finds h table None due = cc
 named_finds h table (Some found) due = absurd due
 
-rows_find : (limits : Limits) (l : Log) (i : Ingestion) (o : Option Numbered) → IsIngestDue limits l i o memory_due → Stands o
+rows_find : (limits : Limits) (l : Log) (i : Ingestion) (o : Option NumberedTable) → IsIngestDue limits l i o memory_due → Stands o
 rows_find limits l i None due = cc
 rows_find limits l i (Some found) due = tt
 

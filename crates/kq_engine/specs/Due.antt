@@ -10,7 +10,7 @@ use Rattle.kq_model.specs.declared.limits.Limits.{Limits}
 use Rattle.kq_model.specs.declared.table.Table.{Table}
 use Rattle.kq_model.specs.Beside.{DueGives}
 use Rattle.kq_model.specs.Derived.{Cascade, IsDerived, Made, Failed, TooMany}
-use Rattle.kq_model.specs.History.{Log, tables, table_named, is_view, Numbered, table_numbered, History, Viewed, log, names_of_views, view_count, views}
+use Rattle.kq_model.specs.History.{Log, tables, table_named, is_view, NumberedTable, table_numbered, History, Viewed, log, names_of_views, view_count, views}
 use Rattle.kq_model.specs.Lawful.{own_rows}
 use Rattle.kq_model.specs.Names.{repeat_of}
 use Rattle.kq_model.specs.Policies.{rules}
@@ -37,7 +37,7 @@ use Rattle.kq_bind_body.specs.declared.fault.ViewFault.{ViewFault}
 use Rattle.kq_bind_body.specs.declared.fault.ViewFault.TheVariants as unbound
 use Rattle.kq_bind_expression.specs.Verdicts.{Verdict}
 use Rattle.kq_bind_supported.specs.Unsupported.{unsupported_query}
-use Rattle.kq_body.specs.Bodies.{IsFault, is_body}
+use Rattle.kq_body.specs.Bodies.{IsBodyFault, is_body}
 use Rattle.kq_body.specs.Parts.{query_parts}
 use Rattle.kq_command.specs.declared.definition.NewView.{NewView}
 use Rattle.kq_grouping.specs.Bodies.{IsBody}
@@ -133,26 +133,26 @@ table_due limits l name schema =
 -- ---- `.alter-merge table`
 
 -- further columns of a table, within the limit and where one more commit is allowed
-abbrev pub wider_due : Limits → Log → Numbered → List Field → Due
+abbrev pub wider_due : Limits → Log → NumberedTable → List Field → Due
 wider_due limits l found more =
     if nat_lt limits.columns (length found.table.schema + length more) then refused (refusals.Full limits.columns)
     else counted limits l (commits.AlterMerge found.number more)
 
 -- a table that lacks none of the columns is kept as the last commit left it that made or widened it
-abbrev pub lacking_due : Limits → Log → Numbered → List Field → Due
+abbrev pub lacking_due : Limits → Log → NumberedTable → List Field → Due
 lacking_due limits l found [] = Says (replies.Kept found.table.widened)
 lacking_due limits l found (f ∷ more) = wider_due limits l found (f ∷ more)
 
 -- those of the columns that the table lacks
-abbrev pub lacked_due : Limits → Log → Numbered → List Column → Due
+abbrev pub lacked_due : Limits → Log → NumberedTable → List Column → Due
 lacked_due limits l found columns = lacking_due limits l found (schema_of (new_columns found.table.schema columns))
 
 -- the first column is refused that the table has with another type
-abbrev pub clash_due : Limits → Log → Numbered → List Column → Option ℕ → Due
+abbrev pub clash_due : Limits → Log → NumberedTable → List Column → Option ℕ → Due
 clash_due limits l found columns (Some at) = refused (refusals.Mistyped at)
 clash_due limits l found columns None = lacked_due limits l found columns
 
-abbrev pub widening_due : Limits → Log → Identifier → List Column → Option Numbered → Due
+abbrev pub widening_due : Limits → Log → Identifier → List Column → Option NumberedTable → Due
 widening_due limits l name columns None = refused (refusals.Unknown name.at)
 widening_due limits l name columns (Some found) = clash_due limits l found columns (first_clash found.table.schema columns)
 
@@ -188,7 +188,7 @@ barring_tags properties = map ingested_by (strings_of properties.if_not_exists)
 -- ---- `.ingest`
 
 -- the batch of an ingestion's own: the rows of its body with its tags, for a table
-abbrev pub own_batch : Numbered → Ingestion → Batch
+abbrev pub own_batch : NumberedTable → Ingestion → Batch
 own_batch found i = record { table = found.number; rows = rows_of found.table.schema i.properties.ignore_first i.body; tags = strings_of i.properties.tags }
 
 abbrev pub refusal_of : IngestFault → Refusal
@@ -232,12 +232,12 @@ IsValuesDue (Some at) IsElseDue due = due ≡ refused (refusals.BadTags at)
 IsValuesDue None IsElseDue due = IsElseDue due
 
 -- into a table that stands
-abbrev pub IsRowsDue : Limits → Log → Ingestion → Numbered → Due → Type 0
+abbrev pub IsRowsDue : Limits → Log → Ingestion → NumberedTable → Due → Type 0
 IsRowsDue limits l i found due =
     IsValuesDue (bad_tags i.properties)
     (IsBodyDue limits l (own_batch found i) (barring_tags i.properties) (first_fault found.table.schema i.properties.ignore_first limits.batch i.body)) due
 
-abbrev pub IsIngestDue : Limits → Log → Ingestion → Option Numbered → Due → Type 0
+abbrev pub IsIngestDue : Limits → Log → Ingestion → Option NumberedTable → Due → Type 0
 IsIngestDue limits l i None due = due ≡ refused (refusals.Unknown i.table.at)
 IsIngestDue limits l i (Some found) due = IsRowsDue limits l i found due
 
@@ -277,14 +277,14 @@ MakesView l view source p (Commits (commits.CreateView v)) = IsViewMade l view s
 MakesView l view source p _ = ⊥
 
 -- with so many views it is made, or refused by their limit
-abbrev pub IsCounted : Limits → Log → NewView → ℕ → Planned → (few room : Bool) → Due → Type 0
-IsCounted limits l view source p false room due = due ≡ refused (refusals.Full limits.views)
-IsCounted limits l view source p true false due = due ≡ refused (refusals.Full limits.commits)
-IsCounted limits l view source p true true due = MakesView l view source p due
+abbrev pub IsWithinViews : Limits → Log → NewView → ℕ → Planned → (few room : Bool) → Due → Type 0
+IsWithinViews limits l view source p false room due = due ≡ refused (refusals.Full limits.views)
+IsWithinViews limits l view source p true false due = due ≡ refused (refusals.Full limits.commits)
+IsWithinViews limits l view source p true true due = MakesView l view source p due
 
 -- nothing has the name
 abbrev pub IsUntakenDue : Limits → Log → NewView → ℕ → Planned → Due → Type 0
-IsUntakenDue limits l view source p due = IsCounted limits l view source p (nat_lt (view_count l) limits.views) (nat_lt (length l) limits.commits) due
+IsUntakenDue limits l view source p due = IsWithinViews limits l view source p (nat_lt (view_count l) limits.views) (nat_lt (length l) limits.commits) due
 
 -- the name isn't a view's: it is a table's, or new
 abbrev pub IsNewDue : Limits → Log → NewView → ℕ → Planned → Option Table → Due → Type 0
@@ -312,7 +312,7 @@ IsNamedDue limits l view source p due = IsPlannedDue limits l view source p (vie
 -- ---- `.create materialized-view`
 
 -- a body that binds has the form of one over the table, as its plan then has too
-pub record IsFormed (limits : Limits) (l : Log) (view : NewView) (table : Numbered) (p : Planned) (due : Due) : Type 0 where
+pub record IsFormed (limits : Limits) (l : Log) (view : NewView) (table : NumberedTable) (p : Planned) (due : Due) : Type 0 where
   pub parts : is_body (query_parts view.body.text view.table.text (tree_in view)) ≡ true
   pub body : IsBody table.table.name table.table.schema p
   pub due_so : IsNamedDue limits l view table.number p due
@@ -320,36 +320,36 @@ pub record IsFormed (limits : Limits) (l : Log) (view : NewView) (table : Number
 -- or it leaves the form at this place
 pub record IsUnformed (view : NewView) (due : Due) : Type 0 where
   pub at : ℕ
-  pub leaves : IsFault (query_parts view.body.text view.table.text (tree_in view)) at
+  pub leaves : IsBodyFault (query_parts view.body.text view.table.text (tree_in view)) at
   pub is : due ≡ refused (refusals.BadView at)
 
 -- the binder's first fault comes before that of the form
-abbrev pub IsBoundDue : Limits → Log → NewView → Numbered → Verdict Planned → Due → Type 0
+abbrev pub IsBoundDue : Limits → Log → NewView → NumberedTable → Verdict Planned → Due → Type 0
 IsBoundDue limits l view table (Err fault) due = due ≡ refused (refusal_by fault)
 IsBoundDue limits l view table (Ok p) due = IsFormed limits l view table p due ⊎ IsUnformed view due
 
 -- a view of a good text over the table of the name
-abbrev pub IsViewDue : Limits → Log → NewView → Option Numbered → Due → Type 0
+abbrev pub IsViewDue : Limits → Log → NewView → Option NumberedTable → Due → Type 0
 IsViewDue limits l view None due = due ≡ refused (refusals.Unknown view.table.at)
 IsViewDue limits l view (Some table) due = (verdict : Verdict Planned) × IsBoundTo l view verdict × IsBoundDue limits l view table verdict due
 
 -- ---- `.alter table policy update`
 
 -- good entries that close no cycle are set where one more commit is allowed
-pub record SetsPolicy (limits : Limits) (l : Log) (table : Numbered) (entries : List Entry) (due : Due) : Type 0 where
+pub record SetsPolicy (limits : Limits) (l : Log) (table : NumberedTable) (entries : List Entry) (due : Due) : Type 0 where
   pub no_cycle : IsOnCycle (with_policy table.number entries (policies l)) table.number → ⊥
   pub due_so : due ≡ counted limits l (commits.SetPolicy table.number entries)
 
 -- or by them a batch of the table would come back to it; the table is told by its name
-pub record ClosesCycle (l : Log) (table : Numbered) (entries : List Entry) (due : Due) : Type 0 where
+pub record ClosesCycle (l : Log) (table : NumberedTable) (entries : List Entry) (due : Due) : Type 0 where
   pub cycle : IsOnCycle (with_policy table.number entries (policies l)) table.number
   pub is : due ≡ refused (refusals.Cycle table.table.name)
 
-abbrev pub IsEntriesDue : Limits → Log → Numbered → List Entry → Due → Type 0
+abbrev pub IsEntriesDue : Limits → Log → NumberedTable → List Entry → Due → Type 0
 IsEntriesDue limits l table entries due = SetsPolicy limits l table entries due ⊎ ClosesCycle l table entries due
 
 -- over the names of the log, which are those of each history with the log, the text gives good entries
-pub record GivesEntries (limits : Limits) (l : Log) (table : Numbered) (policy : List ℕ) (due : Due) : Type 0 where
+pub record GivesEntries (limits : Limits) (l : Log) (table : NumberedTable) (policy : List ℕ) (due : Due) : Type 0 where
   pub history : History
   pub logged : log history ≡ l
   pub entries : List Entry
@@ -362,18 +362,18 @@ RefusesPolicy known l target limit policy (refusals.Full most) = fault_of limit 
 RefusesPolicy known l target limit policy (refusals.BadPolicy entry why) = IsBadPolicy known l target limit policy entry why
 RefusesPolicy known l target limit policy _ = ⊥
 
-pub record GivesNone (limits : Limits) (l : Log) (table : Numbered) (policy : List ℕ) (due : Due) : Type 0 where
+pub record GivesNone (limits : Limits) (l : Log) (table : NumberedTable) (policy : List ℕ) (due : Due) : Type 0 where
   pub history : History
   pub logged : log history ≡ l
   pub refusal : Refusal
   pub refuses : RefusesPolicy (known_in history) l table.table.schema limits.policies policy refusal
   pub is : due ≡ refused refusal
 
-abbrev pub IsTextDue : Limits → Log → Numbered → List ℕ → Due → Type 0
+abbrev pub IsTextDue : Limits → Log → NumberedTable → List ℕ → Due → Type 0
 IsTextDue limits l table policy due = GivesEntries limits l table policy due ⊎ GivesNone limits l table policy due
 
 -- a policy for the table of the name
-abbrev pub IsPolicyDue : Limits → Log → Identifier → List ℕ → Option Numbered → Due → Type 0
+abbrev pub IsPolicyDue : Limits → Log → Identifier → List ℕ → Option NumberedTable → Due → Type 0
 IsPolicyDue limits l target policy None due = due ≡ refused (refusals.Unknown target.at)
 IsPolicyDue limits l target policy (Some table) due = IsTextDue limits l table policy due
 

@@ -40,12 +40,12 @@ Makes limits l (Fold view) reply c = ⊥
 Makes limits l Unbuilt reply c = ⊥
 
 -- a reply without a commit: the one that is due, or want of memory
-abbrev pub Answers : Limits → History → ℤ → Command → Reply → Type 0
-Answers limits h now command reply = (reply ≡ replies.Refused refusals.Memory) ⊎ IsDue limits h now command reply
+abbrev pub AnswersCommand : Limits → History → ℤ → Command → Reply → Type 0
+AnswersCommand limits h now command reply = (reply ≡ replies.Refused refusals.Memory) ⊎ IsDue limits h now command reply
 
 -- the reply fits this whole history: with `own`, its last event is the command's commit
 abbrev pub FitsNow : Limits → History → By → Command → ℤ → Bool → Reply → Type 0
-FitsNow limits h request command now false reply = Answers limits h now command reply
+FitsNow limits h request command now false reply = AnswersCommand limits h now command reply
 FitsNow limits h request command now true reply = (before : History) × (c : Commit) × (h ≡ before ++ record { by = request; operation = operation.Commit c } ∷ []) × Makes limits (log before) command reply c
 
 -- the reply fits the command at a place of the history; a merge that it tells has the request id
@@ -79,14 +79,14 @@ pub record Tended (limits : Limits) (old new : History) (work : Work) (began : �
   pub made : Operation
   pub tends : Tends limits old work.command reply made
   pub granted : IsGranted reply
-  pub answers : Answers limits new work.now work.command reply
+  pub answers : AnswersCommand limits new work.now work.command reply
   pub names_all : NamesAll new began reply
   pub appended : new ≡ old ++ event_by work.by (Some made)
 
 -- with `own` the command's commit was appended; without it the history stayed, or it gained the one operation of another kind that is the command's
 abbrev pub Did : Limits → History → History → Work → ℕ → Bool → Reply → Type 0
 Did limits old new work began true reply = (c : Commit) × (new ≡ old ++ record { by = work.by; operation = operation.Commit c } ∷ []) × Makes limits (log old) work.command reply c
-Did limits old new work began false reply = ((new ≡ old) × Answers limits old work.now work.command reply × IsSettled (cursor (take began old)) reply) ⊎ Tended limits old new work began reply
+Did limits old new work began false reply = ((new ≡ old) × AnswersCommand limits old work.now work.command reply × IsSettled (cursor (take began old)) reply) ⊎ Tended limits old new work began reply
 
 -- at most the command's own event, at the new end of the history
 abbrev pub Acts : Limits → History → History → Work → ℕ → Outcome → Type 0

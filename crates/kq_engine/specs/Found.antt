@@ -7,12 +7,12 @@ use Rattle.kq_model.specs.declared.limits.Limits.{Limits}
 use Rattle.kq_model.specs.declared.policy.Due.{Due as Entering}
 use Rattle.kq_model.specs.declared.table.Table.{Table}
 use Rattle.kq_model.specs.Derived.{Row}
-use Rattle.kq_model.specs.History.{History, Log, cursor, log, view_cursor, tables, table_named, Numbered, table_numbered}
+use Rattle.kq_model.specs.History.{History, Log, cursor, log, view_cursor, tables, table_named, NumberedTable, table_numbered}
 use Rattle.kq_model.specs.Policies.{dues}
 use Rattle.kq_model.specs.Tagged.{least_tagged}
 use Rattle.kq_cascade.specs.declared.running.CascadeFault.{CascadeFault}
 use Rattle.kq_cascade.specs.declared.running.CascadeFault.TheVariants as cascades
-use Rattle.kq_catalog.specs.Intents.{Begins as IsBegun, commit_of}
+use Rattle.kq_catalog.specs.Intents.{BeginsEmpty as IsBegun, commit_of}
 use Rattle.kq_catalog.specs.Seen.{SnapshotView}
 use Rattle.kq_command.specs.declared.columns.Column.{Column}
 use Rattle.kq_command.specs.declared.columns.Identifier.{Identifier}
@@ -90,7 +90,7 @@ abbrev pub offer_due : Limits → Log → Offer → Due
 offer_due limits l offer = unless_tagged (barred_at l offer.unless) (counted limits l (commit_of offer.intent))
 
 -- an offer that was found after a log for rows that were read for a table as it stands: there it comes to its commit, and it is so due after each log after which the rows come alone, and after further events that disturb nothing
-pub record IsKept (limits : Limits) (l : Log) (table : Numbered) (IsDueAfter : Log → Due → Type 0) (offer : Offer) : Type 0 where
+pub record IsKept (limits : Limits) (l : Log) (table : NumberedTable) (IsDueAfter : Log → Due → Type 0) (offer : Offer) : Type 0 where
   pub barring : Barring
   pub barred : offer.unless ≡ Some barring
   pub number : barring.table ≡ table.number
@@ -100,26 +100,26 @@ pub record IsKept (limits : Limits) (l : Log) (table : Numbered) (IsDueAfter : L
   pub quiet : (since : History) → is_quiet barring.looked.items since ≡ true → IsDueAfter (l ++ log since) (offer_due limits (l ++ log since) offer)
 
 -- a commit that was found for a batch of rows that were read for a table
-abbrev pub IsOfferOf : Limits → Log → Numbered → Batch → List (List ℕ) → Found → Type 0
+abbrev pub IsOfferOf : Limits → Log → NumberedTable → Batch → List (List ℕ) → Found → Type 0
 IsOfferOf limits l table own barring (founds.Says reply) = Unit {0}
 IsOfferOf limits l table own barring (founds.Merges merging) = ⊥
 IsOfferOf limits l table own barring (founds.Folds folding) = ⊥
 IsOfferOf limits l table own barring (founds.Commits offer) = IsKept limits l table (λ (later : Log) (due : Due). IsBatchDue limits later own barring due) offer
 
 -- rows that were read for a table, as a batch with their tags
-abbrev pub batch_read : Numbered → List Row → Labels → Batch
+abbrev pub batch_read : NumberedTable → List Row → Labels → Batch
 batch_read table rows labels = record { table = table.number; rows = rows; tags = labels.tags }
 
 -- the commit that was found for them
-abbrev pub OffersRead : SnapshotView → Numbered → List Row → Labels → Result Found Refusal → Type 0
+abbrev pub OffersRead : SnapshotView → NumberedTable → List Row → Labels → Result Found Refusal → Type 0
 OffersRead s table rows labels result = IfOk result (IsOfferOf s.limits (log s.history) table (batch_read table rows labels) labels.barring)
 
 -- what it is, is due
-abbrev pub FindsRead : SnapshotView → Numbered → List Row → Labels → Result Found Refusal → Type 0
+abbrev pub FindsRead : SnapshotView → NumberedTable → List Row → Labels → Result Found Refusal → Type 0
 FindsRead s table rows labels = Finds (IsBatchDue s.limits (log s.history) (batch_read table rows labels) labels.barring)
 
 -- a commit that was found for an ingestion into a table
-abbrev pub OffersRows : Limits → Log → Ingestion → Numbered → Found → Type 0
+abbrev pub OffersRows : Limits → Log → Ingestion → NumberedTable → Found → Type 0
 OffersRows limits l i table (founds.Says reply) = Unit {0}
 OffersRows limits l i table (founds.Merges merging) = ⊥
 OffersRows limits l i table (founds.Folds folding) = ⊥
@@ -127,7 +127,7 @@ OffersRows limits l i table (founds.Commits offer) = IsKept limits l table (λ (
 
 -- the same for a table that stands under its name
 abbrev pub OffersInto : Limits → Log → Ingestion → Found → Type 0
-OffersInto limits l i found = (table : Numbered) → table_numbered i.table.text (tables l) ≡ Some table → OffersRows limits l i table found
+OffersInto limits l i found = (table : NumberedTable) → table_numbered i.table.text (tables l) ≡ Some table → OffersRows limits l i table found
 
 -- this commit is offered, barred so, where one more is allowed
 abbrev pub OffersCommit : Limits → Log → Commit → Option Barring → Found → Type 0
@@ -255,7 +255,7 @@ pub record IsPrepared (limits : Limits) (h : History) (prepared : Prepared) : Ty
   pub is_ready : IsReady limits h prepared.work.now prepared.work.command prepared.ready
 
 -- what `begin` gives
-pub record Begins (limits : Limits) (h : History) (work : Work) (prepared : Prepared) : Type 0 where
+pub record BeginsWork (limits : Limits) (h : History) (work : Work) (prepared : Prepared) : Type 0 where
   pub prepared_here : IsPrepared limits h prepared
   pub same_work : prepared.work ≡ work
 
@@ -267,7 +267,7 @@ Stands None = ⊥
 Stands (Some found) = Unit {0}
 
 -- a table that stands gains columns
-abbrev pub Gains : List Column → Option Numbered → Type 0
+abbrev pub Gains : List Column → Option NumberedTable → Type 0
 Gains columns None = ⊥
 Gains columns (Some found) = new_columns found.table.schema columns ≢ []
 

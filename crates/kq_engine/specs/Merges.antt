@@ -3,7 +3,7 @@ use Rattle.std.specs.Prelude.{◌≡◌, ◌≢◌, ◌<◌, ◌≤◌, ◌+◌,
 use Rattle.kq_model.specs.declared.event.By.{By}
 use Rattle.kq_model.specs.declared.event.Operation.{Operation}
 use Rattle.kq_model.specs.declared.event.Operation.TheVariants as operation
-use Rattle.kq_model.specs.History.{History, Numbered, cursor, log, tables, table_numbered}
+use Rattle.kq_model.specs.History.{History, NumberedTable, cursor, log, tables, table_numbered}
 use Rattle.kq_model.specs.Records.{item_ids, extents_made, picked}
 use Rattle.kq_catalog.specs.declared.merging.Merging.{Merging}
 use Rattle.kq_catalog.specs.Merges.{IsUnion, merge_event}
@@ -32,7 +32,7 @@ MergesTable h table (replies.Merged extents) = HasMerged h table extents
 MergesTable h table replies.Nothing = length (picked h table) < 2
 MergesTable h table _ = ⊥
 
-abbrev pub MergesNamed : History → Identifier → Option Numbered → Reply → Type 0
+abbrev pub MergesNamed : History → Identifier → Option NumberedTable → Reply → Type 0
 MergesNamed h table None reply = reply ≡ replies.Refused (refusals.Unknown table.at)
 MergesNamed h table (Some found) reply = MergesTable h found.number reply
 
@@ -87,7 +87,7 @@ pub record IsMergingIn (h : History) (number : ℕ) (m : Merging) : Type 0 where
 
 -- those of the table that has the name
 pub record IsMergingOf (h : History) (table : Identifier) (m : Merging) : Type 0 where
-  pub found : Numbered
+  pub found : NumberedTable
   pub named : table_numbered table.text (tables (log h)) ≡ Some found
   pub merging : IsMergingIn h found.number m
 
@@ -104,7 +104,7 @@ PicksIn h number None = length (picked h number) < 2
 
 -- the event of a merge of the table that has the name, with its reply
 pub record IsMergeOf (h : History) (table : Identifier) (reply : Reply) (number : ℕ) (old : List ℕ) : Type 0 where
-  pub found : Numbered
+  pub found : NumberedTable
   pub named : table_numbered table.text (tables (log h)) ≡ Some found
   pub same : number ≡ found.number
   pub told : reply ≡ replies.Merged (length old)

@@ -8,7 +8,7 @@ use Rattle.kq_engine.specs.declared.work.Outcome.{Outcome}
 use Rattle.kq_engine.specs.declared.work.Work.{Work}
 use Rattle.kq_command.specs.declared.command.Command.TheVariants as commands
 use Rattle.kq_command.specs.declared.command.Query.{Query}
-use Rattle.kq_engine.specs.Fits.{Answers, Appends, Fits}
+use Rattle.kq_engine.specs.Fits.{AnswersCommand, Appends, Fits}
 use Rattle.kq_engine.specs.Merges.{NamesAll}
 
 -- which lock it is, and the limits of the catalogue behind it
@@ -72,7 +72,7 @@ pub record Finishes (limits : Limits) (old new : PassView) (work : Work) (outcom
   pub names_all : NamesAll (take outcome.place new.seen) (length old.seen) outcome.reply
 
 -- the pass's last take found what it has seen
-pub record IsFresh (pass : PassView) : Type 0 where
+pub record IsJustTaken (pass : PassView) : Type 0 where
   pub before : List ℕ
   pub last : pass.taken ≡ before ++ length pass.seen ∷ []
 
@@ -91,9 +91,9 @@ pub record Concludes (limits : Limits) (old new : PassView) (work : Work) (outco
   pub names_all : NamesAll (take outcome.place new.seen) (length old.seen) outcome.reply
 
 -- a query went through the pass at a moment: one take, no commit, and the outcome is an answer over what the pass has then seen
-pub record Queries (limits : Limits) (old new : PassView) (query : Query) (now : ℤ) (outcome : Outcome) : Type 0 where
+pub record QueriesThrough (limits : Limits) (old new : PassView) (query : Query) (now : ℤ) (outcome : Outcome) : Type 0 where
   pub seen : IsPrefix old.seen new.seen
   pub pass : new ≡ record old { seen = new.seen; taken = old.taken ++ length new.seen ∷ [] }
   pub place : outcome.place ≡ length new.seen
   pub own : outcome.own ≡ false
-  pub answers : Answers limits new.seen now (commands.Query query) outcome.reply
+  pub answers : AnswersCommand limits new.seen now (commands.Query query) outcome.reply

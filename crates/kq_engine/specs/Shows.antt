@@ -1,7 +1,7 @@
 -- The replies to what is shown of the catalogue.
 use Rattle.std.specs.Prelude.{◌≡◌, ℕ, false, List, Option, Some, None}
 use Rattle.kq_model.specs.declared.answer.Answer.{Answer}
-use Rattle.kq_model.specs.History.{History, Numbered, log, tables, table_numbered}
+use Rattle.kq_model.specs.History.{History, NumberedTable, log, tables, table_numbered}
 use Rattle.kq_command.specs.declared.columns.Identifier.{Identifier}
 use Rattle.kq_command.specs.declared.command.Show.{Show}
 use Rattle.kq_command.specs.declared.command.Show.TheVariants.{View, Failures, Extents, Journal}
@@ -30,7 +30,7 @@ ShowsView h view None reply = reply ≡ replies.Refused (refusals.Unknown view.a
 ShowsView h view (Some number) reply = PrintsAnswer (IsShown view_columns (view_rows h number)) reply
 
 -- a table with its extents, or a name that no table has
-abbrev pub ShowsExtents : History → Identifier → Option Numbered → Reply → Type 0
+abbrev pub ShowsExtents : History → Identifier → Option NumberedTable → Reply → Type 0
 ShowsExtents h table None reply = reply ≡ replies.Refused (refusals.Unknown table.at)
 ShowsExtents h table (Some found) reply = PrintsAnswer (IsShown extent_columns (extent_rows h found.number)) reply
 

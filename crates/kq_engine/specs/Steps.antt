@@ -152,6 +152,6 @@ pub record IsRun (limits : Limits) (steps : List Step) (catalog : CatalogView) (
   pub gone : (b : By) → is_finished b steps ≡ true → count_by (opens b) open_ones ≡ 0
 
 -- one more step of a run leads from one state of it to another
-abbrev pub GoesOn : Running → Step → Running → Type 0
-GoesOn old step new = (limits : Limits) (done : List Step)
+abbrev pub RunGoesOn : Running → Step → Running → Type 0
+RunGoesOn old step new = (limits : Limits) (done : List Step)
     → IsRun limits done old.catalog old.waiting.items old.outcomes.items → IsRun limits (done ++ step ∷ []) new.catalog new.waiting.items new.outcomes.items

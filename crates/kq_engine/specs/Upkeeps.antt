@@ -10,7 +10,7 @@ use Rattle.kq_model.specs.declared.event.By.{By}
 use Rattle.kq_model.specs.declared.event.Operation.{Operation}
 use Rattle.kq_model.specs.declared.event.Operation.TheVariants as operation
 use Rattle.kq_model.specs.declared.limits.Limits.{Limits}
-use Rattle.kq_model.specs.History.{History, Log, Numbered, cursor, log, view_cursor, tables, table_numbered, view_count}
+use Rattle.kq_model.specs.History.{History, Log, NumberedTable, cursor, log, view_cursor, tables, table_numbered, view_count}
 use Rattle.kq_model.specs.Lawful.{AreLawful}
 use Rattle.kq_model.specs.Records.{picked}
 use Rattle.kq_reply.specs.declared.refusal.Refusal.TheVariants as refusals
@@ -61,7 +61,7 @@ AnswersUpkeep h upkeep reply = (reply ≡ replies.Refused refusals.Memory) ⊎ T
 
 -- the table of the name has this number
 pub record IsNumbered (h : History) (name : Identifier) (table : ℕ) : Type 0 where
-  pub found : Numbered
+  pub found : NumberedTable
   pub named : table_numbered name.text (tables (log h)) ≡ Some found
   pub same : found.number ≡ table
 

@@ -7,10 +7,10 @@ ghost use Rattle.kq_model.specs.Lawful.{AreLawful};
 ghost use Rattle.kq_catalog.specs.Seen.{hist};
 ghost use Rattle.kq_value.specs.Typed.{IsMoment};
 ghost use Rattle.kq_reply.specs.declared.reply.Reply.TheVariants as replies;
-ghost use Rattle.kq_engine.specs.Fits.{Answers};
+ghost use Rattle.kq_engine.specs.Fits.{AnswersCommand};
 ghost use Rattle.kq_engine.specs.Folds.{is_fold as is_fold_of_view};
 ghost use Rattle.kq_engine.specs.Found.{IsReady};
-ghost use Rattle.kq_engine.specs.Shared.{Applies, Concludes, Finishes, IsFresh, Queries};
+ghost use Rattle.kq_engine.specs.Shared.{Applies, Concludes, Finishes, IsJustTaken, QueriesThrough};
 
 use crate::on_catalog::{conclude, told};
 use crate::on_snapshot::look;
@@ -166,7 +166,7 @@ impl Shared {
         snapshot
     }
 
-    /// Answers a command: it is prepared on a snapshot, outside the lock, and finished under it. Between the two stands
+    /// AnswersCommand a command: it is prepared on a snapshot, outside the lock, and finished under it. Between the two stands
     /// the gate's `Between`. It waits.
     pub fn apply<R: Wait, G: Gate>(&self, rt: &R, pass: &mut Pass, work: &Work, gate: &G) -> Outcome
         requires { pass.old.of ≡ self.now.turn }
@@ -178,11 +178,11 @@ impl Shared {
         }
     }
 
-    /// Answers a query at a moment from one snapshot, outside the lock, which is taken once. It waits.
+    /// AnswersCommand a query at a moment from one snapshot, outside the lock, which is taken once. It waits.
     pub fn query<R: Wait>(&self, rt: &R, pass: &mut Pass, query: &Query, now: i64) -> Outcome
         requires of { pass.old.of ≡ self.now.turn }
         requires moment { IsMoment now }
-        ensures { Queries self.now.limits pass.old pass.new query.now now result }
+        ensures { QueriesThrough self.now.limits pass.old pass.new query.now now result }
     {
         let Ok(snapshot) = self.snapshot(rt, pass) else {
             return refused(pass.seen, Refusal::Memory);
@@ -199,7 +199,7 @@ impl Shared {
         ensures seen { IsPrefix pass.old.seen pass.new.seen }
         ensures pass { pass.new ≡ record pass.old { seen = pass.new.seen; taken = pass.old.taken ++ length pass.new.seen ∷ [] } }
         ensures ready { IfOk result (IsReady self.now.limits pass.new.seen work.entry.now.now work.entry.now.command) }
-        ensures refused { IfErr result (λ r. Answers self.now.limits pass.new.seen work.entry.now.now work.entry.now.command (replies.Refused r)) }
+        ensures refused { IfErr result (λ r. AnswersCommand self.now.limits pass.new.seen work.entry.now.now work.entry.now.command (replies.Refused r)) }
     {
         let snapshot = self.snapshot(rt, pass)?;
         look(&snapshot, &work.command, work.now)
@@ -215,7 +215,7 @@ impl Shared {
         gate: &G,
     ) -> Outcome
         requires of { pass.old.of ≡ self.now.turn }
-        requires fresh { IsFresh pass.old }
+        requires fresh { IsJustTaken pass.old }
         requires ready { IsReady self.now.limits pass.old.seen work.now.now work.now.command ready }
         ensures { Concludes self.now.limits pass.old pass.new work.entry.now result }
     {

@@ -3,7 +3,7 @@ use Rattle.std.proofs.Common.{◌≡◌, ◌<◌, ◌≤◌, ◌+◌, cond, Bool
 use Rattle.kq_bind_policy.specs.Answers.{AnswersPolicy}
 use Rattle.kq_bind_policy.specs.declared.fault.PolicyFault.{PolicyFault}
 use Rattle.kq_bind_policy.specs.declared.fault.PolicyFault.TheVariants as policy
-use Rattle.kq_entries.specs.Entries.{AreEntries, BindsQuery, IsEntryFor, Refuses, fault_by, fault_read}
+use Rattle.kq_entries.specs.Entries.{AreEntries, BindsQuery, IsEntryFor, RefusesEntries, fault_by, fault_read}
 use Rattle.kq_model.specs.declared.policy.Entry.{Entry}
 use Rattle.kq_model.specs.History.{Log}
 use Rattle.kq_plan.specs.Names.{Known}
@@ -35,7 +35,7 @@ bad_query known target w source policy.Schema is = is
 bad_query known target w source policy.Memory is = tt
 
 -- what is wrong with the whole
-pub read_refused : (known : List ℕ → Option Known) (l : Log) (target : List Field) (limit : ℕ) (text : List ℕ) (f : JsonFault) → ((f ≡ json.Memory → ⊥) → fault_of limit text ≡ Some f) → Refuses known l target limit text (fault_read f)
+pub read_refused : (known : List ℕ → Option Known) (l : Log) (target : List Field) (limit : ℕ) (text : List ℕ) (f : JsonFault) → ((f ≡ json.Memory → ⊥) → fault_of limit text ≡ Some f) → RefusesEntries known l target limit text (fault_read f)
 read_refused known l target limit text json.NoArray so = inl (record { first = refl; form = refl; fault = so (λ e. cc) })
 read_refused known l target limit text (json.Full most) so = so (λ e. cc)
 read_refused known l target limit text json.Memory so = tt

@@ -10,8 +10,8 @@ use Rattle.kq_entries.specs.declared.fault.EntryFault.TheVariants as fault
 use Rattle.kq_model.specs.declared.cause.Why.{Why}
 use Rattle.kq_model.specs.declared.cause.Why.TheVariants as why
 use Rattle.kq_model.specs.declared.policy.Entry.{Entry}
-use Rattle.kq_model.specs.History.{Log, Numbered, table_numbered, tables}
-use Rattle.kq_plan.specs.Fits.{Fits}
+use Rattle.kq_model.specs.History.{Log, NumberedTable, table_numbered, tables}
+use Rattle.kq_plan.specs.Fits.{FitsNames}
 use Rattle.kq_plan.specs.Names.{Known}
 use Rattle.kq_plan.specs.Plans.{planned_of}
 use Rattle.kq_policy_json.specs.declared.entry.Written.{Written}
@@ -30,9 +30,9 @@ pub record IsEntryOf (known : List ℕ → Option Known) (target : List Field) (
   pub propagate_so : e.propagate ≡ w.propagate
   pub text_so : e.text ≡ w.query
   pub plan_so : IsPolicy w.query w.source target known (planned_of e.plan)
-  pub fits : Fits known (planned_of e.plan) target
+  pub fits : FitsNames known (planned_of e.plan) target
 
-abbrev pub IsEntryFrom : (List ℕ → Option Known) → List Field → Written → Option Numbered → Entry → Type 0
+abbrev pub IsEntryFrom : (List ℕ → Option Known) → List Field → Written → Option NumberedTable → Entry → Type 0
 IsEntryFrom known target w None e = ⊥
 IsEntryFrom known target w (Some source) e = IsEntryOf known target w source.number e
 
@@ -59,7 +59,7 @@ IsBadQuery known target w why.Body = AnswersPolicy w.query w.source target known
 IsBadQuery known target w why.Schema = AnswersPolicy w.query w.source target known (Err policy.Schema)
 
 -- the source is no table
-abbrev pub IsBadFrom : (List ℕ → Option Known) → List Field → Written → Option Numbered → Why → Type 0
+abbrev pub IsBadFrom : (List ℕ → Option Known) → List Field → Written → Option NumberedTable → Why → Type 0
 IsBadFrom known target w None word = word ≡ why.Source
 IsBadFrom known target w (Some source) word = IsBadQuery known target w word
 
@@ -102,10 +102,10 @@ abbrev pub IsBadPolicy : (List ℕ → Option Known) → Log → List Field → 
 IsBadPolicy known l target limit text place word = IsNoArray limit text place word ⊎ HasBadEntry known l target limit text place word
 
 -- the limit comes before the entries; want of memory is free
-abbrev pub Refuses : (List ℕ → Option Known) → Log → List Field → ℕ → List ℕ → EntriesFault → Type 0
-Refuses known l target limit text (faults.Full most) = fault_of limit text ≡ Some (json.Full most)
-Refuses known l target limit text (faults.Bad place word) = IsBadPolicy known l target limit text place word
-Refuses known l target limit text faults.Memory = Unit {0}
+abbrev pub RefusesEntries : (List ℕ → Option Known) → Log → List Field → ℕ → List ℕ → EntriesFault → Type 0
+RefusesEntries known l target limit text (faults.Full most) = fault_of limit text ≡ Some (json.Full most)
+RefusesEntries known l target limit text (faults.Bad place word) = IsBadPolicy known l target limit text place word
+RefusesEntries known l target limit text faults.Memory = Unit {0}
 
 -- ---- parts
 

@@ -1,6 +1,6 @@
 // The entries of a text.
 ghost use Rattle.std.specs.Prelude.{◌≡◌, ◌<◌, ◌^◌, IfErr, IfOk, None, length};
-ghost use Rattle.kq_entries.specs.Entries.{AreEntries, IsPolicyOf, Refuses, RefusesAmong, fault_read};
+ghost use Rattle.kq_entries.specs.Entries.{AreEntries, IsPolicyOf, RefusesEntries, RefusesAmong, fault_read};
 ghost use Rattle.kq_model.specs.History.{log};
 ghost use Rattle.kq_policy_json.specs.PolicyTexts.{fault_of};
 
@@ -21,7 +21,7 @@ pub fn read_entries<N: Names>(
     target: &[Field],
 ) -> Result<Vec<Entry>, EntriesFault>
     ensures entries { IfOk result (λ es. IsPolicyOf (N.known names.now) (log snapshot.now.history) target.now snapshot.now.limits.policies policy.now es.items) }
-    ensures fault { IfErr result (Refuses (N.known names.now) (log snapshot.now.history) target.now snapshot.now.limits.policies policy.now) }
+    ensures fault { IfErr result (RefusesEntries (N.known names.now) (log snapshot.now.history) target.now snapshot.now.limits.policies policy.now) }
 {
     match read_policy(snapshot.allocator(), policy, snapshot.limits().policies) {
         Ok(elements) => bind_entries(snapshot, names, elements.as_slice(), target),

@@ -19,7 +19,7 @@ use Rattle.kq_bind_aggregates.specs.Gathered.{no_aggregate, aggregates_made}
 use Rattle.kq_bind_expression.specs.Bound.{bound}
 use Rattle.kq_bind_expression.specs.Lookup.{first_named}
 use Rattle.kq_bind_expression.specs.declared.fault.BindFault.{BindFault}
-use Rattle.kq_bind_expression.specs.Verdicts.{Answers, Verdict, and_then, mistyped, unknown, supported_or}
+use Rattle.kq_bind_expression.specs.Verdicts.{AnswersVerdict, Verdict, and_then, mistyped, unknown, supported_or}
 use Rattle.kq_bind_steps.specs.Clauses.{range_made, range_rows, table_rows, sorted_by, topped_by, summarized_by, grouped, grouping_items, part_type, or_dynamic, item_name, item_value, if_dynamic, expanded_at, expanded_as, parts_of, joined_on, arms_with, all_together}
 use Rattle.kq_bind_steps.specs.Flows.{Progressing, Flowing, columns, columns_at, after, added, following, again, next_stage}
 use Rattle.kq_bind_steps.specs.Operators.{row_made, printed_row, where_true, filtered, row_number, taken, count_column, laid_after, projected, extended, dropped, new_name, old_name, renamed, distinct_rows, all_distinct}
@@ -414,6 +414,6 @@ plan_narrow p = All-map IsNarrow stepping_of p.steps.items (λ k d less. vec_few
 
 -- what the code answers
 pub answer_different : (text : List ℕ) (known : List ℕ → Option Known) (q : QueryTree) (r : Result Plan BindFault) → KnowsDifferent known
-    → Answers planned_of (query_bound text known q) r → IfOk r (λ (p : Plan). All HasDifferent (planned_of p).steps)
+    → AnswersVerdict planned_of (query_bound text known q) r → IfOk r (λ (p : Plan). All HasDifferent (planned_of p).steps)
 answer_different text known q (Ok p) tells e = bound_different text known q (planned_of p) e tells (plan_narrow p)
 answer_different text known q (Err f) tells e = tt

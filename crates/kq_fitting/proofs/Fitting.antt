@@ -9,12 +9,12 @@ use Rattle.kq_bind_supported.specs.Unsupported.{unsupported_query}
 use Rattle.kq_bind_columns.specs.Items.{field}
 use Rattle.kq_bind_expression.specs.declared.fault.BindFault.{BindFault}
 use Rattle.kq_bind_expression.specs.Bound.{bound}
-use Rattle.kq_bind_expression.specs.Verdicts.{Answers, Verdict, and_then, mistyped, supported_or}
+use Rattle.kq_bind_expression.specs.Verdicts.{AnswersVerdict, Verdict, and_then, mistyped, supported_or}
 use Rattle.kq_expr.specs.Terms.{Bound}
 use Rattle.kq_grammar.specs.declared.expression.Name.{Name}
 use Rattle.kq_grammar.specs.Trees.{Tree, TabularTree, LetTree, QueryTree}
 use Rattle.kq_plan.specs.declared.plan.Plan.{Plan}
-use Rattle.kq_plan.specs.Fits.{IsTyped, Fits}
+use Rattle.kq_plan.specs.Fits.{IsTyped, FitsNames}
 use Rattle.kq_plan.specs.Names.{Known}
 use Rattle.kq_plan.specs.Plans.{Stepping, Planned, planned_of, scalar as scalar_step}
 use Rattle.kq_spelled.specs.Names.{name_said, name_place}
@@ -99,7 +99,7 @@ supported None v x e = e
 supported (Some at) v x e = absurd (cc)
 
 abbrev pub IsFitting : (List ℕ → Option Known) → Planned → Type 0
-IsFitting known p = Fits known p (columns_at p.steps p.output)
+IsFitting known p = FitsNames known p (columns_at p.steps p.output)
 
 walked_fits : (text : List ℕ) (known : List ℕ → Option Known) (q : QueryTree) (p : Planned) → query_walked text known q ≡ Ok p → IsFitting known p
 walked_fits text known q p e =
@@ -112,11 +112,11 @@ walked_fits text known q p e =
 
 -- whatever a query is bound to fits
 pub bound_fits : (text : List ℕ) (known : List ℕ → Option Known) (q : QueryTree) (p : Planned) → query_bound text known q ≡ Ok p
-    → Fits known p (columns_at p.steps p.output)
+    → FitsNames known p (columns_at p.steps p.output)
 bound_fits text known q p e = walked_fits text known q p (supported (unsupported_query text q) (query_walked text known q) p e)
 
 -- what the code answers
 pub answer_fits : (text : List ℕ) (known : List ℕ → Option Known) (q : QueryTree) (r : Result Plan BindFault)
-    → Answers planned_of (query_bound text known q) r → IfOk r (λ (p : Plan). IsFitting known (planned_of p))
+    → AnswersVerdict planned_of (query_bound text known q) r → IfOk r (λ (p : Plan). IsFitting known (planned_of p))
 answer_fits text known q (Ok p) e = bound_fits text known q (planned_of p) e
 answer_fits text known q (Err f) e = tt

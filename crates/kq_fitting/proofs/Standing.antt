@@ -7,7 +7,7 @@ use Rattle.kq_bind_columns.specs.Naming.{is_taken, numbered, free_name, first_fr
 use Rattle.kq_value.specs.declared.schema.Field.{Field}
 use Rattle.kq_value.specs.Ty.{same_ty}
 use Rattle.kq_value.proofs.Fields.{same_ty-Decides}
-use Rattle.kq_fitting.specs.United.{IsOfOneType, IsSuffixed, base_name, StandsFor}
+use Rattle.kq_fitting.specs.United.{IsOfOneType, IsSuffixed, base_name, StandsInUnion}
 use Rattle.kq_fitting.proofs.Apart.{same, same_text_is, are_same, not_both, or_first, or_else, taken_append, taken_there}
 use Rattle.kq_fitting.proofs.Filled.{there_among, among_there, filtered_from}
 use Rattle.kq_fitting.proofs.Suffixed.{taken_named, found}
@@ -142,7 +142,7 @@ made_at every taken (g ∷ fs) columns (suc k) f e h i =
     by false all one two =
         let r = two (rest_in g (names_made every taken fs) columns all) in record { taken = r.taken; inside = r.inside; there = r.there }
 
-pub stands_for : (sources : List Field) (k : ℕ) (f : Field) → slice_get sources k ≡ Some f → StandsFor sources k f
+pub stands_for : (sources : List Field) (k : ℕ) (f : Field) → slice_get sources k ≡ Some f → StandsInUnion sources k f
 stands_for sources k f e =
     let at = made_at sources (keep_names sources) sources (union_columns sources) k f e (keep_in sources) (λ name is. is) in
     record {

@@ -49,7 +49,7 @@ abbrev pub base_name : Field → List ℕ
 base_name f = f.name ++ codes "_" ++ type_word f.ty
 
 -- the column of a union in the place of one of its sources: of its type, and of its name, where this has one type, or else of the name with the type's word behind it
-pub record StandsFor (sources : List Field) (place : ℕ) (f : Field) : Type 0 where
+pub record StandsInUnion (sources : List Field) (place : ℕ) (f : Field) : Type 0 where
   pub column : Field
   pub there : slice_get (union_columns sources) place ≡ Some column
   pub of_type : column.ty ≡ f.ty

@@ -10,7 +10,7 @@ ghost use Rattle.kq_plan.specs.declared.work.JoinKind.{JoinKind};
 ghost use Rattle.kq_value.specs.declared.schema.Field.{Field};
 ghost use Rattle.kq_fitting.specs.Paired.{IsPaired, StandsBehind};
 ghost use Rattle.kq_fitting.specs.Suffixes.{IsMadeFree};
-ghost use Rattle.kq_fitting.specs.United.{AllFillOne, Has, IsOfAll, IsOfSome, StandsFor};
+ghost use Rattle.kq_fitting.specs.United.{AllFillOne, Has, IsOfAll, IsOfSome, StandsInUnion};
 ghost use Rattle.kq_fitting.specs.Written.{HoldsCells};
 
 /// A column without a name of its own gets the least suffix that is free, where its default name isn't.
@@ -29,7 +29,7 @@ pub fn unions_have_their_columns()
     ensures outer { (arms : List (List Field)) (f : Field) → Has (union_sources false arms) f ↔ IsOfSome arms f }
     ensures inner { (a : List Field) (arms : List (List Field)) (f : Field) → Has (union_sources true (a ∷ arms)) f ↔ IsOfAll (a ∷ arms) f }
     ensures filled { (inner : Bool) (arms : List (List Field)) → AllFillOne inner arms }
-    ensures named { (sources : List Field) (place : ℕ) (f : Field) → slice_get sources place ≡ Some f → StandsFor sources place f }
+    ensures named { (sources : List Field) (place : ℕ) (f : Field) → slice_get sources place ≡ Some f → StandsInUnion sources place f }
 {}
 
 /// A datatable has its cells row by row, each as a value of its column.

@@ -2,9 +2,9 @@
 ghost use Rattle.std.specs.Prelude.{◌≡◌, All, Ok, IfOk};
 ghost use Rattle.kq_bind_steps.specs.Flows.{columns_at};
 ghost use Rattle.kq_bind.specs.Queries.{query_bound};
-ghost use Rattle.kq_bind_expression.specs.Verdicts.{Answers};
+ghost use Rattle.kq_bind_expression.specs.Verdicts.{AnswersVerdict};
 ghost use Rattle.kq_grammar.specs.TabularViews.{query_of};
-ghost use Rattle.kq_plan.specs.Fits.{Fits};
+ghost use Rattle.kq_plan.specs.Fits.{FitsNames};
 ghost use Rattle.kq_plan.specs.Plans.{planned_of};
 ghost use Rattle.kq_fitting.specs.Counted.{stages_of};
 ghost use Rattle.kq_fitting.specs.Different.{KnowsDifferent, HasDifferent};
@@ -23,8 +23,8 @@ pub fn bind_fitting<N: Names>(
     query: &Query,
     names: &N,
 ) -> Result<Plan, BindFault>
-    ensures bound { Answers planned_of (query_bound text.now (N.known names.now) (query_of query.now)) result }
-    ensures fits { IfOk result (λ p. Fits (N.known names.now) (planned_of p) (columns_at (planned_of p).steps p.output)) }
+    ensures bound { AnswersVerdict planned_of (query_bound text.now (N.known names.now) (query_of query.now)) result }
+    ensures fits { IfOk result (λ p. FitsNames (N.known names.now) (planned_of p) (columns_at (planned_of p).steps p.output)) }
     ensures different { KnowsDifferent (N.known names.now) → IfOk result (λ p. All HasDifferent (planned_of p).steps) }
     ensures staged { IfOk result (λ p. IsStaged (stages_of (query_of query.now)) (planned_of p)) }
 {

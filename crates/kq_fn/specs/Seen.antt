@@ -7,7 +7,7 @@ use Rattle.kq_fn.specs.declared.rules.Line.{Line}
 use Rattle.kq_fn.specs.declared.rules.Rule.{Rule}
 use Rattle.kq_fn.specs.declared.rules.Rule.TheVariants as rule
 use Rattle.kq_fn.specs.declared.typing.Choice.{Choice}
-use Rattle.kq_fn.specs.Table.{Typing, Signature, lines, any, equals, equals_one, texts, texts_one, one_choice, choices, alike, Chosen, widened}
+use Rattle.kq_fn.specs.Table.{Typing, Signature, lines, any, equals, equals_one, texts, texts_one, one_choice, choices, alike, TypedCall, widened}
 
 abbrev pub signature_of : Line → Signature
 signature_of l = (l.takes.now, l.gives)
@@ -23,7 +23,7 @@ rule_of rule.OneChoice = one_choice
 rule_of rule.Choices = choices
 rule_of rule.Alike = alike
 
-abbrev pub choice_of : Choice → Chosen
+abbrev pub choice_of : Choice → TypedCall
 choice_of c = (c.widened, c.gives)
 
 -- the type of an argument, an int widened where that is asked for

@@ -212,22 +212,22 @@ widens choices = false
 widens alike = false
 
 -- how a call is typed: whether its ints are widened, and what it gives
-abbrev pub Chosen : Type 0
-Chosen = Bool × Ty
+abbrev pub TypedCall : Type 0
+TypedCall = Bool × Ty
 
-abbrev pub as_it_is : Option Ty → Option Chosen → Option Chosen
+abbrev pub as_it_is : Option Ty → Option TypedCall → Option TypedCall
 as_it_is (Some t) other = Some (false, t)
 as_it_is None other = other
 
-abbrev pub when_widened : Bool → Option Ty → Option Chosen
+abbrev pub when_widened : Bool → Option Ty → Option TypedCall
 when_widened true (Some t) = Some (true, t)
 when_widened true None = None
 when_widened false o = None
 
 -- the arguments as they are, or else with each int widened
-abbrev pub chosen : Function → List Ty → Option Chosen
+abbrev pub chosen : Function → List Ty → Option TypedCall
 chosen f ts = as_it_is (given (typing f) ts) (when_widened (widens (typing f)) (given (typing f) (map widened ts)))
 
 -- the type of what a call gives
 abbrev pub result_type : Function → List Ty → Option Ty
-result_type f ts = option_map (λ (c : Chosen). c.1) (chosen f ts)
+result_type f ts = option_map (λ (c : TypedCall). c.1) (chosen f ts)

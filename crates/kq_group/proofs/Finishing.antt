@@ -16,8 +16,8 @@ use Rattle.kq_value.specs.Typed.{missing_of}
 use Rattle.kq_value.specs.declared.ty.Ty.{Ty}
 use Rattle.kq_value.specs.declared.value.Value.{Value}
 use Rattle.kq_value.specs.Values.{is_same_row}
-use Rattle.kq_group.specs.Grouped.{Aggregating, Cells, FitArgs, FitsArgs, GroupRows, Grouped, IsGrouped, args_of}
-use Rattle.kq_group.specs.Groups.{Grouping, shape_of, nothing, state_at, args_at, IsWhole, Stands, Starts, Adds, cells_from, rows_from, EndsWide}
+use Rattle.kq_group.specs.Grouped.{AggregateShape, Cells, FitArgs, FitsArgs, GroupRows, Grouped, IsGrouped, args_of}
+use Rattle.kq_group.specs.Groups.{Grouping, shape_of, nothing, state_at, args_at, HasAllGroups, Stands, Starts, AddsRows, cells_from, rows_from, EndsWide}
 
 abbrev Row : Type 0
 Row = List Value
@@ -157,7 +157,7 @@ ends_at (s ∷ states) each zero d h = each 0 (omega arith)
 ends_at (s ∷ states) each (suc i) d h = ends_at states (λ a l. each (suc a) (omega arith)) i d (omega arith)
 
 -- where arguments fit, each aggregate ends with a cell for each of its columns
-pub EndsWide-Stands : (keys : List Row) (args : List (List Row)) (g : Grouping) → Stands keys args g → IsWhole g → FitArgs (map shape_of g.states) args → All EndsWide g.states
+pub EndsWide-Stands : (keys : List Row) (args : List (List Row)) (g : Grouping) → Stands keys args g → HasAllGroups g → FitArgs (map shape_of g.states) args → All EndsWide g.states
 EndsWide-Stands keys args g stands whole fit = ends_at g.states (λ a h. record {
   each = λ n cells l e.
       let s = state_at g.states a in
@@ -190,7 +190,7 @@ module _ (keys : List Row) where
         refl,
       )
 
-length-FitArgs : (aggregates : List Aggregating) (args : List (List Row)) → FitArgs aggregates args → length args ≡ length aggregates
+length-FitArgs : (aggregates : List AggregateShape) (args : List (List Row)) → FitArgs aggregates args → length args ≡ length aggregates
 length-FitArgs [] [] fit = refl
 length-FitArgs [] (rows ∷ args) fit = absurd fit
 length-FitArgs (a ∷ aggregates) [] fit = absurd fit
@@ -209,7 +209,7 @@ Grouped-Stands keys args g stands long = (
       subst (λ (i : ℕ). Holds (state_at g.states a).kind (args_of (row_at g.keys m) keys (args_at args a)) (kept_at (state_at g.states a).kept i)) (sym none) (stands.holds a m h l)),
 )
 
-pub IsGrouped-from : (width : ℕ) (aggregates : List Aggregating) (keys : List Row) (args : List (List Row)) (o : Computed (List Row)) (r : Result (List Row) EvalFault) → Grouped width aggregates keys args o → Answers o r → IsGrouped width aggregates keys args r
+pub IsGrouped-from : (width : ℕ) (aggregates : List AggregateShape) (keys : List Row) (args : List (List Row)) (o : Computed (List Row)) (r : Result (List Row) EvalFault) → Grouped width aggregates keys args o → Answers o r → IsGrouped width aggregates keys args r
 IsGrouped-from width aggregates keys args o (Ok rows) g h = subst (Grouped width aggregates keys args) h g
 IsGrouped-from width aggregates keys args o (Err fault.Overflow) g h = subst (Grouped width aggregates keys args) h g
 IsGrouped-from width aggregates keys args o (Err fault.Memory) g h = tt
@@ -272,31 +272,31 @@ row_wide Overflow k row w v h l e = absurd cc
 row_wide (Is x) k row w v h l e = let is : row ≡ k ++ x = cc in let m = l x refl in let long = ap length is ∙ length-append k x in omega (arith, h, m, long)
 
 -- all groups have states
-pub within_all : (g : Grouping) (n : ℕ) → IsWhole g → n < length g.keys → All (λ (s : Numbered). n < length s.kept) g.states
+pub within_all : (g : Grouping) (n : ℕ) → HasAllGroups g → n < length g.keys → All (λ (s : Numbered). n < length s.kept) g.states
 within_all g n whole h i d l = let w = whole i d l in omega (arith, w, h)
 
 -- the row of a group comes last
 abbrev pub row_after : Grouping → ℕ → Computed Row
 row_after g i = and_then (cells_from g.states i) (λ x. Is (row_at g.keys i ++ x))
 
-pub row_length : (g : Grouping) (i : ℕ) (row : Row) → All (HasWidth g.width) g.keys → IsWhole g → All EndsWide g.states → i < length g.keys → row_after g i ≡ Is row → length row ≡ g.width + columns_of g.states
+pub row_length : (g : Grouping) (i : ℕ) (row : Row) → All (HasWidth g.width) g.keys → HasAllGroups g → All EndsWide g.states → i < length g.keys → row_after g i ≡ Is row → length row ≡ g.width + columns_of g.states
 row_length g i row wide whole ends h e =
     row_wide (cells_from g.states i) (row_at g.keys i) row g.width (columns_of g.states) (wide i [] h) (λ x. cells_wide g.states i x ends (within_all g i whole h)) e
 
 -- ---- a summarize
 
-pub fit-states : (aggregates : List Aggregating) (states : List Numbered) (args : List (List Row)) → map shape_of states ≡ aggregates → FitArgs aggregates args → FitArgs (map shape_of states) args
-fit-states aggregates states args shapes fit = subst (λ (those : List Aggregating). FitArgs those args) (sym shapes) fit
+pub fit-states : (aggregates : List AggregateShape) (states : List Numbered) (args : List (List Row)) → map shape_of states ≡ aggregates → FitArgs aggregates args → FitArgs (map shape_of states) args
+fit-states aggregates states args shapes fit = subst (λ (those : List AggregateShape). FitArgs those args) (sym shapes) fit
 
-pub EndsWide-added : (width : ℕ) (aggregates : List Aggregating) (keys : List Row) (args : List (List Row)) (old new : Grouping) → Starts width aggregates old → Adds keys args old new → FitArgs aggregates args → All EndsWide new.states
+pub EndsWide-added : (width : ℕ) (aggregates : List AggregateShape) (keys : List Row) (args : List (List Row)) (old new : Grouping) → Starts width aggregates old → AddsRows keys args old new → FitArgs aggregates args → All EndsWide new.states
 EndsWide-added width aggregates keys args old new starts adds fit = EndsWide-Stands keys args new (adds.more [] [] starts.stands) adds.whole (fit-states aggregates new.states args (adds.shapes ∙ starts.shapes) fit)
 
-pub Grouped-added : (width : ℕ) (aggregates : List Aggregating) (keys : List Row) (args : List (List Row)) (old new : Grouping) → Starts width aggregates old → Adds keys args old new → FitArgs aggregates args
+pub Grouped-added : (width : ℕ) (aggregates : List AggregateShape) (keys : List Row) (args : List (List Row)) (old new : Grouping) → Starts width aggregates old → AddsRows keys args old new → FitArgs aggregates args
     → Grouped width aggregates keys args (rows_from new.states new.keys 0)
 Grouped-added width aggregates keys args old new starts adds fit =
     let shapes = adds.shapes ∙ starts.shapes in
     subst (λ (w : ℕ). Grouped w aggregates keys args (rows_from new.states new.keys 0)) (adds.width_is ∙ starts.width_is)
-    (subst (λ (those : List Aggregating). Grouped new.width those keys args (rows_from new.states new.keys 0)) shapes
+    (subst (λ (those : List AggregateShape). Grouped new.width those keys args (rows_from new.states new.keys 0)) shapes
     (Grouped-Stands keys args new (adds.more [] [] starts.stands) (length-fit new.states args (fit-states aggregates new.states args shapes fit))))
 
 -- a fault of a group's row is one of all

@@ -7,8 +7,8 @@ use Rattle.kq_agg.specs.Tables.{Numbered, SameShape}
 use Rattle.kq_agg.specs.declared.kind.Kind.{Kind}
 use Rattle.kq_value.specs.declared.value.Value.{Value}
 use Rattle.std.proofs.lemmas.List.{map-append, take_more}
-use Rattle.kq_group.specs.Grouped.{Aggregating}
-use Rattle.kq_group.specs.Groups.{Gathers, IsFresh, Lengthens, shape_of}
+use Rattle.kq_group.specs.Grouped.{AggregateShape}
+use Rattle.kq_group.specs.Groups.{Gathers, HasNoRows, Lengthens, shape_of}
 
 -- a fact on what an aggregate keeps, of another of its kind
 moved : (k l : Kind) (rows : List (List Value)) (a b : Kept) → k ≡ l → a ≡ b → Holds k rows b → Holds l rows a
@@ -44,14 +44,14 @@ Gathers-rows s m t count ns rows l longer shape takes = record {
       (takes.more h [] (let n = l.count_is in omega (arith, n, within)) (moved s.kind m.kind [] (kept_at m.kept h) _ (sym l.shape.0) refl (l.fresh h past within)));
 }
 
-pub IsFresh-new : (s t : Numbered) (count : ℕ) → s.kept ≡ [] → Lengthens count s t → IsFresh count t
-IsFresh-new s t count none l = record {
+pub HasNoRows-new : (s t : Numbered) (count : ℕ) → s.kept ≡ [] → Lengthens count s t → HasNoRows count t
+HasNoRows-new s t count none l = record {
   count_is = l.count_is;
   fresh = λ h within. subst (λ (k : Kind). Holds k [] (kept_at t.kept h)) (sym l.shape.0) (l.fresh h (let n = ap length none in omega (arith, n)) within);
 }
 
 -- the states of one aggregate more
-pub shapes_more : (states : List Numbered) (s : Numbered) (aggregates : List Aggregating) (i : ℕ) (a : Aggregating) → i < length aggregates → a ≡ get_or aggregates i a → shape_of s ≡ a → map shape_of states ≡ take i aggregates
+pub shapes_more : (states : List Numbered) (s : Numbered) (aggregates : List AggregateShape) (i : ℕ) (a : AggregateShape) → i < length aggregates → a ≡ get_or aggregates i a → shape_of s ≡ a → map shape_of states ≡ take i aggregates
     → map shape_of (states ++ s ∷ []) ≡ take (i + 1) aggregates
 shapes_more states s aggregates i a h is same before =
-    map-append shape_of states (s ∷ []) ∙ ap (λ (others : List Aggregating). others ++ shape_of s ∷ []) before ∙ ap (λ (b : Aggregating). take i aggregates ++ b ∷ []) (same ∙ is) ∙ sym (take_more aggregates i a h)
+    map-append shape_of states (s ∷ []) ∙ ap (λ (others : List AggregateShape). others ++ shape_of s ∷ []) before ∙ ap (λ (b : AggregateShape). take i aggregates ++ b ∷ []) (same ∙ is) ∙ sym (take_more aggregates i a h)

@@ -14,8 +14,8 @@ use Rattle.kq_value.specs.Same.{times}
 use Rattle.kq_value.specs.Values.{is_same_row}
 use Rattle.kq_value.proofs.Equals.{is_same_row-Decides, is_same_row-itself}
 use Rattle.kq_value.proofs.SameLemmas.{times-append}
-use Rattle.kq_group.specs.Grouped.{Aggregating, AreKeys, args_of}
-use Rattle.kq_group.specs.Groups.{Grouping, shape_of, nothing, state_at, args_at, beside, IsWhole, HasGroups, Starts, Adds, Gathers, GatherAll, IsFresh}
+use Rattle.kq_group.specs.Grouped.{AggregateShape, AreKeys, args_of}
+use Rattle.kq_group.specs.Groups.{Grouping, shape_of, nothing, state_at, args_at, beside, HasAllGroups, HasGroups, Starts, AddsRows, Gathers, GatherAll, HasNoRows}
 use Rattle.kq_group.specs.Keys.{AreNumbers, Numbers}
 use Rattle.kq_group.proofs.Tables.{stands_at}
 
@@ -191,7 +191,7 @@ pub same_shapes : (olds news : List Numbered) → length news ≡ length olds �
 same_shapes [] [] long same = refl
 same_shapes [] (t ∷ news) long same = absurd (omega arith)
 same_shapes (s ∷ olds) [] long same = absurd (omega arith)
-same_shapes (s ∷ olds) (t ∷ news) long same = ap (λ (h : Aggregating). h ∷ map shape_of news) (same 0 (omega arith)) ∙ ap (λ (hs : List Aggregating). shape_of s ∷ hs) (same_shapes olds news (omega arith) (λ a h. same (suc a) (omega arith)))
+same_shapes (s ∷ olds) (t ∷ news) long same = ap (λ (h : AggregateShape). h ∷ map shape_of news) (same 0 (omega arith)) ∙ ap (λ (hs : List AggregateShape). shape_of s ∷ hs) (same_shapes olds news (omega arith) (λ a h. same (suc a) (omega arith)))
 
 pub whole_at : (n : ℕ) (states : List Numbered) → ((a : ℕ) → a < length states → length (state_at states a).kept ≡ n) → All (HasGroups n) states
 whole_at n [] each i d h = absurd (omega arith)
@@ -199,10 +199,10 @@ whole_at n (s ∷ states) each zero d h = each 0 (omega arith)
 whole_at n (s ∷ states) each (suc i) d h = whole_at n states (λ a l. each (suc a) (omega arith)) i d (omega arith)
 
 -- the numbers of the keys, and then the rows for each aggregate
-pub Adds-piece : (old new : Grouping) (keys : List Key) (args : List (List Key)) (ns : List ℕ)
-    → IsWhole old → new.width ≡ old.width → length new.states ≡ length old.states → length args ≡ length old.states → All (λ (rows : List Key). length rows ≡ length keys) args
-    → Once new.keys → All (HasWidth old.width) new.keys → Numbers old.keys new.keys ns keys → GatherAll ns args (length new.keys) old.states new.states → Adds keys args old new
-Adds-piece old new keys args ns whole width long each along once wide g gathers = record {
+pub AddsRows-piece : (old new : Grouping) (keys : List Key) (args : List (List Key)) (ns : List ℕ)
+    → HasAllGroups old → new.width ≡ old.width → length new.states ≡ length old.states → length args ≡ length old.states → All (λ (rows : List Key). length rows ≡ length keys) args
+    → Once new.keys → All (HasWidth old.width) new.keys → Numbers old.keys new.keys ns keys → GatherAll ns args (length new.keys) old.states new.states → AddsRows keys args old new
+AddsRows-piece old new keys args ns whole width long each along once wide g gathers = record {
   width_is = width;
   shapes = same_shapes old.states new.states long (λ a h. let s = (gathers.each a h).shape in same_shape (state_at old.states a) (state_at new.states a) s.0 s.1);
   whole = whole_at (length new.keys) new.states (λ a h. (gathers.each a (omega (arith, h, long))).count_is);
@@ -226,10 +226,10 @@ pub AreKeys-none : (width : ℕ) (keys : List Key) → keys ≡ [] → 0 < width
 AreKeys-none zero keys none some = absurd (omega arith)
 AreKeys-none (suc width) keys none some = record { each = λ k. ap (times k) none }
 
-fresh_at : (count : ℕ) (states : List Numbered) (a : ℕ) → All (IsFresh count) states → a < length states → IsFresh count (state_at states a)
+fresh_at : (count : ℕ) (states : List Numbered) (a : ℕ) → All (HasNoRows count) states → a < length states → HasNoRows count (state_at states a)
 fresh_at count states a fresh h = fresh a nothing h
 
-pub Starts-fresh : (width : ℕ) (aggregates : List Aggregating) (g : Grouping) → g.width ≡ width → map shape_of g.states ≡ aggregates → AreKeys width [] g.keys → All (IsFresh (length g.keys)) g.states → Starts width aggregates g
+pub Starts-fresh : (width : ℕ) (aggregates : List AggregateShape) (g : Grouping) → g.width ≡ width → map shape_of g.states ≡ aggregates → AreKeys width [] g.keys → All (HasNoRows (length g.keys)) g.states → Starts width aggregates g
 Starts-fresh width aggregates g is shapes keys fresh = record {
   width_is = is;
   shapes = shapes;

@@ -16,8 +16,8 @@ use Rattle.kq_value.specs.Same.{times}
 use Rattle.kq_value.specs.Values.{is_same_row}
 use Rattle.kq_value.proofs.Equals.{is_same_row-Decides}
 use Rattle.kq_value.proofs.SameLemmas.{place_of, times-append}
-use Rattle.kq_group.specs.Grouped.{Aggregating, AreKeys, args_of}
-use Rattle.kq_group.specs.Groups.{Grouping, shape_of, nothing, state_at, args_at, beside, IsWhole, HasGroups, IsFresh, Lengthens, Stands}
+use Rattle.kq_group.specs.Grouped.{AggregateShape, AreKeys, args_of}
+use Rattle.kq_group.specs.Groups.{Grouping, shape_of, nothing, state_at, args_at, beside, HasAllGroups, HasGroups, HasNoRows, Lengthens, Stands}
 use Rattle.kq_group.specs.Keys.{AreNumbers, Numbers}
 use Rattle.kq_group.specs.Merges.{AbsorbAll, Absorbs, Keeps, Lacks, Merges, NoneBeyond, StandFor, TakesOver, Under, of_groups, picked, picked_states}
 use Rattle.kq_group.proofs.Groupings.{args_of-append, args_of-none, beside_at, empty_times, fresh_key, old_key, one_empty, same_shape, same_shapes, same_test, whole_at}
@@ -168,8 +168,8 @@ same_length ss ts e = sym (length-map ss shape_of) ∙ ap length e ∙ length-ma
 pub same_kind : (ss ts : List Numbered) (a : ℕ) → map shape_of ss ≡ map shape_of ts → a < length ts → (state_at ss a).kind ≡ (state_at ts a).kind
 same_kind ss ts a e h =
     let long = same_length ss ts e in
-    ap (λ (g : Aggregating). g.kind)
-    (sym (get_or-map shape_of ss a nothing (shape_of nothing) (omega (arith, h, long))) ∙ ap (λ (gs : List Aggregating). get_or gs a (shape_of nothing)) e ∙ get_or-map shape_of ts a nothing (shape_of nothing) h)
+    ap (λ (g : AggregateShape). g.kind)
+    (sym (get_or-map shape_of ss a nothing (shape_of nothing) (omega (arith, h, long))) ∙ ap (λ (gs : List AggregateShape). get_or gs a (shape_of nothing)) e ∙ get_or-map shape_of ts a nothing (shape_of nothing) h)
 
 pub same_kind_at : (others olds mids : List Numbered) (i : ℕ) (o s : Numbered) → map shape_of others ≡ map shape_of olds → i < length others → i < length mids → state_at mids i ≡ state_at olds i → o ≡ get_or others i o → o.kind ≡ (get_or mids i s).kind
 same_kind_at others olds mids i o s e h l rest is =
@@ -243,7 +243,7 @@ picked_at ns states a h = get_or-map (picked_states ns) states a nothing nothing
 
 pub picked_shapes : (ns : List ℕ) (states : List Numbered) → map shape_of (map (picked_states ns) states) ≡ map shape_of states
 picked_shapes ns [] = refl
-picked_shapes ns (s ∷ states) = ap (λ (gs : List Aggregating). shape_of s ∷ gs) (picked_shapes ns states)
+picked_shapes ns (s ∷ states) = ap (λ (gs : List AggregateShape). shape_of s ∷ gs) (picked_shapes ns states)
 
 -- what those that were picked stand for
 picked_stand : (places ns : List ℕ) (other : Grouping) (kind : Kind) (a : ℕ) (rest : Under) → length ns ≡ length places → a < length other.states → (state_at other.states a).kind ≡ kind → Keeps rest (picked places other)
@@ -275,7 +275,7 @@ absorbed first rest k old new ns others those s t n added is once as_many absorb
 
 -- the numbers of the keys, and then the states for each aggregate
 pub Merges-piece : (other old new : Grouping) (ns places : List ℕ)
-    → IsWhole old → new.width ≡ old.width → other.width ≡ old.width → length new.states ≡ length old.states → map shape_of other.states ≡ map shape_of old.states
+    → HasAllGroups old → new.width ≡ old.width → other.width ≡ old.width → length new.states ≡ length old.states → map shape_of other.states ≡ map shape_of old.states
     → Once new.keys → All (HasWidth old.width) new.keys → Once (map (row_at other.keys) places) → Numbers old.keys new.keys ns (map (row_at other.keys) places) → length ns ≡ length places
     → AbsorbAll ns places other.states (length new.keys) old.states new.states → Merges (picked places other) old new
 Merges-piece other old new ns places whole width width2 long shapes2 once wide apart g along absorbs = record {
@@ -323,7 +323,7 @@ all_states count (s ∷ states) whole =
 abbrev grouping : ℕ → List Key → List Numbered → Grouping
 grouping width keys states = record { width = width; keys = keys; states = states }
 
-pub picked_all : (g : Grouping) → IsWhole g → picked (range_with_len 0 (length g.keys)) g ≡ g
+pub picked_all : (g : Grouping) → HasAllGroups g → picked (range_with_len 0 (length g.keys)) g ≡ g
 picked_all g whole =
     ap (λ (keys : List Key). grouping g.width keys (map (picked_states (range_with_len 0 (length g.keys))) g.states)) (all_rows g.keys)
     ∙ ap (grouping g.width g.keys) (all_states (length g.keys) g.states whole)
@@ -335,7 +335,7 @@ known_places count i d h = let long = length-range_with_len 0 count in let at = 
 pub once_all : (keys : List Key) (ns : List ℕ) → ns ≡ range_with_len 0 (length keys) → Once keys → Once (map (row_at keys) ns)
 once_all keys ns is once = rw (is, all_rows) once
 
-pub Lacks-fresh : (width : ℕ) (aggregates : List Aggregating) (g : Grouping) → g.width ≡ width → map shape_of g.states ≡ aggregates → g.keys ≡ [] → All (IsFresh 0) g.states → Lacks width aggregates g
+pub Lacks-fresh : (width : ℕ) (aggregates : List AggregateShape) (g : Grouping) → g.width ≡ width → map shape_of g.states ≡ aggregates → g.keys ≡ [] → All (HasNoRows 0) g.states → Lacks width aggregates g
 Lacks-fresh width aggregates g is shapes none fresh = record {
   width_is = is;
   shapes = shapes;

@@ -15,7 +15,7 @@ use Rattle.kq_value.specs.Typed.{HasTypes}
 use Rattle.kq_value.specs.Values.{is_same_row}
 use Rattle.kq_value.specs.declared.schema.Field.{Field}
 use Rattle.kq_value.specs.declared.value.Value.{Value}
-use Rattle.kq_group.specs.Grouped.{Aggregating, AreKeys, Cells, GroupRows, Grouped, args_of}
+use Rattle.kq_group.specs.Grouped.{AggregateShape, AreKeys, Cells, GroupRows, Grouped, args_of}
 use Rattle.kq_group.specs.Typed.{FitTypes}
 
 abbrev Row : Type 0
@@ -69,13 +69,13 @@ both_typed own more (Is x) Overflow p q = tt
 both_typed own more Overflow d p q = tt
 
 -- what an aggregate of these columns may give
-cell_typed : (lets from own : List Field) (g : Planned) (a : Aggregating) (rows : List Row) (c : Computed Row)
+cell_typed : (lets from own : List Field) (g : Planned) (a : AggregateShape) (rows : List Row) (c : Computed Row)
     → a ≡ record { kind = aggregate_kind g; types = map ty_of own } → FitsAggregate lets from g own → HaveTheTypes g own rows → Cell a.kind a.types rows c → GivesTypes own c
 cell_typed lets from own g a rows c is fits have cell =
-    let (kept, holds, ends) = subst (λ (b : Aggregating). Cell b.kind b.types rows c) is cell in
+    let (kept, holds, ends) = subst (λ (b : AggregateShape). Cell b.kind b.types rows c) is cell in
     subst (GivesTypes own) ends (finished-typed lets from g own rows kept fits have holds)
 
-cells_typed : (lets from : List Field) (gs : List Planned) (aggregates : List Aggregating) (key : Row) (keys : List Row) (args : List (List Row)) (made : List Field) (c : Computed Row)
+cells_typed : (lets from : List Field) (gs : List Planned) (aggregates : List AggregateShape) (key : Row) (keys : List Row) (args : List (List Row)) (made : List Field) (c : Computed Row)
     → FitTypes lets from gs aggregates args made → Cells aggregates key keys args c → GivesTypes made c
 cells_typed lets from [] [] key keys [] made c fit is = rw (fit, is) tt
 cells_typed lets from [] [] key keys (rows ∷ args) made c fit is = absurd fit
@@ -100,7 +100,7 @@ row_and_rows ks made k (Is x) (Is rows) key cells more = All-cons (HasTypes (ks 
 row_and_rows ks made k (Is x) Overflow key cells more = tt
 row_and_rows ks made k Overflow others key cells more = tt
 
-rows_typed : (lets from : List Field) (gs : List Planned) (aggregates : List Aggregating) (ks made : List Field) (groups keys : List Row) (args : List (List Row)) (c : Computed (List Row))
+rows_typed : (lets from : List Field) (gs : List Planned) (aggregates : List AggregateShape) (ks made : List Field) (groups keys : List Row) (args : List (List Row)) (c : Computed (List Row))
     → FitTypes lets from gs aggregates args made → All (HasTypes ks) groups → GroupRows aggregates groups keys args c → GiveTypes (ks ++ made) c
 rows_typed lets from gs aggregates ks made [] keys args c fit all is = rw is (All-nil (HasTypes (ks ++ made)))
 rows_typed lets from gs aggregates ks made (k ∷ groups) keys args c fit all (first, others, cells, later, is) =
@@ -109,7 +109,7 @@ rows_typed lets from gs aggregates ks made (k ∷ groups) keys args c fit all (f
     (rows_typed lets from gs aggregates ks made groups keys args others fit (All-tail (HasTypes ks) k groups all) later))
 
 -- over keys and arguments of their types, the rows of groups have the types of the keys and then of the aggregates
-pub grouped-typed : (lets from : List Field) (gs : List Planned) (aggregates : List Aggregating) (ks made : List Field) (keys : List Row) (args : List (List Row)) (rows : List Row)
+pub grouped-typed : (lets from : List Field) (gs : List Planned) (aggregates : List AggregateShape) (ks made : List Field) (keys : List Row) (args : List (List Row)) (rows : List Row)
     → All (HasTypes ks) keys → FitTypes lets from gs aggregates args made → Grouped (length ks) aggregates keys args (Is rows) → All (HasTypes (ks ++ made)) rows
 grouped-typed lets from gs aggregates ks made keys args rows all fit (groups, are, so) =
     rows_typed lets from gs aggregates ks made groups keys args (Is rows) fit (keys_typed (length ks) ks keys groups refl all are) so

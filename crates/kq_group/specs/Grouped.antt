@@ -14,7 +14,7 @@ use Rattle.kq_value.specs.Same.{times}
 use Rattle.kq_value.specs.Values.{is_same_row}
 
 -- an aggregate, and the types of the columns that it gives
-pub record Aggregating : Type 0 where
+pub record AggregateShape : Type 0 where
   pub kind : Kind
   pub types : List Ty
 
@@ -34,7 +34,7 @@ AreKeys zero keys groups = groups ≡ [] ∷ []
 AreKeys (suc width) keys groups = AreDifferent keys groups
 
 -- the aggregates may give these cells, one after another, over the rows with a key, or an overflow where one of them does
-abbrev pub Cells : List Aggregating → List Value → List (List Value) → List (List (List Value)) → Computed (List Value) → Type 0
+abbrev pub Cells : List AggregateShape → List Value → List (List Value) → List (List (List Value)) → Computed (List Value) → Type 0
 Cells [] key keys [] out = out ≡ Is []
 Cells [] key keys (rows ∷ args) out = ⊥
 Cells (a ∷ others) key keys [] out = ⊥
@@ -43,18 +43,18 @@ Cells (a ∷ others) key keys (rows ∷ args) out =
     × Cell a.kind a.types (args_of key keys rows) first × Cells others key keys args rest × (out ≡ and_then first (λ x. and_then rest (λ y. Is (x ++ y))))
 
 -- a row for each group: its key, and then the cells
-abbrev pub GroupRows : List Aggregating → List (List Value) → List (List Value) → List (List (List Value)) → Computed (List (List Value)) → Type 0
+abbrev pub GroupRows : List AggregateShape → List (List Value) → List (List Value) → List (List (List Value)) → Computed (List (List Value)) → Type 0
 GroupRows aggregates [] keys args out = out ≡ Is []
 GroupRows aggregates (g ∷ groups) keys args out =
     (first : Computed (List Value)) × (others : Computed (List (List Value)))
     × Cells aggregates g keys args first × GroupRows aggregates groups keys args others × (out ≡ and_then first (λ x. and_then others (λ rows. Is ((g ++ x) ∷ rows))))
 
 -- the rows of a summarize over rows whose keys, of so many cells, and arguments for each aggregate are these, or an overflow
-abbrev pub Grouped : ℕ → List Aggregating → List (List Value) → List (List (List Value)) → Computed (List (List Value)) → Type 0
+abbrev pub Grouped : ℕ → List AggregateShape → List (List Value) → List (List (List Value)) → Computed (List (List Value)) → Type 0
 Grouped width aggregates keys args out = (groups : List (List Value)) × AreKeys width keys groups × GroupRows aggregates groups keys args out
 
 -- the same of an answer, unless memory ran out
-abbrev pub IsGrouped : ℕ → List Aggregating → List (List Value) → List (List (List Value)) → Result (List (List Value)) EvalFault → Type 0
+abbrev pub IsGrouped : ℕ → List AggregateShape → List (List Value) → List (List (List Value)) → Result (List (List Value)) EvalFault → Type 0
 IsGrouped width aggregates keys args (Ok rows) = Grouped width aggregates keys args (Is rows)
 IsGrouped width aggregates keys args (Err fault.Overflow) = Grouped width aggregates keys args Overflow
 IsGrouped width aggregates keys args (Err fault.Memory) = Unit {0}
@@ -66,7 +66,7 @@ FitsArgs kind.ArgMin types rows = All (HasWidth (length types)) rows
 FitsArgs kind.TakeAny types rows = All (HasWidth (length types)) rows
 FitsArgs k types rows = length types ≡ 1
 
-abbrev pub FitArgs : List Aggregating → List (List (List Value)) → Type 0
+abbrev pub FitArgs : List AggregateShape → List (List (List Value)) → Type 0
 FitArgs [] [] = Unit {0}
 FitArgs [] (rows ∷ args) = ⊥
 FitArgs (a ∷ others) [] = ⊥

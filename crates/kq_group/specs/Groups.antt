@@ -8,7 +8,7 @@ use Rattle.kq_agg.specs.declared.kind.Kind.TheVariants as kind
 use Rattle.kq_computed.specs.Computed.{Computed, Is, and_then}
 use Rattle.kq_rows.specs.Chunks.{row_at}
 use Rattle.kq_value.specs.declared.value.Value.{Value}
-use Rattle.kq_group.specs.Grouped.{Aggregating, AreKeys, args_of}
+use Rattle.kq_group.specs.Grouped.{AggregateShape, AreKeys, args_of}
 
 -- the number of a key's cells, the keys of the groups, and the states of each aggregate
 pub record Grouping : Type 0 where
@@ -16,7 +16,7 @@ pub record Grouping : Type 0 where
   pub keys : List (List Value)
   pub states : List Numbered
 
-abbrev pub shape_of : Numbered → Aggregating
+abbrev pub shape_of : Numbered → AggregateShape
 shape_of s = record { kind = s.kind; types = s.types }
 
 abbrev pub nothing : Numbered
@@ -40,8 +40,8 @@ beside (rows ∷ args) (others ∷ more) = (rows ++ others) ∷ beside args more
 abbrev pub HasGroups : ℕ → Numbered → Type 0
 HasGroups n s = length s.kept ≡ n
 
-abbrev pub IsWhole : Grouping → Type 0
-IsWhole g = All (HasGroups (length g.keys)) g.states
+abbrev pub HasAllGroups : Grouping → Type 0
+HasAllGroups g = All (HasGroups (length g.keys)) g.states
 
 -- the groups are those of rows with these keys and arguments: each state stands for the arguments of the rows with its key
 pub record Stands (keys : List (List Value)) (args : List (List (List Value))) (g : Grouping) : Type 0 where
@@ -50,17 +50,17 @@ pub record Stands (keys : List (List Value)) (args : List (List (List Value))) (
   pub holds : (a n : ℕ) → a < length g.states → n < length g.keys → Holds (state_at g.states a).kind (args_of (row_at g.keys n) keys (args_at args a)) (kept_at (state_at g.states a).kept n)
 
 -- groups of no rows, for these aggregates
-pub record Starts (width : ℕ) (aggregates : List Aggregating) (g : Grouping) : Type 0 where
+pub record Starts (width : ℕ) (aggregates : List AggregateShape) (g : Grouping) : Type 0 where
   pub width_is : g.width ≡ width
   pub shapes : map shape_of g.states ≡ aggregates
-  pub whole : IsWhole g
+  pub whole : HasAllGroups g
   pub stands : Stands [] [] g
 
 -- with rows more
-pub record Adds (keys : List (List Value)) (args : List (List (List Value))) (old new : Grouping) : Type 0 where
+pub record AddsRows (keys : List (List Value)) (args : List (List (List Value))) (old new : Grouping) : Type 0 where
   pub width_is : new.width ≡ old.width
   pub shapes : map shape_of new.states ≡ map shape_of old.states
-  pub whole : IsWhole new
+  pub whole : HasAllGroups new
   pub more : (before : List (List Value)) (had : List (List (List Value))) → Stands before had old → Stands (before ++ keys) (beside had args) new
 
 -- ---- the states of one aggregate
@@ -72,7 +72,7 @@ pub record Lengthens (count : ℕ) (old new : Numbered) : Type 0 where
   pub others : (h : ℕ) → h < length old.kept → kept_at new.kept h ≡ kept_at old.kept h
   pub fresh : (h : ℕ) → length old.kept ≤ h → h < count → Holds old.kind [] (kept_at new.kept h)
 
-pub record IsFresh (count : ℕ) (s : Numbered) : Type 0 where
+pub record HasNoRows (count : ℕ) (s : Numbered) : Type 0 where
   pub count_is : length s.kept ≡ count
   pub fresh : (h : ℕ) → h < count → Holds s.kind [] (kept_at s.kept h)
 

@@ -8,8 +8,8 @@ use Rattle.kq_agg.specs.declared.kind.Kind.{Kind}
 use Rattle.kq_rows.specs.Chunks.{HasWidth, row_at}
 use Rattle.kq_value.specs.declared.value.Value.{Value}
 use Rattle.kq_value.specs.Same.{times}
-use Rattle.kq_group.specs.Grouped.{Aggregating}
-use Rattle.kq_group.specs.Groups.{Grouping, IsWhole, Stands, args_at, beside, shape_of, state_at}
+use Rattle.kq_group.specs.Grouped.{AggregateShape}
+use Rattle.kq_group.specs.Groups.{Grouping, HasAllGroups, Stands, args_at, beside, shape_of, state_at}
 
 -- the rows of arguments under each key, for each aggregate
 abbrev pub Under : Type 0
@@ -24,17 +24,17 @@ abbrev pub NoneBeyond : Under → List (List Value) → List (List Value) → Ty
 NoneBeyond under others keys = (a : ℕ) (k : List Value) → 0 < times k keys → times k others ≡ 0 → under a k ≡ []
 
 -- no groups
-pub record Lacks (width : ℕ) (aggregates : List Aggregating) (g : Grouping) : Type 0 where
+pub record Lacks (width : ℕ) (aggregates : List AggregateShape) (g : Grouping) : Type 0 where
   pub width_is : g.width ≡ width
   pub shapes : map shape_of g.states ≡ aggregates
-  pub whole : IsWhole g
+  pub whole : HasAllGroups g
   pub none : g.keys ≡ []
 
 -- the groups of both, each key once: a state stands for what is under its key in the one and then in the other
 pub record Merges (other old new : Grouping) : Type 0 where
   pub width_is : new.width ≡ old.width
   pub shapes : map shape_of new.states ≡ map shape_of old.states
-  pub whole : IsWhole new
+  pub whole : HasAllGroups new
   pub wide : All (HasWidth new.width) new.keys
   pub counts : (k : List Value) → times k new.keys ≡ min 1 (times k old.keys + times k other.keys)
   pub under : (first rest : Under) → Keeps first old → Keeps rest other → NoneBeyond first old.keys new.keys → NoneBeyond rest other.keys new.keys → Keeps (λ a k. first a k ++ rest a k) new

@@ -5,10 +5,10 @@ use Rattle.kq_plan.specs.Fits.{FitsAggregate, ty_of}
 use Rattle.kq_plan.specs.Plans as plan
 use Rattle.kq_value.specs.declared.schema.Field.{Field}
 use Rattle.kq_value.specs.declared.value.Value.{Value}
-use Rattle.kq_group.specs.Grouped.{Aggregating}
+use Rattle.kq_group.specs.Grouped.{AggregateShape}
 
 -- these are the plan's aggregates, over arguments of their types, and these are their columns one after another
-abbrev pub FitTypes : List Field → List Field → List plan.Aggregating → List Aggregating → List (List (List Value)) → List Field → Type 0
+abbrev pub FitTypes : List Field → List Field → List plan.Aggregating → List AggregateShape → List (List (List Value)) → List Field → Type 0
 FitTypes lets from [] [] [] cs = cs ≡ []
 FitTypes lets from (g ∷ gs) (a ∷ others) (rows ∷ args) cs =
     (own : List Field) × (more : List Field)

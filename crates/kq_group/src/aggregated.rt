@@ -12,9 +12,9 @@ pub struct Aggregated {
 
 impl Model for Aggregated {
     ghost use Rattle.std.specs.Coded.{codes};
-    ghost use Rattle.kq_group.specs.Grouped.{Aggregating};
+    ghost use Rattle.kq_group.specs.Grouped.{AggregateShape};
 
-    ghost Value = { Aggregating };
+    ghost Value = { AggregateShape };
 
     ghost coded = { Prim.hlevel codes };
 

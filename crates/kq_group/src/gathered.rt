@@ -2,7 +2,7 @@
 ghost use Rattle.std.specs.Prelude.{◌≡◌, ◌<◌, ◌≤◌, IfOk, OnOk, length, map};
 ghost use Rattle.std.specs.List.{All};
 ghost use Rattle.kq_agg.specs.Tables.{Numbered};
-ghost use Rattle.kq_group.specs.Groups.{Gathers, GatherAll, IsFresh, Lengthens, shape_of};
+ghost use Rattle.kq_group.specs.Groups.{Gathers, GatherAll, HasNoRows, Lengthens, shape_of};
 
 use crate::aggregated::Aggregated;
 use kq_agg::States;
@@ -66,7 +66,7 @@ pub(crate) fn all_fresh(
     count: usize,
 ) -> Result<Vec<States>, Memory>
     ensures shapes { IfOk result (λ v. map shape_of v.items ≡ aggregates.now) }
-    ensures fresh { IfOk result (λ v. All (IsFresh count) v.items) }
+    ensures fresh { IfOk result (λ v. All (HasNoRows count) v.items) }
 {
     let mut all = Vec::with_capacity(alloc, aggregates.len())?;
     for aggregate in aggregates {
@@ -77,7 +77,7 @@ pub(crate) fn all_fresh(
 
 fn fresh_states(alloc: Global, aggregate: &Aggregated, count: usize) -> Result<States, Memory>
     ensures shape { IfOk result (λ s. shape_of s ≡ aggregate.now) }
-    ensures fresh { IfOk result (IsFresh count) }
+    ensures fresh { IfOk result (HasNoRows count) }
 {
     let types = Vec::from_clones(alloc, aggregate.types.as_slice())?;
     let mut states = States::new(alloc, aggregate.kind, types);

@@ -6,7 +6,7 @@ ghost use Rattle.kq_rows.specs.Chunks.{HasWidth, row_at};
 ghost use Rattle.kq_agg.specs.Tables.{Numbered};
 ghost use Rattle.kq_group.specs.Grouped.{AreKeys, FitArgs, IsGrouped};
 ghost use Rattle.kq_value.specs.Same.{times};
-ghost use Rattle.kq_group.specs.Groups.{Adds, EndsWide, IsWhole, Starts, cells_from, rows_from, shape_of};
+ghost use Rattle.kq_group.specs.Groups.{AddsRows, EndsWide, HasAllGroups, Starts, cells_from, rows_from, shape_of};
 ghost use Rattle.kq_group.specs.Keys.{IsTable, key_hash};
 ghost use Rattle.kq_group.specs.Merges.{Lacks, Merges, picked};
 
@@ -98,11 +98,11 @@ impl Groups {
 
     /// Takes in rows with these keys and, for each aggregate, arguments. After a refusal the groups are to be dropped.
     pub fn add(&mut self, alloc: Global, keys: &Rows, args: &[Rows]) -> Result<(), Memory>
-        requires whole { IsWhole self.old }
+        requires whole { HasAllGroups self.old }
         requires wide { All (HasWidth self.old.width) keys.now }
         requires each { length args.now ≡ length self.old.states }
         requires along { All (λ rows. length rows ≡ length keys.now) args.now }
-        ensures { OnOk result (Adds keys.now args.now self.old self.new) }
+        ensures { OnOk result (AddsRows keys.now args.now self.old self.new) }
     {
         let numbers = self.keys.numbers(alloc, keys)?;
         let count = self.keys.keys.len();
@@ -118,8 +118,8 @@ impl Groups {
 
     /// Takes in the groups of another, key by key: their rows come after those that are there. After a refusal the groups are to be dropped.
     pub fn merge(&mut self, alloc: Global, other: &Groups) -> Result<(), Memory>
-        requires whole { IsWhole self.old }
-        requires other_whole { IsWhole other.now }
+        requires whole { HasAllGroups self.old }
+        requires other_whole { HasAllGroups other.now }
         requires width { other.now.width ≡ self.old.width }
         requires shapes { map shape_of other.now.states ≡ map shape_of self.old.states }
         ensures { OnOk result (Merges other.now self.old self.new) }
@@ -130,8 +130,8 @@ impl Groups {
 
     /// The same of those groups of the other that have these numbers, each once.
     pub fn merge_at(&mut self, alloc: Global, other: &Groups, places: &[u32]) -> Result<(), Memory>
-        requires whole { IsWhole self.old }
-        requires other_whole { IsWhole other.now }
+        requires whole { HasAllGroups self.old }
+        requires other_whole { HasAllGroups other.now }
         requires width { other.now.width ≡ self.old.width }
         requires shapes { map shape_of other.now.states ≡ map shape_of self.old.states }
         requires within { All (λ n. n < length other.now.keys) places.now }
@@ -152,7 +152,7 @@ impl Groups {
 
     /// A row for each group: its key, and then the cells of the aggregates in order.
     pub fn rows(&self, alloc: Global) -> Result<Rows, EvalFault>
-        requires whole { IsWhole self.now }
+        requires whole { HasAllGroups self.now }
         requires wide { All EndsWide self.now.states }
         ensures { Answers (rows_from self.now.states self.now.keys 0) result }
     {
@@ -167,7 +167,7 @@ impl Groups {
 
     // The row of a group, after what is there.
     fn put_row(&self, alloc: Global, group: usize, out: &mut Vec<Value>) -> Result<(), EvalFault>
-        requires whole { IsWhole self.now }
+        requires whole { HasAllGroups self.now }
         requires within { group < length self.now.keys }
         ensures { AnswersAs (λ done. out.new.items) (and_then (cells_from self.now.states group) (λ cells. Is (out.old.items ++ row_at self.now.keys group ++ cells))) result }
     {

@@ -7,8 +7,8 @@ use Rattle.kq_computed.specs.Computed.{Answers, AnswersAs, Computed, Is, Overflo
 use Rattle.kq_computed.specs.declared.fault.EvalFault.{EvalFault}
 use Rattle.kq_computed.specs.declared.fault.EvalFault.TheVariants as fault
 use Rattle.kq_expr.specs.Terms.{Term}
-use Rattle.kq_group.specs.Grouped.{Aggregating as Aggregated, FitArgs, Grouped}
-use Rattle.kq_group.specs.Groups.{Adds, EndsWide, Grouping, IsWhole, Stands, Starts, args_at, beside, rows_from, shape_of}
+use Rattle.kq_group.specs.Grouped.{AggregateShape as Aggregated, FitArgs, Grouped}
+use Rattle.kq_group.specs.Groups.{AddsRows, EndsWide, Grouping, HasAllGroups, Stands, Starts, args_at, beside, rows_from, shape_of}
 use Rattle.kq_group.proofs.Finishing.{EndsWide-Stands, Grouped-Stands}
 use Rattle.kq_piecewise.proofs.Laws.{each_append}
 use Rattle.kq_piecewise.specs.Operators.{Row, values_at}
@@ -29,7 +29,7 @@ use Rattle.kq_value.specs.declared.ty.Ty.{Ty}
 use Rattle.kq_grouping.specs.declared.arriving.Arrived.{Arrived}
 use Rattle.kq_grouping.specs.declared.arriving.Arrived.TheVariants as arrived
 use Rattle.kq_grouping.specs.Arriving.{ArriveAs, overflow_before}
-use Rattle.kq_grouping.specs.Grouping.{ComeTo, Comes, GroupsOf, Summarized, all_made, arguments_at, arguments_over, keyed, under}
+use Rattle.kq_grouping.specs.Grouping.{ComeTo, ThenComes, GroupsOf, Summarized, all_made, arguments_at, arguments_over, keyed, under}
 use Rattle.kq_grouping.proofs.Arguments.{fit_args, length-each}
 use Rattle.kq_grouping.proofs.Pieces.{all_came, at_first, piece_came, piece_due}
 
@@ -118,7 +118,7 @@ keyed_is es gs s rows keys args a b =
     ap (λ (c : Computed (List Row)). and_then c (λ x. and_then (each (arguments_over s rows) gs) (λ y. Is (x, y)))) a ∙ ap (λ (c : Computed Args). and_then c (λ y. Is (keys, y))) b
 
 comes_lost : {B : Type 0} (c : Computed (List Row)) (d : Computed Args) (these : List Row → Args → Computed B → Type 0) → and_then c (λ x. and_then {B = Keyed} d (λ y. Is (x, y))) ≡ Overflow
-    → Comes c (λ x. Comes d (λ y. these x y)) Overflow
+    → ThenComes c (λ x. ThenComes d (λ y. these x y)) Overflow
 comes_lost {B} Overflow d these e = refl
 comes_lost {B} (Is x) Overflow these e = refl
 comes_lost {B} (Is x) (Is y) these e = absurd cc
@@ -128,8 +128,8 @@ summarized_lost es gs cs s rows e = comes_lost (each (values_at es s) rows) (eac
 
 -- what comes to groups
 pub come_to : (es : List Term) (gs : List Aggregating) (s : Surroundings) (rows keys : List Row) (args those : Args) (old new : Grouping) (done : Unit {0}) → each (values_at es s) rows ≡ Is keys → each (arguments_over s rows) gs ≡ Is args
-    → those ≡ args → Adds keys those old new → ComeTo es gs s rows old new (Ok done)
-come_to es gs s rows keys args those old new done a b same adds = (keys, args, keyed_is es gs s rows keys args a b, subst (λ (as_given : Args). Adds keys as_given old new) same adds)
+    → those ≡ args → AddsRows keys those old new → ComeTo es gs s rows old new (Ok done)
+come_to es gs s rows keys args those old new done a b same adds = (keys, args, keyed_is es gs s rows keys args a b, subst (λ (as_given : Args). AddsRows keys as_given old new) same adds)
 
 pub keys_lost : (es : List Term) (gs : List Aggregating) (s : Surroundings) (rows : List Row) (old new : Grouping) (met : EvalFault) → Answers (each (values_at es s) rows) (Err met) → ComeTo es gs s rows old new (Err met)
 keys_lost es gs s rows old new fault.Overflow over = ap (λ (c : Computed (List Row)). and_then c (λ x. and_then (each (arguments_over s rows) gs) (λ y. Is (x, y)))) over
@@ -205,8 +205,8 @@ grouped_all es gs cs s rows g of =
     let made = Grouped-Stands of.keys of.args g of.stands long in
     let out = rows_from g.states g.keys 0 in
     let right = subst (λ (w : ℕ). Grouped w (under gs ts) of.keys of.args out) of.width_is (subst (λ (shapes : List Aggregated). Grouped g.width shapes of.keys of.args out) of.shapes made) in
-    subst (λ (c : Computed (List Row)). Comes c (λ keys. Comes (each (arguments_over s rows) gs) (λ args. Grouped (length es) (under gs ts) keys args)) out) (sym parts.0)
-    (subst (λ (c : Computed Args). Comes c (λ args. Grouped (length es) (under gs ts) of.keys args) out) (sym parts.1) right)
+    subst (λ (c : Computed (List Row)). ThenComes c (λ keys. ThenComes (each (arguments_over s rows) gs) (λ args. Grouped (length es) (under gs ts) keys args)) out) (sym parts.0)
+    (subst (λ (c : Computed Args). ThenComes c (λ args. Grouped (length es) (under gs ts) of.keys args) out) (sym parts.1) right)
 
 -- ---- how far it is
 

@@ -11,7 +11,7 @@ use Rattle.kq_rows.specs.Chunks.{HasWidth}
 use Rattle.kq_piecewise.specs.Pieces.{piece_of}
 use Rattle.kq_lent.specs.Held.{IsReadable, rows_in, sources_in}
 use Rattle.kq_lent.specs.Lent.{rows_held, rows_of}
-use Rattle.kq_lent.specs.Unread.{Begins, IsRead, UnreadView, rows_among, rows_from, width_of}
+use Rattle.kq_lent.specs.Unread.{BeginsAt, IsRead, UnreadView, rows_among, rows_from, width_of}
 use Rattle.kq_lent.specs.declared.place.Place.{Place}
 use Rattle.kq_lent.specs.declared.place.Place.TheVariants.{Own, Lent}
 use Rattle.kq_lent.proofs.Walks.{rows_by-held}
@@ -77,7 +77,7 @@ even : (place : Place) → IsReadable place → All (HasWidth (width_of (rows_in
 even (Own rows) readable = all_wide rows readable
 even (Lent extents) readable = all_wide (rows_held extents) readable.wide
 
-pub part_read : (place : Place) (a b i j k : ℕ) (rows : List Row) → Begins (sources_in place) i j (rows_from (sources_in place) a b) → slice_get (sources_in place) i ≡ Some rows → (j < length rows → j < k) → k ≤ length rows
+pub part_read : (place : Place) (a b i j k : ℕ) (rows : List Row) → BeginsAt (sources_in place) i j (rows_from (sources_in place) a b) → slice_get (sources_in place) i ≡ Some rows → (j < length rows → j < k) → k ≤ length rows
     → IsReadable place → IsRead (left_at place a b) (piece_of rows j k) (left_at place i k)
 part_read place a b i j k rows begins got more within readable =
     let sources = sources_in place in

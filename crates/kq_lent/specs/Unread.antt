@@ -30,7 +30,7 @@ abbrev pub rows_from : List (List Row) → ℕ → ℕ → List Row
 rows_from sources source row = drop row (get_or sources source []) ++ rows_among (drop (suc source) sources)
 
 -- these rows begin with this one of this source
-pub record Begins (sources : List (List Row)) (i j : ℕ) (all : List Row) : Type 0 where
+pub record BeginsAt (sources : List (List Row)) (i j : ℕ) (all : List Row) : Type 0 where
   pub source : i < length sources
   pub row : j < length (get_or sources i [])
   pub rows : all ≡ rows_from sources i j

@@ -2,7 +2,7 @@
 ghost use Rattle.std.specs.Prelude.{◌≡◌, ◌<◌, IfNone, IfSome, [], Some, length, slice_get};
 ghost use Rattle.kq_lent.specs.Held.{sources_in};
 ghost use Rattle.kq_lent.specs.Sources.{source_rows};
-ghost use Rattle.kq_lent.specs.Unread.{Begins, rows_from};
+ghost use Rattle.kq_lent.specs.Unread.{BeginsAt, rows_from};
 
 use crate::lending::Lending;
 use crate::source::Source;
@@ -46,7 +46,7 @@ impl Place {
 
     /// The first row from a spot on: sources without any that are left are passed over.
     pub fn seek(&self, spot: Spot) -> Option<Spot>
-        ensures some { IfSome result (λ s. Begins (sources_in self.now) s.source s.row (rows_from (sources_in self.now) spot.source spot.row)) }
+        ensures some { IfSome result (λ s. BeginsAt (sources_in self.now) s.source s.row (rows_from (sources_in self.now) spot.source spot.row)) }
         ensures none { IfNone result (rows_from (sources_in self.now) spot.source spot.row ≡ []) }
     {
         let mut row = spot.row;

@@ -12,7 +12,7 @@ use Rattle.kq_token.specs.declared.delimited.End.TheVariants.{Closed, Refused}
 use Rattle.kq_token.specs.Bytes.{begins_with, is_end}
 use Rattle.kq_token.specs.Delimited.{by_step, closes, digit_then, is_escape, is_long_string, is_quote, is_string, is_verbatim, is_verbatim_quoted, is_verbatim_string, step}
 use Rattle.kq_token.proofs.TestLemmas.{both_true, equal_of}
-use Rattle.kq_literal.specs.Strings.{Spells, nothing, plain, letter, character, StandsFor, doubled, is_string_token, letter_of, long_text_of, quoted_text_of, string_text_of, undoubled, unescaped, verbatim_text_of}
+use Rattle.kq_literal.specs.Strings.{Spells, nothing, plain, letter, character, SpellsText, doubled, is_string_token, letter_of, long_text_of, quoted_text_of, string_text_of, undoubled, unescaped, verbatim_text_of}
 use Rattle.kq_literal.proofs.RawLemmas.{same_text}
 use Rattle.kq_literal.proofs.StringLemmas.{Code, digits_behind, step_false, taken}
 
@@ -99,7 +99,7 @@ spelled_within quote n [] short h = let no_way : false ≡ true = h in absurd (c
 spelled_within quote zero (b ∷ bs) short h = absurd (omega arith)
 spelled_within quote (suc n) (b ∷ bs) short h = at_byte quote n b bs (b == quote) refl (omega arith) h (λ more less g. spelled_within quote n more less g)
 
-quoted_stands : (bytes : List ℕ) → is_string bytes ≡ true → StandsFor kind.String bytes (quoted_text_of bytes)
+quoted_stands : (bytes : List ℕ) → is_string bytes ≡ true → SpellsText kind.String bytes (quoted_text_of bytes)
 quoted_stands [] h = let no_way : false ≡ true = h in absurd (cc)
 quoted_stands (quote ∷ bs) h =
     let s = spelled_within quote (length bs) bs (omega arith) (both_true (is_quote quote) (closes step (Quoted quote) bs) h).1 in
@@ -130,7 +130,7 @@ doubled_is quote (b ∷ bs) = record {
   closed_is = λ h. (let p = both_true (b == quote) (is_verbatim quote false bs) h in closed_at quote b bs p.0 p.1 (doubled_is quote bs));
 }
 
-verbatim_stands : (bytes : List ℕ) → is_verbatim_string bytes ≡ true → StandsFor kind.VerbatimString bytes (verbatim_text_of bytes)
+verbatim_stands : (bytes : List ℕ) → is_verbatim_string bytes ≡ true → SpellsText kind.VerbatimString bytes (verbatim_text_of bytes)
 verbatim_stands [] h = let no_way : false ≡ true = h in absurd (cc)
 verbatim_stands (a ∷ []) h = let no_way : false ≡ true = (both_true (a == 64) false h).1 in absurd (cc)
 verbatim_stands (a ∷ quote ∷ bs) h =
@@ -184,7 +184,7 @@ take_front : (front rest : List ℕ) → take (length front) (front ++ rest) ≡
 take_front [] rest = refl
 take_front (a ∷ front) rest = ap (λ l. a ∷ l) (take_front front rest)
 
-pub long_stands : (bytes : List ℕ) → is_long_string bytes ≡ true → StandsFor kind.LongString bytes (long_text_of bytes)
+pub long_stands : (bytes : List ℕ) → is_long_string bytes ≡ true → SpellsText kind.LongString bytes (long_text_of bytes)
 long_stands bytes h =
     let p = both_true (begins_with ticks bytes) (closes step Ticked (drop 3 bytes)) h in
     let begun : ticks ≡ take 3 bytes = same_text ticks (take 3 bytes) p.0 in
@@ -196,7 +196,7 @@ long_stands bytes h =
     let text : long_text_of bytes ≡ end.0 = ap (λ n. take n (drop 3 bytes)) count ∙ ap (λ l. take (length end.0) l) end.1 ∙ take_front end.0 ticks in
     subst (λ l. bytes ≡ ticks ++ l ++ ticks) (sym text) (whole ∙ sym (append_assoc ticks end.0 ticks))
 
-pub stands_for : (k : TokenKind) (bytes : List ℕ) → is_string_token k bytes ≡ true → StandsFor k bytes (string_text_of k bytes)
+pub stands_for : (k : TokenKind) (bytes : List ℕ) → is_string_token k bytes ≡ true → SpellsText k bytes (string_text_of k bytes)
 unfolding string_text_of
 stands_for kind.String bytes h = quoted_stands bytes h
 stands_for kind.VerbatimString bytes h = verbatim_stands bytes h
@@ -212,6 +212,6 @@ stands_for (kind.WordOperator o) bytes h = no_string h
 stands_for (kind.Punctuation p) bytes h = no_string h
 stands_for (kind.Operator o) bytes h = no_string h
 
-pub stands_if_ok : {E : Type 0} (r : Result (List ℕ) E) (k : TokenKind) (bytes : List ℕ) → is_string_token k bytes ≡ true → IfOk r (λ t. t ≡ string_text_of k bytes) → IfOk r (λ t. StandsFor k bytes t)
-stands_if_ok (Ok t) k bytes h e = subst (StandsFor k bytes) (sym e) (stands_for k bytes h)
+pub stands_if_ok : {E : Type 0} (r : Result (List ℕ) E) (k : TokenKind) (bytes : List ℕ) → is_string_token k bytes ≡ true → IfOk r (λ t. t ≡ string_text_of k bytes) → IfOk r (λ t. SpellsText k bytes t)
+stands_if_ok (Ok t) k bytes h e = subst (SpellsText k bytes) (sym e) (stands_for k bytes h)
 stands_if_ok (Err x) k bytes h e = tt

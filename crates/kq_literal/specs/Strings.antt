@@ -73,8 +73,8 @@ abbrev pub doubled : ℕ → List ℕ → List ℕ
 doubled quote text = flat_map (λ b. if b == quote then b ∷ b ∷ [] else b ∷ []) text
 
 -- a token of the kind, and the text that it stands for: the bytes between quotes spell it, it stands there with its quotes doubled, or it stands there as it is
-abbrev pub StandsFor : TokenKind → List ℕ → List ℕ → Type 0
-StandsFor kind.String bytes text = (quote : ℕ) × (within : List ℕ) × (bytes ≡ quote ∷ (within ++ quote ∷ [])) × Spells quote within text
-StandsFor kind.VerbatimString bytes text = (quote : ℕ) × (bytes ≡ 64 ∷ quote ∷ (doubled quote text ++ quote ∷ []))
-StandsFor kind.LongString bytes text = bytes ≡ codes "```" ++ text ++ codes "```"
-StandsFor _ bytes text = ⊥
+abbrev pub SpellsText : TokenKind → List ℕ → List ℕ → Type 0
+SpellsText kind.String bytes text = (quote : ℕ) × (within : List ℕ) × (bytes ≡ quote ∷ (within ++ quote ∷ [])) × Spells quote within text
+SpellsText kind.VerbatimString bytes text = (quote : ℕ) × (bytes ≡ 64 ∷ quote ∷ (doubled quote text ++ quote ∷ []))
+SpellsText kind.LongString bytes text = bytes ≡ codes "```" ++ text ++ codes "```"
+SpellsText _ bytes text = ⊥

@@ -5,7 +5,7 @@ ghost use Rattle.std.specs.Str.{IsUtf8};
 ghost use Rattle.std.specs.Str.Parse.{IsNumeral, digits_value};
 ghost use Rattle.kq_token.specs.declared.delimited.Within.TheVariants.{Quoted, Escape};
 ghost use Rattle.kq_token.specs.Delimited.{closes, step};
-ghost use Rattle.kq_literal.specs.Strings.{StandsFor, escape_len, escape_of, is_string_token, letter_of, long_text_of, quoted_text_of, string_text_of, undoubled, unescaped, verbatim_text_of};
+ghost use Rattle.kq_literal.specs.Strings.{SpellsText, escape_len, escape_of, is_string_token, letter_of, long_text_of, quoted_text_of, string_text_of, undoubled, unescaped, verbatim_text_of};
 
 use crate::ascii::ascii_text;
 use kq_token::TokenKind;
@@ -18,7 +18,7 @@ pub fn string_text(alloc: Global, kind: TokenKind, bytes: &[u8]) -> Result<Text,
     requires form { is_string_token kind bytes.now ≡ true }
     requires utf8 { IsUtf8 bytes.now }
     ensures value { IfOk result (λ t. t ≡ string_text_of kind bytes.now) }
-    ensures stands_for { IfOk result (λ t. StandsFor kind bytes.now t) }
+    ensures stands_for { IfOk result (λ t. SpellsText kind bytes.now t) }
 {
     match kind {
         TokenKind::String => quoted_text(alloc, bytes),

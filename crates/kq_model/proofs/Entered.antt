@@ -10,7 +10,7 @@ use Rattle.kq_pipe.proofs.Typed.{gives_typed}
 use Rattle.kq_plan.specs.declared.names.NameKind.TheVariants as name
 use Rattle.kq_plan.specs.declared.work.LeafKind.{LeafKind}
 use Rattle.kq_plan.specs.declared.work.LeafKind.TheVariants as kind
-use Rattle.kq_plan.specs.Fits.{Fits, FitsLeaf}
+use Rattle.kq_plan.specs.Fits.{FitsNames, FitsLeaf}
 use Rattle.kq_plan.specs.Names.{Known}
 use Rattle.kq_plan.specs.Plans.{planned_of}
 use Rattle.kq_value.specs.declared.schema.Field.{Field}
@@ -23,10 +23,10 @@ use Rattle.kq_model.specs.declared.event.Operation.TheVariants as operation
 use Rattle.kq_model.specs.declared.limits.Limits.{Limits}
 use Rattle.kq_model.specs.declared.policy.Entry.{Entry}
 use Rattle.kq_model.specs.declared.table.Table.{Table}
-use Rattle.kq_model.specs.Beside.{DueGives, TableBeside, Tells, beside}
+use Rattle.kq_model.specs.Beside.{DueGives, TableBeside, TellsCause, beside}
 use Rattle.kq_model.specs.Derived.{Row}
 use Rattle.kq_model.specs.Force.{policy_at}
-use Rattle.kq_model.specs.History.{History, Log, Numbered, commits_of, log, table_numbered, tables}
+use Rattle.kq_model.specs.History.{History, Log, NumberedTable, commits_of, log, table_numbered, tables}
 use Rattle.kq_model.specs.Lawful.{AreLawful, IsEntry, IsNewPolicy, Lawful, LawfulCommit, LawfulOperation, known_table, tables_known}
 use Rattle.kq_model.specs.Policies.{policies, policies_with, rules, with_policy}
 use Rattle.kq_model.specs.Records.{schema_of}
@@ -47,7 +47,7 @@ pub record IsBound (l : Log) (target : ℕ) (e : Entry) : Type 0 where
   pub rest : Log
   pub is : l ≡ since ++ rest
   pub columns : List Field
-  pub fits : Fits (tables_known since) (planned_of e.plan) columns
+  pub fits : FitsNames (tables_known since) (planned_of e.plan) columns
   pub first : Extends columns (schema_of l target)
   pub source : e.source < length (tables l)
 
@@ -132,7 +132,7 @@ AreBound-lawful limits h all = AreLawful-induct limits (λ (g : History). AreBou
 some_same : {X : Type 0} {x z : X} → Some x ≡ Some z → x ≡ z
 some_same h = cc
 
-no_view_found : (columns : List Field) (found : Option Numbered) → option_map known_table found ≡ Some (name.View, columns) → ⊥
+no_view_found : (columns : List Field) (found : Option NumberedTable) → option_map known_table found ≡ Some (name.View, columns) → ⊥
 no_view_found columns None is = cc
 no_view_found columns (Some n) is = let kinds : name.Table ≡ name.View = ap (λ (k : Known). k.0) (some_same is) in cc
 
@@ -141,19 +141,19 @@ no_view since said columns is = no_view_found columns (table_numbered said (tabl
 
 -- the name is a table's, of which these are the first columns
 pub record IsReadable (l : Log) (said : List ℕ) (columns : List Field) : Type 0 where
-  pub found : Numbered
+  pub found : NumberedTable
   pub finds : table_numbered said (tables l) ≡ Some found
   pub first : Extends columns found.table.schema
 
 schema_at : (l : Log) (n : ℕ) (t : Table) → slice_get (tables l) n ≡ Some t → schema_of l n ≡ t.schema
 schema_at l n t at = ap (λ (o : Option Table). unwrap_or (option_map (λ (x : Table). x.schema) o) []) at
 
-readable_since : (since rest : Log) (said : List ℕ) (columns : List Field) (found : Option Numbered) → table_numbered said (tables since) ≡ found → option_map known_table found ≡ Some (name.Table, columns) → IsReadable (since ++ rest) said columns
+readable_since : (since rest : Log) (said : List ℕ) (columns : List Field) (found : Option NumberedTable) → table_numbered said (tables since) ≡ found → option_map known_table found ≡ Some (name.Table, columns) → IsReadable (since ++ rest) said columns
 readable_since since rest said columns None at is = cc
 readable_since since rest said columns (Some n) at is =
     let same : n.table.schema ≡ columns = ap (λ (k : Known). k.1) (some_same is) in
     let still = still_found since rest said n at in
-    let now : Numbered = record { number = n.number; table = still.table } in
+    let now : NumberedTable = record { number = n.number; table = still.table } in
     let before = schema_at since n.number n.table (table_numbered-at said (tables since) n at).1 in
     let after = schema_at (since ++ rest) n.number still.table (table_numbered-at said (tables (since ++ rest)) now still.finds).1 in
     let more = schema-go_on since rest n.number in
@@ -175,7 +175,7 @@ IsReadable-later since rest kind.Part said columns fits = absurd (no_view since 
 pub beside-typed : (l : Log) (source : ℕ) (rows : List Row) (known : List ℕ → Option Known) → TypedWorld known (beside l source rows)
 beside-typed l source rows known said kind.Table cs given fits gives = by_found (table_numbered said (tables l)) gives
   where
-    by_found : (found : Option Numbered) → TableBeside l source rows cs found (Is given) → All (HasTypes cs) given
+    by_found : (found : Option NumberedTable) → TableBeside l source rows cs found (Is given) → All (HasTypes cs) given
     by_found (Some n) gives = gives.1
     by_found None gives = absurd gives
 beside-typed l source rows known said kind.View cs given fits gives = absurd gives
@@ -184,7 +184,7 @@ beside-typed l source rows known said kind.Part cs given fits gives = absurd giv
 at_start : IsMoment (pos 0)
 at_start = (omega arith, omega arith)
 
-told-typed : (columns : List Field) (o : Outcome) (given : List Row) → IsTypedTable columns o → Tells o (Ok given) → All (HasTypes columns) given
+told-typed : (columns : List Field) (o : Outcome) (given : List Row) → IsTypedTable columns o → TellsCause o (Ok given) → All (HasTypes columns) given
 told-typed columns (outcome.Table ordered rows) given typed told = let same : given ≡ rows = cc in subst (All (HasTypes columns)) (sym same) typed
 told-typed columns (outcome.Cell v) given typed told = absurd told
 told-typed columns (outcome.Overflow stage) given typed told = cc

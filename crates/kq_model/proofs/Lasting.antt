@@ -18,7 +18,7 @@ use Rattle.kq_model.specs.declared.table.Table.{Table}
 use Rattle.kq_model.specs.Beside.{DueGives, EntryGives, TableBeside, beside, cut_to, rows_beside}
 use Rattle.kq_model.specs.Derived.{Cascade, IsDerived, Queries, Row}
 use Rattle.kq_model.specs.Force.{Rules, policy_at}
-use Rattle.kq_model.specs.History.{Log, Numbered, table_numbered, tables}
+use Rattle.kq_model.specs.History.{Log, NumberedTable, table_numbered, tables}
 use Rattle.kq_model.specs.Policies.{policies, rules}
 use Rattle.kq_model.specs.Records.{records, records_from, records_given, schema_of}
 use Rattle.kq_model.proofs.Reading.{Gives-same, ReadsIn, StepReads}
@@ -29,7 +29,7 @@ use Rattle.kq_model.proofs.Wider.{IsDerived-wider}
 
 -- a table that a leaf reads beside the source was given no rows since
 abbrev pub IsKept : Log → Log → ℕ → Doing → Type 0
-IsKept l more source (leaf kind.Table said) = (found : Numbered) → table_numbered said (tables l) ≡ Some found → found.number ≢ source → records_from found.number (length l) more ≡ []
+IsKept l more source (leaf kind.Table said) = (found : NumberedTable) → table_numbered said (tables l) ≡ Some found → found.number ≢ source → records_from found.number (length l) more ≡ []
 IsKept l more source d = Unit {0}
 
 -- nor was any that the query of an entry reads
@@ -63,8 +63,8 @@ rows_kept l more source rows t same none = by_case (eqb_tells t source)
 
 -- ---- worlds
 
-table_kept : (l more : Log) (source : ℕ) (rows : List Row) (cs : List Field) (found : Option Numbered) (given : Computed (List Row)) → tables (l ++ more) ≡ tables l
-    → ((n : Numbered) → found ≡ Some n → n.number ≢ source → records_from n.number (length l) more ≡ []) → TableBeside l source rows cs found given → TableBeside (l ++ more) source rows cs found given
+table_kept : (l more : Log) (source : ℕ) (rows : List Row) (cs : List Field) (found : Option NumberedTable) (given : Computed (List Row)) → tables (l ++ more) ≡ tables l
+    → ((n : NumberedTable) → found ≡ Some n → n.number ≢ source → records_from n.number (length l) more ≡ []) → TableBeside l source rows cs found given → TableBeside (l ++ more) source rows cs found given
 table_kept l more source rows cs None given same none gives = gives
 table_kept l more source rows cs (Some n) Overflow same none gives = gives
 table_kept l more source rows cs (Some n) (Is given) same none gives =

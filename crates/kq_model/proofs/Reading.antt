@@ -8,7 +8,7 @@ use Rattle.kq_pipe.specs.Gives.{Does, Follows, Gives, World}
 use Rattle.kq_pipe.specs.Outcomes.{Row, is_fault}
 use Rattle.kq_plan.specs.declared.names.NameKind.TheVariants as name
 use Rattle.kq_plan.specs.declared.work.LeafKind.TheVariants as kind
-use Rattle.kq_plan.specs.Fits.{FitAfter, Fits, FitsStep}
+use Rattle.kq_plan.specs.Fits.{FitAfter, FitsNames, FitsStep}
 use Rattle.kq_plan.specs.Names.{Known}
 use Rattle.kq_plan.specs.Plans.{Doing, Planned, Stepping, leaf, one_row, numbers, written, scalar, kept, mapped, cut, counted, sorted, topped, apart, summarized, joined, united, expanded}
 use Rattle.kq_value.specs.declared.schema.Field.{Field}
@@ -94,5 +94,5 @@ after_fits known other knows before (s ∷ steps) all fits = (
 )
 
 -- a plan that names no view fits wherever its tables stand for the same
-pub Fits-tables : (known other : List ℕ → Option Known) (p : Planned) (columns : List Field) → KnowsTables known other → All (λ (s : Stepping). reads_view s ≡ false) p.steps → Fits known p columns → Fits other p columns
-Fits-tables known other p columns knows all fits = record { steps = after_fits known other knows [] p.steps all fits.steps; output = fits.output }
+pub FitsNames-tables : (known other : List ℕ → Option Known) (p : Planned) (columns : List Field) → KnowsTables known other → All (λ (s : Stepping). reads_view s ≡ false) p.steps → FitsNames known p columns → FitsNames other p columns
+FitsNames-tables known other p columns knows all fits = record { steps = after_fits known other knows [] p.steps all fits.steps; output = fits.output }

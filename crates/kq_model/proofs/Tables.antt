@@ -11,60 +11,60 @@ use Rattle.kq_model.specs.declared.table.Table.{Table}
 use Rattle.kq_model.specs.declared.event.Commit.{Commit}
 use Rattle.kq_model.specs.declared.event.Commit.TheVariants.{CreateTable, SetPolicy, CreateView, AlterMerge, Ingest}
 use Rattle.kq_model.specs.Changed.{changed}
-use Rattle.kq_model.specs.History.{Log, tables, tables_from, tables_with, widened_table, Numbered, numbered_from, table_numbered, table_named}
+use Rattle.kq_model.specs.History.{Log, tables, tables_from, tables_with, widened_table, NumberedTable, numbered_from, table_numbered, table_named}
 use native.Mathlib.Numerals.{unary_clauses}
 use Rattle.kq_model.proofs.Changed.{All-changed}
 use Rattle.kq_model.proofs.Histories.{tables-push}
 
-cond-some : (is : Bool) (a n : Numbered) (x y : Option Numbered) → (x ≡ Some n → y ≡ Some n) → cond is (Some a) x ≡ Some n → cond is (Some a) y ≡ Some n
+cond-some : (is : Bool) (a n : NumberedTable) (x y : Option NumberedTable) → (x ≡ Some n → y ≡ Some n) → cond is (Some a) x ≡ Some n → cond is (Some a) y ≡ Some n
 cond-some true a n x y f e = e
 cond-some false a n x y f e = f e
 
-numbered_from-go_on : (k : ℕ) (name : List ℕ) (ts more : List Table) (n : Numbered) → numbered_from k name ts ≡ Some n → numbered_from k name (ts ++ more) ≡ Some n
+numbered_from-go_on : (k : ℕ) (name : List ℕ) (ts more : List Table) (n : NumberedTable) → numbered_from k name ts ≡ Some n → numbered_from k name (ts ++ more) ≡ Some n
 numbered_from-go_on k name [] more n e = cc
 numbered_from-go_on k name (t ∷ ts) more n e =
     cond-some (pointwise nat_eq t.name name) (record { number = k; table = t }) n (numbered_from (k + 1) name ts) (numbered_from (k + 1) name (ts ++ more)) (numbered_from-go_on (k + 1) name ts more n) e
 
 -- a name keeps its table and its number
-pub table_numbered-go_on : (name : List ℕ) (ts more : List Table) (n : Numbered) → table_numbered name ts ≡ Some n → table_numbered name (ts ++ more) ≡ Some n
+pub table_numbered-go_on : (name : List ℕ) (ts more : List Table) (n : NumberedTable) → table_numbered name ts ≡ Some n → table_numbered name (ts ++ more) ≡ Some n
 table_numbered-go_on = numbered_from-go_on 0
 
 next_get : (t : Table) (ts : List Table) (i : ℕ) → slice_get (t ∷ ts) (i + 1) ≡ slice_get ts i
 next_get t ts i = simp unary_clauses refl
 
-numbered_from-at : (k : ℕ) (name : List ℕ) (ts : List Table) (n : Numbered) → numbered_from k name ts ≡ Some n → (i : ℕ) × (n.number ≡ k + i) × (i < length ts) × (slice_get ts i ≡ Some n.table)
+numbered_from-at : (k : ℕ) (name : List ℕ) (ts : List Table) (n : NumberedTable) → numbered_from k name ts ≡ Some n → (i : ℕ) × (n.number ≡ k + i) × (i < length ts) × (slice_get ts i ≡ Some n.table)
 numbered_from-at k name [] n e = cc
 numbered_from-at k name (t ∷ ts) n e = by_test (pointwise nat_eq t.name name) e (numbered_from-at (k + 1) name ts n)
   where
-    by_test : (is : Bool) → cond is (Some (let m : Numbered = record { number = k; table = t } in m)) (numbered_from (k + 1) name ts) ≡ Some n
+    by_test : (is : Bool) → cond is (Some (let m : NumberedTable = record { number = k; table = t } in m)) (numbered_from (k + 1) name ts) ≡ Some n
         → (numbered_from (k + 1) name ts ≡ Some n → (i : ℕ) × (n.number ≡ (k + 1) + i) × (i < length ts) × (slice_get ts i ≡ Some n.table))
         → (i : ℕ) × (n.number ≡ k + i) × (i < length (t ∷ ts)) × (slice_get (t ∷ ts) i ≡ Some n.table)
     by_test true e later =
-        let m : Numbered = record { number = k; table = t } in
+        let m : NumberedTable = record { number = k; table = t } in
         let same : m ≡ n = cc in
-        (0, ap (λ (x : Numbered). x.number) (sym same) ∙ sym (add-zero k), omega arith, ap (λ (x : Numbered). Some x.table) same)
+        (0, ap (λ (x : NumberedTable). x.number) (sym same) ∙ sym (add-zero k), omega arith, ap (λ (x : NumberedTable). Some x.table) same)
     by_test false e later =
         let found = later e in
         (found.0 + 1, (let at = found.1 in omega (arith, at)), (let within = found.2 in omega (arith, within)), next_get t ts found.0 ∙ found.3)
 
 -- and it stands at its number
-pub table_numbered-at : (name : List ℕ) (ts : List Table) (n : Numbered) → table_numbered name ts ≡ Some n → (n.number < length ts) × (slice_get ts n.number ≡ Some n.table)
+pub table_numbered-at : (name : List ℕ) (ts : List Table) (n : NumberedTable) → table_numbered name ts ≡ Some n → (n.number < length ts) × (slice_get ts n.number ≡ Some n.table)
 table_numbered-at name ts n e =
     let found = numbered_from-at 0 name ts n e in
     let at : n.number ≡ found.0 = found.1 ∙ zero-add found.0 in
     (subst (λ (k : ℕ). k < length ts) (sym at) found.2, subst (λ (k : ℕ). slice_get ts k ≡ Some n.table) (sym at) found.3)
 
-numbered_from-named : (k : ℕ) (name : List ℕ) (ts : List Table) → table_named name ts ≡ option_map (λ (n : Numbered). n.table) (numbered_from k name ts)
+numbered_from-named : (k : ℕ) (name : List ℕ) (ts : List Table) → table_named name ts ≡ option_map (λ (n : NumberedTable). n.table) (numbered_from k name ts)
 numbered_from-named k name [] = refl
 numbered_from-named k name (t ∷ ts) = by_test (pointwise nat_eq t.name name) (numbered_from-named (k + 1) name ts)
   where
-    by_test : (is : Bool) → table_named name ts ≡ option_map (λ (n : Numbered). n.table) (numbered_from (k + 1) name ts)
-        → cond is (Some t) (table_named name ts) ≡ option_map (λ (n : Numbered). n.table) (cond is (Some (let m : Numbered = record { number = k; table = t } in m)) (numbered_from (k + 1) name ts))
+    by_test : (is : Bool) → table_named name ts ≡ option_map (λ (n : NumberedTable). n.table) (numbered_from (k + 1) name ts)
+        → cond is (Some t) (table_named name ts) ≡ option_map (λ (n : NumberedTable). n.table) (cond is (Some (let m : NumberedTable = record { number = k; table = t } in m)) (numbered_from (k + 1) name ts))
     by_test true more = refl
     by_test false more = more
 
 -- with its number or without, it is the same table
-pub table_numbered-named : (name : List ℕ) (ts : List Table) → table_named name ts ≡ option_map (λ (n : Numbered). n.table) (table_numbered name ts)
+pub table_numbered-named : (name : List ℕ) (ts : List Table) → table_named name ts ≡ option_map (λ (n : NumberedTable). n.table) (table_numbered name ts)
 table_numbered-named = numbered_from-named 0
 
 -- ---- a longer log
@@ -75,35 +75,35 @@ pub record IsGrown (n : ℕ) (t u : Table) : Type 0 where
   pub same : (u ≡ t) ⊎ (n < u.widened)
 
 -- so much is left of what a name found
-pub record StillFinds (n : ℕ) (name : List ℕ) (ts : List Table) (found : Numbered) : Type 0 where
+pub record StillFinds (n : ℕ) (name : List ℕ) (ts : List Table) (found : NumberedTable) : Type 0 where
   pub table : Table
   pub finds : table_numbered name ts ≡ Some (record { number = found.number; table = table })
   pub grown : IsGrown n found.table table
 
-record FindsFrom (k n : ℕ) (name : List ℕ) (ts : List Table) (found : Numbered) : Type 0 where
+record FindsFrom (k n : ℕ) (name : List ℕ) (ts : List Table) (found : NumberedTable) : Type 0 where
   table : Table
   finds : numbered_from k name ts ≡ Some (record { number = found.number; table = table })
   grown : IsGrown n found.table table
 
-grown_widened : (k n m : ℕ) (columns : List Field) (name : List ℕ) (ts : List Table) (found : Numbered) → numbered_from k name ts ≡ Some found → FindsFrom k n name (changed (widened_table (n + 1) columns) m ts) found
+grown_widened : (k n m : ℕ) (columns : List Field) (name : List ℕ) (ts : List Table) (found : NumberedTable) → numbered_from k name ts ≡ Some found → FindsFrom k n name (changed (widened_table (n + 1) columns) m ts) found
 grown_widened k n m columns name [] found e = cc
 grown_widened k n zero columns name (t ∷ ts) found e = by_test (pointwise nat_eq t.name name) refl e
   where
     wider : Table
     wider = widened_table (n + 1) columns t
 
-    by_test : (is : Bool) → pointwise nat_eq t.name name ≡ is → cond is (Some (let m : Numbered = record { number = k; table = t } in m)) (numbered_from (k + 1) name ts) ≡ Some found → FindsFrom k n name (wider ∷ ts) found
+    by_test : (is : Bool) → pointwise nat_eq t.name name ≡ is → cond is (Some (let m : NumberedTable = record { number = k; table = t } in m)) (numbered_from (k + 1) name ts) ≡ Some found → FindsFrom k n name (wider ∷ ts) found
     by_test true test e =
-        let m : Numbered = record { number = k; table = t } in
+        let m : NumberedTable = record { number = k; table = t } in
         let same : m ≡ found = cc in
         record {
           table = wider;
-          finds = ap (λ (b : Bool). cond b (Some (let m : Numbered = record { number = k; table = wider } in m)) (numbered_from (k + 1) name ts)) test ∙ ap (λ (x : Numbered). Some (let m : Numbered = record { number = x.number; table = wider } in m)) same;
-          grown = record { named = ap (λ (x : Numbered). x.table.name) same; same = inr (omega arith) };
+          finds = ap (λ (b : Bool). cond b (Some (let m : NumberedTable = record { number = k; table = wider } in m)) (numbered_from (k + 1) name ts)) test ∙ ap (λ (x : NumberedTable). Some (let m : NumberedTable = record { number = x.number; table = wider } in m)) same;
+          grown = record { named = ap (λ (x : NumberedTable). x.table.name) same; same = inr (omega arith) };
         }
     by_test false test e = record {
       table = found.table;
-      finds = ap (λ (b : Bool). cond b (Some (let m : Numbered = record { number = k; table = wider } in m)) (numbered_from (k + 1) name ts)) test ∙ e;
+      finds = ap (λ (b : Bool). cond b (Some (let m : NumberedTable = record { number = k; table = wider } in m)) (numbered_from (k + 1) name ts)) test ∙ e;
       grown = record { named = refl; same = inl refl };
     }
 grown_widened k n (suc m) columns name (t ∷ ts) found e = by_test (pointwise nat_eq t.name name) refl e (grown_widened (k + 1) n m columns name ts found)
@@ -111,22 +111,22 @@ grown_widened k n (suc m) columns name (t ∷ ts) found e = by_test (pointwise n
     rest : List Table
     rest = changed (widened_table (n + 1) columns) m ts
 
-    by_test : (is : Bool) → pointwise nat_eq t.name name ≡ is → cond is (Some (let m : Numbered = record { number = k; table = t } in m)) (numbered_from (k + 1) name ts) ≡ Some found
+    by_test : (is : Bool) → pointwise nat_eq t.name name ≡ is → cond is (Some (let m : NumberedTable = record { number = k; table = t } in m)) (numbered_from (k + 1) name ts) ≡ Some found
         → (numbered_from (k + 1) name ts ≡ Some found → FindsFrom (k + 1) n name rest found) → FindsFrom k n name (t ∷ rest) found
     by_test true test e later = record {
       table = found.table;
-      finds = ap (λ (b : Bool). cond b (Some (let m : Numbered = record { number = k; table = t } in m)) (numbered_from (k + 1) name rest)) test ∙ e;
+      finds = ap (λ (b : Bool). cond b (Some (let m : NumberedTable = record { number = k; table = t } in m)) (numbered_from (k + 1) name rest)) test ∙ e;
       grown = record { named = refl; same = inl refl };
     }
     by_test false test e later =
         let f = later e in
         record {
           table = f.table;
-          finds = ap (λ (b : Bool). cond b (Some (let m : Numbered = record { number = k; table = t } in m)) (numbered_from (k + 1) name rest)) test ∙ f.finds;
+          finds = ap (λ (b : Bool). cond b (Some (let m : NumberedTable = record { number = k; table = t } in m)) (numbered_from (k + 1) name rest)) test ∙ f.finds;
           grown = f.grown;
         }
 
-one_commit : (n : ℕ) (c : Commit) (name : List ℕ) (ts : List Table) (found : Numbered) → table_numbered name ts ≡ Some found → StillFinds n name (tables_with (n + 1) c ts) found
+one_commit : (n : ℕ) (c : Commit) (name : List ℕ) (ts : List Table) (found : NumberedTable) → table_numbered name ts ≡ Some found → StillFinds n name (tables_with (n + 1) c ts) found
 one_commit n (CreateTable given schema) name ts found e = record {
   table = found.table;
   finds = table_numbered-go_on name ts (record { name = given; schema = schema; made = n + 1; widened = n + 1 } ∷ []) found e;
@@ -147,11 +147,11 @@ grown_then n t u v first second = record { named = second.named ∙ first.named;
     by_case (inr past) = inr (omega (arith, past))
 
 -- a name keeps its number in a longer log, and its table is the same or was widened since
-pub still_found : (l more : Log) (name : List ℕ) (found : Numbered) → table_numbered name (tables l) ≡ Some found → StillFinds (length l) name (tables (l ++ more)) found
+pub still_found : (l more : Log) (name : List ℕ) (found : NumberedTable) → table_numbered name (tables l) ≡ Some found → StillFinds (length l) name (tables (l ++ more)) found
 still_found l [] name found e = record { table = found.table; finds = ap (λ (m : Log). table_numbered name (tables m)) (append-nil l) ∙ e; grown = record { named = refl; same = inl refl } }
 still_found l (c ∷ more) name found e =
     let one = one_commit (length l) c name (tables l) found e in
-    let next : Numbered = record { number = found.number; table = one.table } in
+    let next : NumberedTable = record { number = found.number; table = one.table } in
     let rest = still_found (l ++ c ∷ []) more name next (ap (table_numbered name) (tables-push l c) ∙ one.finds) in
     let longer : length (l ++ c ∷ []) ≡ length l + 1 = length_push l c in
     record {
@@ -190,16 +190,16 @@ some_same : {X : Type 0} {x z : X} → Some x ≡ Some z → x ≡ z
 some_same h = cc
 
 -- a name finds what it found where the table of its number was not widened since
-pub still_same : (l more : Log) (name : List ℕ) (found : Numbered) (t : Table) → table_numbered name (tables l) ≡ Some found → slice_get (tables (l ++ more)) found.number ≡ Some t → t.widened ≡ found.table.widened
+pub still_same : (l more : Log) (name : List ℕ) (found : NumberedTable) (t : Table) → table_numbered name (tables l) ≡ Some found → slice_get (tables (l ++ more)) found.number ≡ Some t → t.widened ≡ found.table.widened
     → table_numbered name (tables (l ++ more)) ≡ Some found
 still_same l more name found t e at widened =
     let still = still_found l more name found e in
-    let now : Numbered = record { number = found.number; table = still.table } in
+    let now : NumberedTable = record { number = found.number; table = still.table } in
     let same : t ≡ still.table = some_same (sym at ∙ (table_numbered-at name (tables (l ++ more)) now still.finds).1) in
     by_case same still.finds still.grown.same
   where
     by_case : {u : Table} → t ≡ u → table_numbered name (tables (l ++ more)) ≡ Some (record { number = found.number; table = u }) → (u ≡ found.table) ⊎ (length l < u.widened) → table_numbered name (tables (l ++ more)) ≡ Some found
-    by_case same finds (inl is) = finds ∙ ap (λ (x : Table). Some (let m : Numbered = record { number = found.number; table = x } in m)) is
+    by_case same finds (inl is) = finds ∙ ap (λ (x : Table). Some (let m : NumberedTable = record { number = found.number; table = x } in m)) is
     by_case same finds (inr past) =
         let before = widened-within l found.number found.table (table_numbered-at name (tables l) found e).1 in
         let here = ap (λ (x : Table). x.widened) same in

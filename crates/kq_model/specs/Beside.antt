@@ -18,7 +18,7 @@ use Rattle.kq_model.specs.declared.policy.Due.{Due}
 use Rattle.kq_model.specs.declared.policy.Entry.{Entry}
 use Rattle.kq_model.specs.Derived.{Row}
 use Rattle.kq_model.specs.Force.{policy_at}
-use Rattle.kq_model.specs.History.{Log, Numbered, table_numbered, tables}
+use Rattle.kq_model.specs.History.{Log, NumberedTable, table_numbered, tables}
 use Rattle.kq_model.specs.Policies.{policies}
 use Rattle.kq_model.specs.Records.{records}
 
@@ -33,7 +33,7 @@ abbrev pub rows_beside : Log → ℕ → List Row → ℕ → List Row
 rows_beside l source rows t = if nat_eq t source then rows else map (λ (r : Record). r.row) (records l t)
 
 -- a table gives these rows in any order, cut to the columns under which it is read, and they have their types; what is no table gives nothing
-abbrev pub TableBeside : Log → ℕ → List Row → List Field → Option Numbered → Computed (List Row) → Type 0
+abbrev pub TableBeside : Log → ℕ → List Row → List Field → Option NumberedTable → Computed (List Row) → Type 0
 TableBeside l source rows columns (Some found) (Is given) = Same given (cut_to columns (rows_beside l source rows found.number)) × All (HasTypes columns) given
 TableBeside l source rows columns (Some found) Overflow = ⊥
 TableBeside l source rows columns None given = ⊥
@@ -47,17 +47,17 @@ beside l source rows said kind.Part columns given = ⊥
 -- ---- queries
 
 -- an outcome's rows, or the cause for which there are none
-abbrev pub Tells : Outcome → Result (List Row) Cause → Type 0
-Tells (outcome.Table ordered rows) given = given ≡ Ok rows
-Tells (outcome.Cell v) given = ⊥
-Tells (outcome.Overflow stage) given = given ≡ Err (causes.Overflow stage)
-Tells (outcome.Full limit) given = given ≡ Err (causes.Full limit)
+abbrev pub TellsCause : Outcome → Result (List Row) Cause → Type 0
+TellsCause (outcome.Table ordered rows) given = given ≡ Ok rows
+TellsCause (outcome.Cell v) given = ⊥
+TellsCause (outcome.Overflow stage) given = given ≡ Err (causes.Overflow stage)
+TellsCause (outcome.Full limit) given = given ≡ Err (causes.Full limit)
 
 -- what the query of an entry may give over the rows of a batch; it asks for no moment
 pub record EntryGives (l : Log) (e : Entry) (rows : List Row) (given : Result (List Row) Cause) : Type 0 where
   pub outcome : Outcome
   pub gives : Gives (planned_of e.plan) (beside l e.source rows) (pos 0) outcome
-  pub told : Tells outcome given
+  pub told : TellsCause outcome given
 
 -- the same of the entry at a place of its target's policy
 pub record DueGives (l : Log) (d : Due) (rows : List Row) (given : Result (List Row) Cause) : Type 0 where

@@ -60,10 +60,10 @@ edits_of cursor id (AlterMerge table columns) = NewColumns table cursor columns 
 edits_of cursor id (Ingest batches failures) = new_extents cursor id [] batches
 
 -- a new table's name is new, and its number is one of 32 bits; columns and an extent go to a table that stands, and the extent's rows have the table's types
-abbrev pub Fits : List Table → Edit → Type 0
-Fits ts (NewTable table) = (table_named table.name ts ≡ None) × (length ts < 2 ^ 32)
-Fits ts (NewColumns n cursor columns) = n < length ts
-Fits ts (NewExtent n id records tags) = (n < length ts) × ((t : Table) → slice_get ts n ≡ Some t → All (HasTypes t.schema) (map (λ (r : Record). r.row) records))
+abbrev pub FitsTables : List Table → Edit → Type 0
+FitsTables ts (NewTable table) = (table_named table.name ts ≡ None) × (length ts < 2 ^ 32)
+FitsTables ts (NewColumns n cursor columns) = n < length ts
+FitsTables ts (NewExtent n id records tags) = (n < length ts) × ((t : Table) → slice_get ts n ≡ Some t → All (HasTypes t.schema) (map (λ (r : Record). r.row) records))
 
 -- the tables after an edit
 abbrev pub tables_after : List Table → Edit → List Table
@@ -74,7 +74,7 @@ tables_after ts (NewExtent n id records tags) = ts
 -- each of the edits fits the tables after those before it
 abbrev pub FitAll : List Table → List Edit → Type 0
 FitAll ts [] = Unit {0}
-FitAll ts (e ∷ es) = Fits ts e × FitAll (tables_after ts e) es
+FitAll ts (e ∷ es) = FitsTables ts e × FitAll (tables_after ts e) es
 
 -- a table after a merge of its extents: its records stay
 abbrev pub with_merged : List ℕ → ℕ → TableState → TableState

@@ -60,16 +60,16 @@ abbrev pub table_named : List ℕ → List Table → Option Table
 table_named name = find (λ (t : Table). pointwise nat_eq t.name name)
 
 -- a table and its number: its place, from 0
-pub record Numbered : Type 0 where
+pub record NumberedTable : Type 0 where
   pub number : ℕ
   pub table : Table
 
-abbrev pub numbered_from : ℕ → List ℕ → List Table → Option Numbered
+abbrev pub numbered_from : ℕ → List ℕ → List Table → Option NumberedTable
 numbered_from n name [] = None
 numbered_from n name (t ∷ ts) = if pointwise nat_eq t.name name then Some (record { number = n; table = t }) else numbered_from (n + 1) name ts
 
 -- the table of a name, with its number
-abbrev pub table_numbered : List ℕ → List Table → Option Numbered
+abbrev pub table_numbered : List ℕ → List Table → Option NumberedTable
 table_numbered = numbered_from 0
 
 -- a commit's place in the journal, from 1, and its cursor

@@ -3,7 +3,7 @@ use Rattle.std.specs.Prelude.{◌≡◌, ◌⊎◌, ◌<◌, ◌≤◌, ◌+◌,
 use Rattle.std.specs.List.{slice_get}
 use Rattle.kq_grouping.specs.Bodies.{IsBody}
 use Rattle.kq_plan.specs.declared.names.NameKind.TheVariants as name
-use Rattle.kq_plan.specs.Fits.{Fits}
+use Rattle.kq_plan.specs.Fits.{FitsNames}
 use Rattle.kq_plan.specs.Names.{Known}
 use Rattle.kq_plan.specs.Plans.{planned_of}
 use Rattle.kq_value.specs.declared.schema.Field.{Field}
@@ -22,7 +22,7 @@ use Rattle.kq_model.specs.declared.policy.Entry.{Entry}
 use Rattle.kq_model.specs.Beside.{DueGives}
 use Rattle.kq_model.specs.Cycles.{IsOnCycle}
 use Rattle.kq_model.specs.Derived.{IsDerived, Made}
-use Rattle.kq_model.specs.History.{History, Log, log, cursor, tables, table_named, Numbered, table_numbered, view_count, is_view, view_cursor}
+use Rattle.kq_model.specs.History.{History, Log, log, cursor, tables, table_named, NumberedTable, table_numbered, view_count, is_view, view_cursor}
 use Rattle.kq_model.specs.Names.{is_among, repeat_of, names_of}
 use Rattle.kq_model.specs.Policies.{policies, rules, with_policy}
 use Rattle.kq_model.specs.PolicyBodies.{IsPolicyBody}
@@ -78,7 +78,7 @@ pub record IsNewView (limits : Limits) (l : Log) (v : View) : Type 0 where
 
 -- ---- policies
 
-abbrev pub known_table : Numbered → Known
+abbrev pub known_table : NumberedTable → Known
 known_table found = (name.Table, found.table.schema)
 
 -- the names of the tables, with their columns
@@ -90,7 +90,7 @@ pub record IsEntry (l : Log) (target : List Field) (e : Entry) : Type 0 where
   pub source : Table
   pub stands : slice_get (tables l) e.source ≡ Some source
   pub body : IsPolicyBody source.name (planned_of e.plan)
-  pub fits : Fits (tables_known l) (planned_of e.plan) target
+  pub fits : FitsNames (tables_known l) (planned_of e.plan) target
 
 -- entries for a table that stands, by which no batch of it comes back to it, within the limits; those that aren't enabled count too
 pub record IsNewPolicy (limits : Limits) (l : Log) (number : ℕ) (entries : List Entry) : Type 0 where

@@ -5,7 +5,7 @@ use Rattle.kq_grammar.specs.Expressions.{Text}
 use Rattle.kq_parse.specs.declared.asking.ParseFault.{ParseFault}
 use Rattle.kq_parse.specs.declared.asking.ParseFault.TheVariants as fault
 use Rattle.kq_parse.specs.Depth.{IsShallow}
-use Rattle.kq_parse.specs.Places.{Answers, EndsAt, BreaksAt, IsOnly, IsRefusal, IsWhole, RefusesAt}
+use Rattle.kq_parse.specs.Places.{AcceptsOnly, EndsAt, BreaksForm, IsOnly, IsRefusal, TakesAll, RefusesAt}
 use Rattle.kq_syntax.specs.declared.cursor.Stop.{Stop}
 use Rattle.kq_syntax.specs.declared.cursor.Stop.TheVariants.{Syntax, Memory}
 use Rattle.kq_syntax.specs.declared.kind.Symbol.{Symbol}
@@ -29,7 +29,7 @@ module _ {A : Type 0} (form : A → Text) (more : Symbol → Bool) where
         only = λ other s. (a.only other ts [] [] s tt tt (append-nil ts ∙ all ∙ sym (append-nil a.front))).0;
       }
 
-  left_over : (ts : List Symbol) (x : A) (t : Symbol) (rest : List Symbol) → Parses form more ts x (t ∷ rest) → BreaksAt form ts (t ∷ rest)
+  left_over : (ts : List Symbol) (x : A) (t : Symbol) (rest : List Symbol) → Parses form more ts x (t ∷ rest) → BreaksForm form ts (t ∷ rest)
   left_over ts x t rest a = record {
     front = a.front;
     split = a.split;
@@ -44,7 +44,7 @@ module _ {A : Type 0} (form : A → Text) (more : Symbol → Bool) where
   stuck_ends ts [] a = λ x s. a.never x a.front [] [] s tt tt refl
   stuck_ends ts (t ∷ rest) a = λ s. a.never s.0 ((a.front ++ t ∷ []) ++ s.1) [] (t ∷ s.1) s.2 tt refl (append-nil ((a.front ++ t ∷ []) ++ s.1) ∙ join_one a.front t s.1)
 
-  stuck_breaks : (ts rest : List Symbol) → Stuck form more ts rest → BreaksAt form ts rest
+  stuck_breaks : (ts rest : List Symbol) → Stuck form more ts rest → BreaksForm form ts rest
   stuck_breaks ts rest a = record { front = a.front; split = a.split; begins = (a.value, a.missing, a.completed); ends = stuck_ends ts rest a }
 
   module _ (reader : ℕ → Parser Symbol A) (exact : (n : ℕ) → Exact form more (reader n) n) where
@@ -55,7 +55,7 @@ module _ {A : Type 0} (form : A → Text) (more : Symbol → Bool) where
     reads_whole ts x [] e none = whole_read ts x (read_meets ts (Ok (x, [])) e)
     reads_whole ts x (t ∷ rest) e none = absurd (omega arith)
 
-    refuses : (ts rest : List Symbol) (end : ℕ) (r : ParseFault) → IsShallow ts → BreaksAt form ts rest → IsRefusal rest end r → RefusesAt form ts end r
+    refuses : (ts rest : List Symbol) (end : ℕ) (r : ParseFault) → IsShallow ts → BreaksForm form ts rest → IsRefusal rest end r → RefusesAt form ts end r
     refuses ts rest end (fault.Syntax place) shallow breaks is = (shallow, (rest, is, breaks))
     refuses ts rest end (fault.Deep place) shallow breaks is = absurd is
     refuses ts rest end fault.Memory shallow breaks is = tt
@@ -69,8 +69,8 @@ module _ {A : Type 0} (form : A → Text) (more : Symbol → Bool) where
 
     -- what is answered of symbols that were read and found to be whole
     pub whole_answers : {V : Type 0} (view : V → A) (ts rest : List Symbol) (end : ℕ) (found : Result V Stop) (r : Result V ParseFault)
-        → IsShallow ts → IsOutcome view (reader (length ts) ts) found rest → IsWhole rest end found r
-        → MatchResult r (λ x. Answers form ts (view x)) (RefusesAt form ts end)
+        → IsShallow ts → IsOutcome view (reader (length ts) ts) found rest → TakesAll rest end found r
+        → MatchResult r (λ x. AcceptsOnly form ts (view x)) (RefusesAt form ts end)
     whole_answers view ts rest end (Ok x) (Ok y) shallow e is = (shallow, reads_whole ts (view y) rest (e ∙ ap (λ v. Ok (view v, rest)) is.0) (ap length is.1))
     whole_answers view ts rest end (Ok x) (Err f) shallow e is = refuses_left ts (view x) rest end f shallow e (λ none. is.0 (empty_of rest none)) is.1
     whole_answers view ts rest end (Err Syntax) (Ok y) shallow e wrong = absurd wrong

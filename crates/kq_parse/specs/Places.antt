@@ -23,7 +23,7 @@ EndsAt {A = A} form front [] = (x : A) → form x front → ⊥
 EndsAt form front (t ∷ rest) = Begins form (front ++ t ∷ []) → ⊥
 
 -- The symbols before the rest begin a text of the form, and the rest stops it.
-pub record BreaksAt {A : Type 0} (form : A → Text) (ts rest : List Symbol) : Type 0 where
+pub record BreaksForm {A : Type 0} (form : A → Text) (ts rest : List Symbol) : Type 0 where
   pub front : List Symbol
   pub split : ts ≡ front ++ rest
   pub begins : Begins form front
@@ -46,21 +46,21 @@ IsRefusal rest end (fault.Deep place) = ⊥
 IsRefusal rest end fault.Memory = Unit {0}
 
 -- all symbols were taken, or the refusal stands where the rest is
-abbrev pub IsWhole : {A : Type 0} → List Symbol → ℕ → Result A Stop → Result A ParseFault → Type 0
-IsWhole rest end (Ok x) (Ok y) = (x ≡ y) × (rest ≡ [])
-IsWhole rest end (Ok x) (Err f) = (rest ≢ []) × IsRefusal rest end f
-IsWhole rest end (Err Syntax) (Ok y) = ⊥
-IsWhole rest end (Err Syntax) (Err f) = IsRefusal rest end f
-IsWhole rest end (Err Memory) (Ok y) = ⊥
-IsWhole rest end (Err Memory) (Err f) = f ≡ fault.Memory
+abbrev pub TakesAll : {A : Type 0} → List Symbol → ℕ → Result A Stop → Result A ParseFault → Type 0
+TakesAll rest end (Ok x) (Ok y) = (x ≡ y) × (rest ≡ [])
+TakesAll rest end (Ok x) (Err f) = (rest ≢ []) × IsRefusal rest end f
+TakesAll rest end (Err Syntax) (Ok y) = ⊥
+TakesAll rest end (Err Syntax) (Err f) = IsRefusal rest end f
+TakesAll rest end (Err Memory) (Ok y) = ⊥
+TakesAll rest end (Err Memory) (Err f) = f ≡ fault.Memory
 
 -- Brackets are counted before the grammar is tried. A refusal is at the first symbol with which the symbols begin no text of
 -- the form, or at the end of the text where all of them begin one and are none.
 abbrev pub RefusesAt : {A : Type 0} → (A → Text) → List Symbol → ℕ → ParseFault → Type 0
-RefusesAt form ts end (fault.Syntax place) = IsShallow ts × ((rest : List Symbol) × (place ≡ place_of rest end) × BreaksAt form ts rest)
+RefusesAt form ts end (fault.Syntax place) = IsShallow ts × ((rest : List Symbol) × (place ≡ place_of rest end) × BreaksForm form ts rest)
 RefusesAt form ts end (fault.Deep place) = IsDeepAt ts place
 RefusesAt form ts end fault.Memory = Unit {0}
 
 -- Accepted symbols are those of this value alone, and nowhere too deep.
-abbrev pub Answers : {A : Type 0} → (A → Text) → List Symbol → A → Type 0
-Answers form ts x = IsShallow ts × IsOnly form ts x
+abbrev pub AcceptsOnly : {A : Type 0} → (A → Text) → List Symbol → A → Type 0
+AcceptsOnly form ts x = IsShallow ts × IsOnly form ts x

@@ -2,7 +2,7 @@
 ghost use Rattle.std.specs.Prelude.{◌≡◌, length, MatchResult};
 ghost use Rattle.kq_grammar.specs.TabularViews.{query_of};
 ghost use Rattle.kq_grammar.specs.Tabulars.{query_text};
-ghost use Rattle.kq_parse.specs.Places.{Answers, IsRefusal, IsWhole, RefusesAt};
+ghost use Rattle.kq_parse.specs.Places.{AcceptsOnly, IsRefusal, TakesAll, RefusesAt};
 
 use crate::depth::too_deep;
 use crate::lets::read_query;
@@ -39,7 +39,7 @@ pub fn whole<T: Drop>(
     cursor: &mut Cursor<'_>,
     end: usize,
 ) -> Result<T, ParseFault>
-    ensures { IsWhole cursor.old end found result }
+    ensures { TakesAll cursor.old end found result }
 {
     match found {
         Ok(value) => {
@@ -59,7 +59,7 @@ pub fn whole<T: Drop>(
 /// The query that has exactly these symbols of a text that ends at `end`.
 pub fn parse_query(alloc: Global, symbols: &[Symbol], end: usize) -> Result<Box<Query>, ParseFault>
     // It is the only one.
-    ensures { MatchResult result (λ q. Answers query_text symbols.now (query_of q.value)) (RefusesAt query_text symbols.now end) }
+    ensures { MatchResult result (λ q. AcceptsOnly query_text symbols.now (query_of q.value)) (RefusesAt query_text symbols.now end) }
 {
     if let Some(at) = too_deep(symbols) {
         return Err(ParseFault::Deep { at });

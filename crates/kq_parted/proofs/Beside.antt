@@ -7,8 +7,8 @@ use Rattle.kq_agg.specs.Steps.{kept_at}
 use Rattle.kq_agg.specs.Tables.{Numbered}
 use Rattle.kq_rows.specs.Chunks.{row_at}
 use Rattle.kq_value.specs.declared.value.Value.{Value}
-use Rattle.kq_group.specs.Grouped.{Aggregating}
-use Rattle.kq_group.specs.Groups.{Grouping, IsWhole, nothing, shape_of, state_at}
+use Rattle.kq_group.specs.Grouped.{AggregateShape}
+use Rattle.kq_group.specs.Groups.{Grouping, HasAllGroups, nothing, shape_of, state_at}
 use Rattle.kq_parted.specs.Shards.{keys_in, kept_in, shard_at, states_from}
 
 abbrev pub Key : Type 0
@@ -47,7 +47,7 @@ beside_first P (k ∷ keys) more (s ∷ kept) others long all = let rest = besid
 -- ---- shards
 
 abbrev pub AreWhole : List Grouping → Type 0
-AreWhole shards = All (λ g. IsWhole g) shards
+AreWhole shards = All (λ g. HasAllGroups g) shards
 
 pub later_whole : (g : Grouping) (shards : List Grouping) → AreWhole (g ∷ shards) → AreWhole shards
 later_whole g shards whole i d h = whole (suc i) d (omega (arith, h))
@@ -77,13 +77,13 @@ beside_one P a (g ∷ shards) (suc i) has h all =
 -- ---- aggregates
 
 -- the aggregate with this number
-abbrev pub aggregate_at : List Aggregating → ℕ → Aggregating
+abbrev pub aggregate_at : List AggregateShape → ℕ → AggregateShape
 aggregate_at aggregates a = get_or aggregates a (shape_of nothing)
 
-abbrev stated : Aggregating → List Kept → Numbered
+abbrev stated : AggregateShape → List Kept → Numbered
 stated g kept = record { kind = g.kind; types = g.types; kept = kept }
 
-pub state_from_at : (aggregates : List Aggregating) (b a : ℕ) (shards : List Grouping) → a < length aggregates
+pub state_from_at : (aggregates : List AggregateShape) (b a : ℕ) (shards : List Grouping) → a < length aggregates
     → state_at (states_from aggregates b shards) a ≡ record { kind = (aggregate_at aggregates a).kind; types = (aggregate_at aggregates a).types; kept = kept_in (b + a) shards }
 state_from_at [] b a shards h = absurd (omega (arith, h))
 state_from_at (g ∷ aggregates) b zero shards h = let same : b ≡ b + 0 = omega arith in ap (λ (n : ℕ). stated g (kept_in n shards)) same
@@ -91,22 +91,22 @@ state_from_at (g ∷ aggregates) b (suc a) shards h =
     let same : (b + 1) + a ≡ b + suc a = omega arith in
     state_from_at aggregates (b + 1) a shards (omega (arith, h)) ∙ ap (λ (n : ℕ). stated (aggregate_at aggregates a) (kept_in n shards)) same
 
-pub state_of_at : (aggregates : List Aggregating) (a : ℕ) (shards : List Grouping) → a < length aggregates
+pub state_of_at : (aggregates : List AggregateShape) (a : ℕ) (shards : List Grouping) → a < length aggregates
     → state_at (states_from aggregates 0 shards) a ≡ record { kind = (aggregate_at aggregates a).kind; types = (aggregate_at aggregates a).types; kept = kept_in a shards }
 state_of_at aggregates a shards h = let same : 0 + a ≡ a = omega arith in state_from_at aggregates 0 a shards h ∙ ap (λ (n : ℕ). stated (aggregate_at aggregates a) (kept_in n shards)) same
 
-pub shapes_from : (aggregates : List Aggregating) (b : ℕ) (shards : List Grouping) → map shape_of (states_from aggregates b shards) ≡ aggregates
+pub shapes_from : (aggregates : List AggregateShape) (b : ℕ) (shards : List Grouping) → map shape_of (states_from aggregates b shards) ≡ aggregates
 shapes_from [] b shards = refl
-shapes_from (g ∷ aggregates) b shards = ap (λ (gs : List Aggregating). g ∷ gs) (shapes_from aggregates (b + 1) shards)
+shapes_from (g ∷ aggregates) b shards = ap (λ (gs : List AggregateShape). g ∷ gs) (shapes_from aggregates (b + 1) shards)
 
-pub length-states_from : (aggregates : List Aggregating) (b : ℕ) (shards : List Grouping) → length (states_from aggregates b shards) ≡ length aggregates
+pub length-states_from : (aggregates : List AggregateShape) (b : ℕ) (shards : List Grouping) → length (states_from aggregates b shards) ≡ length aggregates
 length-states_from [] b shards = refl
 length-states_from (g ∷ aggregates) b shards = ap suc (length-states_from aggregates (b + 1) shards)
 
-pub length_of_shapes : (states : List Numbered) (aggregates : List Aggregating) → map shape_of states ≡ aggregates → length states ≡ length aggregates
+pub length_of_shapes : (states : List Numbered) (aggregates : List AggregateShape) → map shape_of states ≡ aggregates → length states ≡ length aggregates
 length_of_shapes states aggregates e = sym (length-map states shape_of) ∙ ap length e
 
-pub shape_at : (states : List Numbered) (aggregates : List Aggregating) (a : ℕ) → map shape_of states ≡ aggregates → a < length aggregates → shape_of (state_at states a) ≡ aggregate_at aggregates a
+pub shape_at : (states : List Numbered) (aggregates : List AggregateShape) (a : ℕ) → map shape_of states ≡ aggregates → a < length aggregates → shape_of (state_at states a) ≡ aggregate_at aggregates a
 shape_at states aggregates a e h =
     let long = length_of_shapes states aggregates e in
-    sym (get_or-map shape_of states a nothing (shape_of nothing) (omega (arith, h, long))) ∙ ap (λ (gs : List Aggregating). aggregate_at gs a) e
+    sym (get_or-map shape_of states a nothing (shape_of nothing) (omega (arith, h, long))) ∙ ap (λ (gs : List AggregateShape). aggregate_at gs a) e

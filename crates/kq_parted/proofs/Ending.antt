@@ -10,8 +10,8 @@ use Rattle.kq_computed.specs.Computed.{Answers, Computed, Is, Overflow, and_then
 use Rattle.kq_computed.specs.declared.fault.EvalFault.{EvalFault}
 use Rattle.kq_computed.specs.declared.fault.EvalFault.TheVariants as fault
 use Rattle.kq_rows.specs.Chunks.{HasWidth, same_width}
-use Rattle.kq_group.specs.Grouped.{Aggregating}
-use Rattle.kq_group.specs.Groups.{EndsWide, Grouping, IsWhole, cells_from, nothing, rows_from, shape_of, state_at}
+use Rattle.kq_group.specs.Grouped.{AggregateShape}
+use Rattle.kq_group.specs.Groups.{EndsWide, Grouping, HasAllGroups, cells_from, nothing, rows_from, shape_of, state_at}
 use Rattle.kq_group.proofs.Finishing.{cells_wide, columns_of, row_wide}
 use Rattle.kq_parted.specs.Shards.{AreFinishable, AreShards, IsShard, keys_in, kept_in, nobody, rows_in, shard_at, states_from}
 use Rattle.kq_parted.proofs.Beside.{Key, HasKept, aggregate_at, beside_at, beside_from, beside_one, length-kept_in, length-states_from, length_of_shapes, shape_at, state_of_at}
@@ -67,17 +67,17 @@ cells-same (s ∷ states) (t ∷ others) n m long same =
 -- ---- the shards that follow
 
 -- shards as they stand in a row
-record AreLike (aggregates : List Aggregating) (shards : List Grouping) : Type 0 where
+record AreLike (aggregates : List AggregateShape) (shards : List Grouping) : Type 0 where
   pub shapes : (i : ℕ) → i < length shards → map shape_of (shard_at shards i).states ≡ aggregates
   pub kept : (a : ℕ) → a < length aggregates → HasKept a shards
 
-like_later : (aggregates : List Aggregating) (g : Grouping) (shards : List Grouping) → AreLike aggregates (g ∷ shards) → AreLike aggregates shards
+like_later : (aggregates : List AggregateShape) (g : Grouping) (shards : List Grouping) → AreLike aggregates (g ∷ shards) → AreLike aggregates shards
 like_later aggregates g shards like = record {
   shapes = λ i h. like.shapes (suc i) (omega (arith, h));
   kept = λ a h i l. like.kept a h (suc i) (omega (arith, l));
 }
 
-first_cells : (aggregates : List Aggregating) (g : Grouping) (shards : List Grouping) (j : ℕ) → AreLike aggregates (g ∷ shards) → j < length g.keys → cells_from (states_from aggregates 0 (g ∷ shards)) (0 + j) ≡ cells_from g.states (0 + j)
+first_cells : (aggregates : List AggregateShape) (g : Grouping) (shards : List Grouping) (j : ℕ) → AreLike aggregates (g ∷ shards) → j < length g.keys → cells_from (states_from aggregates 0 (g ∷ shards)) (0 + j) ≡ cells_from g.states (0 + j)
 first_cells aggregates g shards j like h =
     let shapes = like.shapes 0 (omega arith) in
     let many = length-states_from aggregates 0 (g ∷ shards) in
@@ -87,11 +87,11 @@ first_cells aggregates g shards j like h =
     let inside : a < length aggregates = omega (arith, l, many) in
     let at = state_of_at aggregates a (g ∷ shards) inside in
     let long = like.kept a inside 0 (omega arith) in (
-      ap (λ (s : Numbered). s.types) at ∙ sym (ap (λ (x : Aggregating). x.types) (shape_at g.states aggregates a shapes inside)),
+      ap (λ (s : Numbered). s.types) at ∙ sym (ap (λ (x : AggregateShape). x.types) (shape_at g.states aggregates a shapes inside)),
       ap (λ (s : Numbered). kept_at s.kept (0 + j)) at ∙ get_or_append_left (state_at g.states a).kept (kept_in a shards) (kept_at [] 0) (0 + j) (omega (arith, h, long)),
     ))
 
-later_cells : (aggregates : List Aggregating) (g : Grouping) (shards : List Grouping) (j : ℕ) → AreLike aggregates (g ∷ shards)
+later_cells : (aggregates : List AggregateShape) (g : Grouping) (shards : List Grouping) (j : ℕ) → AreLike aggregates (g ∷ shards)
     → cells_from (states_from aggregates 0 (g ∷ shards)) ((0 + length g.keys) + j) ≡ cells_from (states_from aggregates 0 shards) (0 + j)
 later_cells aggregates g shards j like =
     let many = length-states_from aggregates 0 (g ∷ shards) in
@@ -108,7 +108,7 @@ later_cells aggregates g shards j like =
           ∙ ap (kept_at (kept_in a shards)) there ∙ sym (ap (λ (s : Numbered). kept_at s.kept (0 + j)) then),
     ))
 
-rows_in_row : (aggregates : List Aggregating) (shards : List Grouping) → AreLike aggregates shards → rows_from (states_from aggregates 0 shards) (keys_in shards) 0 ≡ rows_in shards
+rows_in_row : (aggregates : List AggregateShape) (shards : List Grouping) → AreLike aggregates shards → rows_from (states_from aggregates 0 shards) (keys_in shards) 0 ≡ rows_in shards
 rows_in_row aggregates [] like = refl
 rows_in_row aggregates (g ∷ shards) like =
     let states = states_from aggregates 0 (g ∷ shards) in
@@ -118,7 +118,7 @@ rows_in_row aggregates (g ∷ shards) like =
     ∙ ap (λ (e : Computed (List Key)). and_then (rows_from g.states g.keys 0) (λ y. and_then e (λ z. Is (y ++ z))))
     (rows_from-same states (states_from aggregates 0 shards) (keys_in shards) (0 + length g.keys) 0 (λ j h. later_cells aggregates g shards j like) ∙ rows_in_row aggregates shards (like_later aggregates g shards like))
 
-like_shards : (width : ℕ) (aggregates : List Aggregating) (shards : List Grouping) → AreShards width aggregates shards → AreLike aggregates shards
+like_shards : (width : ℕ) (aggregates : List AggregateShape) (shards : List Grouping) → AreShards width aggregates shards → AreLike aggregates shards
 like_shards width aggregates shards are = record {
   shapes = λ i h. (are.each i h).shapes;
   kept = λ a h i l.
@@ -127,12 +127,12 @@ like_shards width aggregates shards are = record {
 }
 
 -- the rows of all groups are those of the shards
-pub rows_of_all : (width : ℕ) (aggregates : List Aggregating) (shards : List Grouping) → AreShards width aggregates shards → rows_in shards ≡ rows_from (states_from aggregates 0 shards) (keys_in shards) 0
+pub rows_of_all : (width : ℕ) (aggregates : List AggregateShape) (shards : List Grouping) → AreShards width aggregates shards → rows_in shards ≡ rows_from (states_from aggregates 0 shards) (keys_in shards) 0
 rows_of_all width aggregates shards are = sym (rows_in_row aggregates shards (like_shards width aggregates shards are))
 
 -- ---- widths
 
-abbrev columns_in : List Aggregating → ℕ
+abbrev columns_in : List AggregateShape → ℕ
 columns_in [] = 0
 columns_in (g ∷ aggregates) = length g.types + columns_in aggregates
 
@@ -167,7 +167,7 @@ rows_wide states (k ∷ keys) n width rows wide ends within e =
     (λ j h. let next : n + suc j ≡ (n + 1) + j = omega arith in subst (λ (m : ℕ). All (λ (s : Numbered). m < length s.kept) states) next (within (suc j) (omega (arith, h)))) f.rest))
 
 -- what is kept ends with so many cells
-abbrev ends_in : Aggregating → Key → Kept → Type 0
+abbrev ends_in : AggregateShape → Key → Kept → Type 0
 ends_in g k s = (cells : Key) → finished g.types s ≡ Is cells → length cells ≡ length g.types
 
 ends_at : (states : List Numbered) → ((a : ℕ) → a < length states → EndsWide (state_at states a)) → All EndsWide states
@@ -176,7 +176,7 @@ ends_at (s ∷ states) each zero d h = each 0 (omega arith)
 ends_at (s ∷ states) each (suc i) d h = ends_at states (λ a l. each (suc a) (omega (arith, l))) i d (omega (arith, h))
 
 -- a shard ends as all do
-ends_one : (width : ℕ) (aggregates : List Aggregating) (shards : List Grouping) (i : ℕ) → AreShards width aggregates shards → All EndsWide (states_from aggregates 0 shards) → i < length shards → All EndsWide (shard_at shards i).states
+ends_one : (width : ℕ) (aggregates : List AggregateShape) (shards : List Grouping) (i : ℕ) → AreShards width aggregates shards → All EndsWide (states_from aggregates 0 shards) → i < length shards → All EndsWide (shard_at shards i).states
 ends_one width aggregates shards i are ends l = ends_at g.states one
   where
     g : Grouping
@@ -196,7 +196,7 @@ ends_one width aggregates shards i are ends l = ends_at g.states one
         let all : EndsWide (record { kind = shape.kind; types = shape.types; kept = kept_in a shards }) = subst EndsWide (state_of_at aggregates a shards inside) (ends a nothing there) in
         let both = beside_from (ends_in shape) (keys_in shards) (kept_in a shards) long_in (λ n m cells. all.each n cells (omega (arith, m, long_in))) in
         let mine = beside_one (ends_in shape) a shards i has l both in
-        let types : shape.types ≡ (state_at g.states a).types = sym (ap (λ (x : Aggregating). x.types) (shape_at g.states aggregates a s.shapes inside)) in
+        let types : shape.types ≡ (state_at g.states a).types = sym (ap (λ (x : AggregateShape). x.types) (shape_at g.states aggregates a s.shapes inside)) in
         record {
           each = λ n cells m e.
               let as_many = has i l in
@@ -204,9 +204,9 @@ ends_one width aggregates shards i are ends l = ends_at g.states one
               (beside_at (ends_in shape) g.keys (state_at g.states a).kept n mine (omega (arith, m, as_many)) cells) e;
         }
 
-pub AreFinishable-shards : (width : ℕ) (aggregates : List Aggregating) (shards : List Grouping) → AreShards width aggregates shards → All EndsWide (states_from aggregates 0 shards) → AreFinishable shards
+pub AreFinishable-shards : (width : ℕ) (aggregates : List AggregateShape) (shards : List Grouping) → AreShards width aggregates shards → All EndsWide (states_from aggregates 0 shards) → AreFinishable shards
 AreFinishable-shards width aggregates shards are ends = record {
-  whole = from_each (λ g. IsWhole g) shards (λ i h. (are.each i h).whole);
+  whole = from_each (λ g. HasAllGroups g) shards (λ i h. (are.each i h).whole);
   ends = from_each (λ (g : Grouping). All EndsWide g.states) shards (λ i h. ends_one width aggregates shards i are ends h);
   width = width + columns_in aggregates;
   wide = λ i rows h e.

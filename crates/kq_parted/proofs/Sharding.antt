@@ -14,8 +14,8 @@ use Rattle.kq_value.specs.Same.{times}
 use Rattle.kq_value.specs.Values.{is_same_row}
 use Rattle.kq_value.proofs.Equals.{is_same_row-Decides}
 use Rattle.kq_value.proofs.SameLemmas.{NoOftener-filter, times-append}
-use Rattle.kq_group.specs.Grouped.{Aggregating, AreKeys}
-use Rattle.kq_group.specs.Groups.{Grouping, HasGroups, IsWhole, Starts, nothing, shape_of, state_at}
+use Rattle.kq_group.specs.Grouped.{AggregateShape, AreKeys}
+use Rattle.kq_group.specs.Groups.{Grouping, HasGroups, HasAllGroups, Starts, nothing, shape_of, state_at}
 use Rattle.kq_group.specs.Merges.{Keeps, Lacks, Merges, NoneBeyond, Under, picked, picked_states}
 use Rattle.kq_group.proofs.Merging.{Stands-both}
 use Rattle.kq_group.proofs.Tables.{stands_at}
@@ -24,7 +24,7 @@ use Rattle.kq_parted.proofs.Beside.{Key, AllBeside, HasKept, aggregate_at, besid
 
 -- ---- what the shards keep, all keep
 
-has_kept : (width : ℕ) (aggregates : List Aggregating) (shards : List Grouping) (a : ℕ) → AreShards width aggregates shards → a < length aggregates → HasKept a shards
+has_kept : (width : ℕ) (aggregates : List AggregateShape) (shards : List Grouping) (a : ℕ) → AreShards width aggregates shards → a < length aggregates → HasKept a shards
 has_kept width aggregates shards a are h i l =
     let s = are.each i l in
     let long = length_of_shapes (shard_at shards i).states aggregates s.shapes in
@@ -34,10 +34,10 @@ has_kept width aggregates shards a are h i l =
 abbrev held : Kind → (Key → List Key) → Key → Kept → Type 0
 held kind under k s = Holds kind (under k) s
 
-kind_in : (width : ℕ) (aggregates : List Aggregating) (i : ℕ) (g : Grouping) (a : ℕ) → IsShard width aggregates i g → a < length aggregates → (state_at g.states a).kind ≡ (aggregate_at aggregates a).kind
-kind_in width aggregates i g a s h = ap (λ (x : Aggregating). x.kind) (shape_at g.states aggregates a s.shapes h)
+kind_in : (width : ℕ) (aggregates : List AggregateShape) (i : ℕ) (g : Grouping) (a : ℕ) → IsShard width aggregates i g → a < length aggregates → (state_at g.states a).kind ≡ (aggregate_at aggregates a).kind
+kind_in width aggregates i g a s h = ap (λ (x : AggregateShape). x.kind) (shape_at g.states aggregates a s.shapes h)
 
-pub keeps_one : (width : ℕ) (aggregates : List Aggregating) (shards : List Grouping) (under : Under) (i : ℕ) → AreShards width aggregates shards → i < length shards → Keeps under (all_of width aggregates shards) → Keeps under (shard_at shards i)
+pub keeps_one : (width : ℕ) (aggregates : List AggregateShape) (shards : List Grouping) (under : Under) (i : ℕ) → AreShards width aggregates shards → i < length shards → Keeps under (all_of width aggregates shards) → Keeps under (shard_at shards i)
 keeps_one width aggregates shards under i are l keeps a n h within =
     let s = are.each i l in
     let g = shard_at shards i in
@@ -51,7 +51,7 @@ keeps_one width aggregates shards under i are l keeps a n h within =
     subst (λ (k : Kind). Holds k (under a (row_at g.keys n)) (kept_at (state_at g.states a).kept n)) (sym (kind_in width aggregates i g a s inside))
     (beside_at (held kind (under a)) g.keys (state_at g.states a).kept n (beside_one (held kind (under a)) a shards i has l all) within)
 
-pub keeps_all : (width : ℕ) (aggregates : List Aggregating) (shards : List Grouping) (under : Under) → AreShards width aggregates shards → ((i : ℕ) → i < length shards → Keeps under (shard_at shards i)) → Keeps under (all_of width aggregates shards)
+pub keeps_all : (width : ℕ) (aggregates : List AggregateShape) (shards : List Grouping) (under : Under) → AreShards width aggregates shards → ((i : ℕ) → i < length shards → Keeps under (shard_at shards i)) → Keeps under (all_of width aggregates shards)
 keeps_all width aggregates shards under are each a n h within =
     let kind = (aggregate_at aggregates a).kind in
     let inside : a < length aggregates = let long = length-states_from aggregates 0 shards in omega (arith, h, long) in
@@ -65,20 +65,20 @@ keeps_all width aggregates shards under are each a n h within =
     beside_from (held kind (under a)) g.keys (state_at g.states a).kept (has i l)
     (λ m k. subst (λ (d : Kind). Holds d (under a (row_at g.keys m)) (kept_at (state_at g.states a).kept m)) (kind_in width aggregates i g a s inside) (each i l a m (omega (arith, inside, long)) k)))) within)
 
-whole_from : (n : ℕ) (aggregates : List Aggregating) (b : ℕ) (shards : List Grouping) → ((a : ℕ) → a < length aggregates → length (kept_in (b + a) shards) ≡ n) → All (HasGroups n) (states_from aggregates b shards)
+whole_from : (n : ℕ) (aggregates : List AggregateShape) (b : ℕ) (shards : List Grouping) → ((a : ℕ) → a < length aggregates → length (kept_in (b + a) shards) ≡ n) → All (HasGroups n) (states_from aggregates b shards)
 whole_from n [] b shards each i d h = absurd (omega (arith, h))
 whole_from n (g ∷ aggregates) b shards each zero d h = let same : b ≡ b + 0 = omega arith in ap (λ (c : ℕ). length (kept_in c shards)) same ∙ each 0 (omega arith)
 whole_from n (g ∷ aggregates) b shards each (suc i) d h =
     whole_from n aggregates (b + 1) shards (λ a l. let same : (b + 1) + a ≡ b + suc a = omega arith in ap (λ (c : ℕ). length (kept_in c shards)) same ∙ each (suc a) (omega (arith, l))) i d (omega (arith, h))
 
-pub all_whole : (width : ℕ) (aggregates : List Aggregating) (shards : List Grouping) → AreShards width aggregates shards → IsWhole (all_of width aggregates shards)
+pub all_whole : (width : ℕ) (aggregates : List AggregateShape) (shards : List Grouping) → AreShards width aggregates shards → HasAllGroups (all_of width aggregates shards)
 all_whole width aggregates shards are = whole_from (length (keys_in shards)) aggregates 0 shards (λ a h. let same : 0 + a ≡ a = omega arith in ap (λ (c : ℕ). length (kept_in c shards)) same ∙ length-kept_in a shards (has_kept width aggregates shards a are h))
 
 wide_keys : (width : ℕ) (shards : List Grouping) → ((i : ℕ) → i < length shards → All (HasWidth width) (shard_at shards i).keys) → All (HasWidth width) (keys_in shards)
 wide_keys width [] each = All-nil (HasWidth width)
 wide_keys width (g ∷ shards) each = All-append (HasWidth width) g.keys (keys_in shards) (each 0 (omega arith)) (wide_keys width shards (λ i h. each (suc i) (omega (arith, h))))
 
-pub all_wide : (width : ℕ) (aggregates : List Aggregating) (shards : List Grouping) → AreShards width aggregates shards → All (HasWidth width) (keys_in shards)
+pub all_wide : (width : ℕ) (aggregates : List AggregateShape) (shards : List Grouping) → AreShards width aggregates shards → All (HasWidth width) (keys_in shards)
 all_wide width aggregates shards are = wide_keys width shards (λ i h. (are.each i h).wide)
 
 -- ---- keys
@@ -116,7 +116,7 @@ from_zero : (n : ℕ) → n ≡ 0 + n
 from_zero n = omega arith
 
 -- a key stands in all shards as often as in its own
-pub times_in : (width : ℕ) (aggregates : List Aggregating) (shards : List Grouping) (k : Key) → AreShards width aggregates shards → times k (keys_in shards) ≡ times k (shard_at shards (shard_of k)).keys
+pub times_in : (width : ℕ) (aggregates : List AggregateShape) (shards : List Grouping) (k : Key) → AreShards width aggregates shards → times k (keys_in shards) ≡ times k (shard_at shards (shard_of k)).keys
 times_in width aggregates shards k are = times_from k 0 (shard_of k) shards (λ j h some. (are.each j h).filed k some ∙ from_zero j) (from_zero (shard_of k))
 
 shard_below : (k : Key) → shard_of k < 64
@@ -125,13 +125,13 @@ shard_below k = omega arith
 -- ---- shards with others
 
 -- all shards with others, each with its own
-pub AreShards-folded : (width : ℕ) (aggregates : List Aggregating) (delta : Grouping) (olds news : List Grouping) → AreShards width aggregates olds → AreFolded width aggregates delta olds news → AreShards width aggregates news
+pub AreShards-folded : (width : ℕ) (aggregates : List AggregateShape) (delta : Grouping) (olds news : List Grouping) → AreShards width aggregates olds → AreFolded width aggregates delta olds news → AreShards width aggregates news
 AreShards-folded width aggregates delta olds news are folded = record {
   count = folded.count ∙ are.count;
   each = λ i h. let n = folded.count in (folded.each i (omega (arith, h, n))).shard;
 }
 
-pub Merges-folded : (width : ℕ) (aggregates : List Aggregating) (delta : Grouping) (olds news : List Grouping) → AreShards width aggregates olds → AreFolded width aggregates delta olds news
+pub Merges-folded : (width : ℕ) (aggregates : List AggregateShape) (delta : Grouping) (olds news : List Grouping) → AreShards width aggregates olds → AreFolded width aggregates delta olds news
     → delta.width ≡ width → map shape_of delta.states ≡ aggregates → Merges delta (all_of width aggregates olds) (all_of width aggregates news)
 Merges-folded width aggregates delta olds news are folded wide shapes = record {
   width_is = refl;
@@ -222,7 +222,7 @@ no_items [] e = refl
 no_items (x ∷ xs) e = absurd (omega (arith, e))
 
 -- a shard that nothing belongs to
-pub FoldsShard-same : (width : ℕ) (aggregates : List Aggregating) (i : ℕ) (delta old : Grouping) → IsShard width aggregates i old → filter (is_in i) delta.keys ≡ [] → FoldsShard width aggregates i delta old old
+pub FoldsShard-same : (width : ℕ) (aggregates : List AggregateShape) (i : ℕ) (delta old : Grouping) → IsShard width aggregates i old → filter (is_in i) delta.keys ≡ [] → FoldsShard width aggregates i delta old old
 FoldsShard-same width aggregates i delta old s none = record {
   shard = s;
   counts = λ k is. let gone = absent k is in let one = s.apart k in omega (arith, gone, one);
@@ -237,7 +237,7 @@ FoldsShard-same width aggregates i delta old s none = record {
     absent k is = sym (times_within i k delta.keys is) ∙ ap (times k) none
 
 -- a new one, with the old groups and then with those that belong to it
-pub FoldsShard-new : (width : ℕ) (aggregates : List Aggregating) (i : ℕ) (delta old none mid new : Grouping) (ns : List ℕ) → IsShard width aggregates i old → All (λ n. n < length delta.keys) ns
+pub FoldsShard-new : (width : ℕ) (aggregates : List AggregateShape) (i : ℕ) (delta old none mid new : Grouping) (ns : List ℕ) → IsShard width aggregates i old → All (λ n. n < length delta.keys) ns
     → map (row_at delta.keys) ns ≡ filter (is_in i) delta.keys → Lacks width aggregates none → Merges old none mid → Merges (picked ns delta) mid new → FoldsShard width aggregates i delta old new
 FoldsShard-new width aggregates i delta old none mid new ns s within are lacks one two = record {
   shard = record {
@@ -276,7 +276,7 @@ FoldsShard-new width aggregates i delta old none mid new ns s within are lacks o
     ]
 
 -- one shard more
-pub folded_more : (width : ℕ) (aggregates : List Aggregating) (delta : Grouping) (olds mids : List Grouping) (n : ℕ) (new : Grouping) → length mids ≡ n
+pub folded_more : (width : ℕ) (aggregates : List AggregateShape) (delta : Grouping) (olds mids : List Grouping) (n : ℕ) (new : Grouping) → length mids ≡ n
     → ((i : ℕ) → i < n → FoldsShard width aggregates i delta (shard_at olds i) (shard_at mids i)) → FoldsShard width aggregates n delta (shard_at olds n) new
     → (i : ℕ) → i < n + 1 → FoldsShard width aggregates i delta (shard_at olds i) (shard_at (mids ++ new ∷ []) i)
 folded_more width aggregates delta olds mids n new long each last i h = elim (cases_lt i n) [
@@ -303,7 +303,7 @@ keys_of_none : (n : ℕ) (none : Grouping) → none.keys ≡ [] → keys_in (rep
 keys_of_none zero none e = refl
 keys_of_none (suc n) none e = ap (λ (ks : List Key). ks ++ keys_in (replicate n none)) e ∙ keys_of_none n none e
 
-IsShard-none : (width : ℕ) (aggregates : List Aggregating) (i : ℕ) (none : Grouping) → Lacks width aggregates none → IsShard width aggregates i none
+IsShard-none : (width : ℕ) (aggregates : List AggregateShape) (i : ℕ) (none : Grouping) → Lacks width aggregates none → IsShard width aggregates i none
 IsShard-none width aggregates i none lacks = record {
   width_is = lacks.width_is;
   shapes = lacks.shapes;
@@ -337,10 +337,10 @@ first_keys (suc width) keys are = (
     no_keys [] none = refl
     no_keys (k ∷ ks) none = absurd (let some = stands_at (k ∷ ks) k 0 (omega arith) refl in let e = none k in omega (arith, some, e))
 
-first_width : (width : ℕ) (aggregates : List Aggregating) (first : Grouping) → Starts width aggregates first → AreKeys width [] first.keys
+first_width : (width : ℕ) (aggregates : List AggregateShape) (first : Grouping) → Starts width aggregates first → AreKeys width [] first.keys
 first_width width aggregates first starts = subst (λ (w : ℕ). AreKeys w [] first.keys) starts.width_is starts.stands.of_rows
 
-pub AreShards-empty : (width : ℕ) (aggregates : List Aggregating) (first none : Grouping) → Starts width aggregates first → Lacks width aggregates none → AreShards width aggregates (first ∷ replicate 63 none)
+pub AreShards-empty : (width : ℕ) (aggregates : List AggregateShape) (first none : Grouping) → Starts width aggregates first → Lacks width aggregates none → AreShards width aggregates (first ∷ replicate 63 none)
 AreShards-empty width aggregates first none starts lacks = record {
   count = ap suc (length-replicate 63 none);
   each = each;
@@ -354,7 +354,7 @@ AreShards-empty width aggregates first none starts lacks = record {
         let n = length-replicate 63 none in
         subst (IsShard width aggregates (suc i)) (sym (get_or-replicate 63 i none nobody (omega (arith, h, n)))) (IsShard-none width aggregates (suc i) none lacks)
 
-pub Starts-empty : (width : ℕ) (aggregates : List Aggregating) (first none : Grouping) → Starts width aggregates first → Lacks width aggregates none → Starts width aggregates (all_of width aggregates (first ∷ replicate 63 none))
+pub Starts-empty : (width : ℕ) (aggregates : List AggregateShape) (first none : Grouping) → Starts width aggregates first → Lacks width aggregates none → Starts width aggregates (all_of width aggregates (first ∷ replicate 63 none))
 Starts-empty width aggregates first none starts lacks = record {
   width_is = refl;
   shapes = shapes_from aggregates 0 shards;

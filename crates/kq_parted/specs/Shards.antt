@@ -8,8 +8,8 @@ use Rattle.kq_computed.specs.declared.fault.EvalFault.{EvalFault}
 use Rattle.kq_rows.specs.Chunks.{HasWidth}
 use Rattle.kq_value.specs.declared.value.Value.{Value}
 use Rattle.kq_value.specs.Same.{times}
-use Rattle.kq_group.specs.Grouped.{Aggregating, FitArgs, IsGrouped}
-use Rattle.kq_group.specs.Groups.{EndsWide, Grouping, IsWhole, Stands, rows_from, shape_of, state_at}
+use Rattle.kq_group.specs.Grouped.{AggregateShape, FitArgs, IsGrouped}
+use Rattle.kq_group.specs.Groups.{EndsWide, Grouping, HasAllGroups, Stands, rows_from, shape_of, state_at}
 use Rattle.kq_group.specs.Keys.{key_hash}
 use Rattle.kq_group.specs.Merges.{Keeps, NoneBeyond, Under}
 
@@ -36,36 +36,36 @@ abbrev pub kept_in : ℕ → List Grouping → List Kept
 kept_in a shards = flat_map (λ (g : Grouping). (state_at g.states a).kept) shards
 
 -- the states of the aggregates whose numbers begin with this one
-abbrev pub states_from : List Aggregating → ℕ → List Grouping → List Numbered
+abbrev pub states_from : List AggregateShape → ℕ → List Grouping → List Numbered
 states_from [] a shards = []
 states_from (g ∷ aggregates) a shards = record { kind = g.kind; types = g.types; kept = kept_in a shards } ∷ states_from aggregates (a + 1) shards
 
 -- the groups of all shards, one shard after another
-abbrev pub all_of : ℕ → List Aggregating → List Grouping → Grouping
+abbrev pub all_of : ℕ → List AggregateShape → List Grouping → Grouping
 all_of width aggregates shards = record { width = width; keys = keys_in shards; states = states_from aggregates 0 shards }
 
 -- ---- shards
 
 -- groups of different keys that belong to the shard with this number
-pub record IsShard (width : ℕ) (aggregates : List Aggregating) (i : ℕ) (g : Grouping) : Type 0 where
+pub record IsShard (width : ℕ) (aggregates : List AggregateShape) (i : ℕ) (g : Grouping) : Type 0 where
   pub width_is : g.width ≡ width
   pub shapes : map shape_of g.states ≡ aggregates
-  pub whole : IsWhole g
+  pub whole : HasAllGroups g
   pub wide : All (HasWidth width) g.keys
   pub apart : (k : List Value) → times k g.keys ≤ 1
   pub filed : (k : List Value) → 0 < times k g.keys → shard_of k ≡ i
 
-pub record AreShards (width : ℕ) (aggregates : List Aggregating) (shards : List Grouping) : Type 0 where
+pub record AreShards (width : ℕ) (aggregates : List AggregateShape) (shards : List Grouping) : Type 0 where
   pub count : length shards ≡ 64
   pub each : (i : ℕ) → i < length shards → IsShard width aggregates i (shard_at shards i)
 
 -- a shard with those of other groups that belong to it
-pub record FoldsShard (width : ℕ) (aggregates : List Aggregating) (i : ℕ) (delta old new : Grouping) : Type 0 where
+pub record FoldsShard (width : ℕ) (aggregates : List AggregateShape) (i : ℕ) (delta old new : Grouping) : Type 0 where
   pub shard : IsShard width aggregates i new
   pub counts : (k : List Value) → shard_of k ≡ i → times k new.keys ≡ min 1 (times k old.keys + times k delta.keys)
   pub under : (first rest : Under) → Keeps first old → Keeps rest delta → NoneBeyond first old.keys new.keys → NoneBeyond rest delta.keys new.keys → Keeps (λ a k. first a k ++ rest a k) new
 
-pub record AreFolded (width : ℕ) (aggregates : List Aggregating) (delta : Grouping) (olds news : List Grouping) : Type 0 where
+pub record AreFolded (width : ℕ) (aggregates : List AggregateShape) (delta : Grouping) (olds news : List Grouping) : Type 0 where
   pub count : length news ≡ length olds
   pub each : (i : ℕ) → i < length olds → FoldsShard width aggregates i delta (shard_at olds i) (shard_at news i)
 
@@ -84,7 +84,7 @@ AreGrouped g r =
 
 -- each shard ends with rows, all of one width
 pub record AreFinishable (shards : List Grouping) : Type 0 where
-  pub whole : All (λ g. IsWhole g) shards
+  pub whole : All (λ g. HasAllGroups g) shards
   pub ends : All (λ (g : Grouping). All EndsWide g.states) shards
   pub width : ℕ
   pub wide : (i : ℕ) (rows : List (List Value)) → i < length shards → rows_from (shard_at shards i).states (shard_at shards i).keys 0 ≡ Is rows → All (HasWidth width) rows

@@ -2,7 +2,7 @@
 ghost use Rattle.std.specs.Prelude.{◌≡◌, ◌++◌, List, IfOk, length, map};
 ghost use Rattle.std.specs.Arc.{arc_value};
 ghost use Rattle.kq_computed.specs.Computed.{Answers};
-ghost use Rattle.kq_group.specs.Groups.{IsWhole, Stands, Starts, rows_from, shape_of};
+ghost use Rattle.kq_group.specs.Groups.{HasAllGroups, Stands, Starts, rows_from, shape_of};
 ghost use Rattle.kq_group.specs.Merges.{Merges};
 ghost use Rattle.kq_parted.specs.Shards.{AreGrouped, IsOfRows};
 
@@ -61,7 +61,7 @@ impl Parted {
 
     /// The groups of both, key by key: the rows of the others come after those here. Shards that none of the others belongs to are shared.
     pub fn folded(&self, alloc: Global, delta: &Groups) -> Result<Parted, Memory>
-        requires whole { IsWhole delta.now }
+        requires whole { HasAllGroups delta.now }
         requires width { delta.now.width ≡ self.now.width }
         requires shapes { map shape_of delta.now.states ≡ map shape_of self.now.states }
         ensures { IfOk result (Merges delta.now self.now) }

@@ -5,7 +5,7 @@ ghost use Rattle.std.specs.Arc.{arc_value};
 ghost use Rattle.kq_computed.specs.Computed.{Answers};
 ghost use Rattle.kq_rows.specs.Chunks.{row_at};
 ghost use Rattle.kq_value.specs.Same.{times};
-ghost use Rattle.kq_group.specs.Groups.{IsWhole, shape_of};
+ghost use Rattle.kq_group.specs.Groups.{HasAllGroups, shape_of};
 ghost use Rattle.kq_parted.specs.Shards.{AreFinishable, AreFolded, AreShards, FoldsShard, IsShard, is_in, rows_in};
 
 use kq_computed::EvalFault;
@@ -79,7 +79,7 @@ fn folded_shard(
     delta: &Groups,
 ) -> Result<Arc<Groups, Global>, Memory>
     requires old { IsShard width aggregates.now shard (arc_value old.now) }
-    requires whole { IsWhole delta.now }
+    requires whole { HasAllGroups delta.now }
     requires width { delta.now.width ≡ width }
     requires shapes { map shape_of delta.now.states ≡ aggregates.now }
     ensures { IfOk result (λ new. FoldsShard width aggregates.now shard delta.now (arc_value old.now) (arc_value new)) }
@@ -104,7 +104,7 @@ pub(crate) fn folded_shards(
     delta: &Groups,
 ) -> Result<Vec<Arc<Groups, Global>>, Memory>
     requires shards { AreShards width aggregates.now (map arc_value shards.now) }
-    requires whole { IsWhole delta.now }
+    requires whole { HasAllGroups delta.now }
     requires width { delta.now.width ≡ width }
     requires shapes { map shape_of delta.now.states ≡ aggregates.now }
     ensures { IfOk result (λ v. AreFolded width aggregates.now delta.now (map arc_value shards.now) (map arc_value v.items)) }

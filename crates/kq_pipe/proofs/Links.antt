@@ -12,7 +12,7 @@ use Rattle.kq_pipe.specs.declared.outcome.Outcome.{Outcome}
 use Rattle.kq_pipe.specs.Gives.{World, Follows}
 use Rattle.kq_pipe.specs.Outcomes.{is_fault, no_rows, outcome_at}
 use Rattle.kq_grouping.specs.Steps.{Linked}
-use Rattle.kq_pipe.specs.Stretches.{AreNext, AreUnshared, GoesOn, IsStretch, IsUnshared, planned_by}
+use Rattle.kq_pipe.specs.Stretches.{AreNext, AreUnshared, FlowsOn, IsStretch, IsUnshared, planned_by}
 use Rattle.kq_pipe.specs.Typed.{FitsWorld}
 use Rattle.kq_pipe.proofs.Midway.{Midway, Midway-end, Midway-fault, Midway-more, Midway-next, Midway-start}
 
@@ -21,7 +21,7 @@ use Rattle.kq_pipe.proofs.Midway.{Midway, Midway-end, Midway-fault, Midway-more,
 pub stretch_one : (ss : List Stepping) (marks : List Bool) (at : ℕ) → at < length ss → IsStretch ss marks at (at + 1)
 stretch_one ss marks at within = record { some = omega arith; within = omega (arith, within); goes_on = λ m from to. absurd (omega (arith, from, to)) }
 
-pub stretch_more : (ss : List Stepping) (marks : List Bool) (at end : ℕ) → IsStretch ss marks at end → end < length ss → GoesOn ss marks (end - 1) → IsStretch ss marks at (end + 1)
+pub stretch_more : (ss : List Stepping) (marks : List Bool) (at end : ℕ) → IsStretch ss marks at end → end < length ss → FlowsOn ss marks (end - 1) → IsStretch ss marks at (end + 1)
 stretch_more ss marks at end was within goes =
     let some = was.some in
     record {
@@ -29,7 +29,7 @@ stretch_more ss marks at end was within goes =
       within = omega (arith, within);
       goes_on = λ m from to. elim (cases_lt (m + 1) end) [
         | inl before ↦ was.goes_on m from before
-        | inr there ↦ let same : end - 1 ≡ m = omega (arith, some, from, to, there) in subst (GoesOn ss marks) same goes
+        | inr there ↦ let same : end - 1 ≡ m = omega (arith, some, from, to, there) in subst (FlowsOn ss marks) same goes
       ];
     }
 
@@ -45,7 +45,7 @@ get_next (u ∷ front) s t others =
 
 -- steps that are linked by their numbers are linked as a list
 linked_list : (all front ss others : List Stepping) (marks : List Bool) (n : ℕ) → all ≡ front ++ (ss ++ others) → length front ≡ n → 0 < length ss
-    → ((m : ℕ) → n ≤ m → m + 1 < n + length ss → GoesOn all marks m) → Linked n ss
+    → ((m : ℕ) → n ≤ m → m + 1 < n + length ss → FlowsOn all marks m) → Linked n ss
 linked_list all front [] others marks n is long some goes = absurd (omega (arith, some))
 linked_list all front (s ∷ []) others marks n is long some goes = tt
 linked_list all front (s ∷ t ∷ ss) others marks n is long some goes =

@@ -63,7 +63,7 @@ pub record Shares (place : ℕ) (is : List ℕ) (old new : List Bool) : Type 0 w
 -- ---- stretches
 
 -- the rows of the step of this number flow into the next, and are unshared
-pub record GoesOn (ss : List Stepping) (marks : List Bool) (m : ℕ) : Type 0 where
+pub record FlowsOn (ss : List Stepping) (marks : List Bool) (m : ℕ) : Type 0 where
   pub linked : (s t : Stepping) → slice_get ss m ≡ Some s → slice_get ss (m + 1) ≡ Some t → (is_rowwise s.doing ≡ true) × (flows_from t.doing ≡ Some m)
   pub unshared : get_or marks m false ≡ true
 
@@ -71,7 +71,7 @@ pub record GoesOn (ss : List Stepping) (marks : List Bool) (m : ℕ) : Type 0 wh
 pub record IsStretch (ss : List Stepping) (marks : List Bool) (at end : ℕ) : Type 0 where
   pub some : at < end
   pub within : end ≤ length ss
-  pub goes_on : (m : ℕ) → at ≤ m → m + 1 < end → GoesOn ss marks m
+  pub goes_on : (m : ℕ) → at ≤ m → m + 1 < end → FlowsOn ss marks m
 
 -- steps that fit such names, behind steps that gave what fits them
 pub record AreNext (known : List ℕ → Option Known) (w : World) (before : List Stepping) (done : List Outcome) (ss : List Stepping) : Type 0 where

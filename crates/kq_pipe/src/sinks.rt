@@ -2,7 +2,7 @@
 ghost use Rattle.std.specs.Prelude.{◌≡◌, ◌<◌, ◌+◌, ◌^◌, ◌∷◌, [], IfOk, false, length, map, pos};
 ghost use Rattle.std.specs.List.{All};
 ghost use Rattle.kq_expr.specs.Terms.{term_of};
-ghost use Rattle.kq_group.specs.Groups.{EndsWide, IsWhole, rows_from};
+ghost use Rattle.kq_group.specs.Groups.{EndsWide, HasAllGroups, rows_from};
 ghost use Rattle.kq_plan.specs.Plans.{aggregating_of};
 ghost use Rattle.kq_scalar.specs.Val.{surroundings};
 ghost use Rattle.kq_value.specs.declared.value.Value.TheVariants.{Long};
@@ -113,7 +113,7 @@ pub(crate) fn group_all(
 }
 
 fn rows_of(alloc: Global, stage: u32, groups: &Groups) -> Result<Outcome, Memory>
-    requires whole { IsWhole groups.now }
+    requires whole { HasAllGroups groups.now }
     requires wide { All EndsWide groups.now.states }
     ensures { IfOk result (λ o. o ≡ in_stage stage false (rows_from groups.now.states groups.now.keys 0)) }
 {

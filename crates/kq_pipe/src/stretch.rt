@@ -9,7 +9,7 @@ ghost use Rattle.kq_pipe.specs.Gives.{Follows, around};
 ghost use Rattle.kq_pipe.specs.Operators.{tally};
 ghost use Rattle.kq_pipe.specs.Outcomes.{order_of, rows_of};
 ghost use Rattle.kq_grouping.specs.Steps.{HasColumns, Linked, flows_from, is_rowwise, last_of, operators_of};
-ghost use Rattle.kq_pipe.specs.Stretches.{AreNext, Closes, ComesTo, GoesOn, IsStretch, order_after};
+ghost use Rattle.kq_pipe.specs.Stretches.{AreNext, Closes, ComesTo, FlowsOn, IsStretch, order_after};
 
 use crate::leaves::Leaves;
 use crate::outcome::{Outcome, cells, order_at, rows_at};
@@ -71,7 +71,7 @@ fn goes_on(steps: &[Step], unshared: &[bool], end: usize) -> bool
     requires some { 0 < end }
     requires within { end < length steps.now }
     requires marks { length unshared.now ≡ length steps.now }
-    ensures { result ≡ true → GoesOn (map stepping_of steps.now) unshared.now (end - 1) }
+    ensures { result ≡ true → FlowsOn (map stepping_of steps.now) unshared.now (end - 1) }
 {
     let m = end - 1;
     unshared[m] && makes_by_row(&steps[m]) && takes(&steps[end], m)

@@ -178,6 +178,6 @@ FitAfter known before [] = Unit {0}
 FitAfter known before (s ∷ ss) = FitsStep known before s.doing s.columns × FitAfter known (before ++ s ∷ []) ss
 
 -- the answer is rows of these columns
-pub record Fits (known : List ℕ → Option Known) (p : Planned) (columns : List Field) : Type 0 where
+pub record FitsNames (known : List ℕ → Option Known) (p : Planned) (columns : List Field) : Type 0 where
   pub steps : FitAfter known [] p.steps
   pub output : GivesColumns p.steps p.output columns

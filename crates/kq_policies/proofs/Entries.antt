@@ -5,11 +5,11 @@ use Rattle.std.proofs.lemmas.List.{get_or_past}
 use Rattle.std.proofs.lemmas.Option.{slice_get-get_or, slice_get_within}
 use Rattle.kq_cascade.specs.declared.tables.QueryFault.{QueryFault}
 use Rattle.kq_cascade.specs.declared.tables.QueryFault.TheVariants.{Fails, Memory}
-use Rattle.kq_cascade.specs.Queried.{Answers}
+use Rattle.kq_cascade.specs.Queried.{AnswersEntry}
 use Rattle.kq_model.specs.declared.limits.Limits.{Limits}
 use Rattle.kq_model.specs.declared.policy.Due.{Due}
 use Rattle.kq_model.specs.declared.policy.Entry.{Entry}
-use Rattle.kq_model.specs.Beside.{DueGives, EntryGives, Tells, beside}
+use Rattle.kq_model.specs.Beside.{DueGives, EntryGives, TellsCause, beside}
 use Rattle.kq_model.specs.Derived.{Row}
 use Rattle.kq_model.specs.Force.{IsStanding, policy_at}
 use Rattle.kq_model.specs.History.{History, Log, log, tables}
@@ -24,13 +24,13 @@ use Rattle.kq_pipe.specs.declared.outcome.Outcome.TheVariants as outcome
 use Rattle.kq_pipe.specs.Gives.{Gives}
 use Rattle.kq_pipe.specs.Typed.{FitsWorld, IsTypedTable}
 use Rattle.kq_pipe.proofs.Typed.{gives_typed}
-use Rattle.kq_plan.specs.Fits.{Fits}
+use Rattle.kq_plan.specs.Fits.{FitsNames}
 use Rattle.kq_plan.specs.Plans.{planned_of}
 use Rattle.kq_value.specs.declared.schema.Field.{Field}
 use Rattle.kq_value.specs.Typed.{HasTypes, IsMoment}
 use Rattle.kq_policies.specs.Reading.{known_as_read}
 use Rattle.kq_policies.specs.World.{IsNoCell}
-use Rattle.kq_policies.proofs.Reading.{Fits-later}
+use Rattle.kq_policies.proofs.Reading.{FitsNames-later}
 
 -- ---- where they stand
 
@@ -61,9 +61,9 @@ module _ (l : Log) (d : Due) (standing : IsStanding (policies l) d) where
 
 -- ---- their plans
 
-fits_log : (l : Log) (t : ℕ) (e : Entry) (is : IsBound l t e) → Fits (known_as_read l (planned_of e.plan)) (planned_of e.plan) is.columns
+fits_log : (l : Log) (t : ℕ) (e : Entry) (is : IsBound l t e) → FitsNames (known_as_read l (planned_of e.plan)) (planned_of e.plan) is.columns
 fits_log l t e is =
-    subst (λ (k : Log). Fits (known_as_read k (planned_of e.plan)) (planned_of e.plan) is.columns) (sym is.is) (Fits-later is.since is.rest (planned_of e.plan) is.columns is.fits)
+    subst (λ (k : Log). FitsNames (known_as_read k (planned_of e.plan)) (planned_of e.plan) is.columns) (sym is.is) (FitsNames-later is.since is.rest (planned_of e.plan) is.columns is.fits)
 
 at_start : IsMoment (pos 0)
 at_start = (omega arith, omega arith)
@@ -88,17 +88,17 @@ module _ (limits : Limits) (h : History) (lawful : AreLawful limits h) (t place 
 
 -- ---- what they give
 
-pub entry_answers : (l : Log) (e : Entry) (rows : List Row) (o : Outcome) (r : Result (List Row) QueryFault) → Gives (planned_of e.plan) (beside l e.source rows) (pos 0) o → Answers (Tells o) r → Answers (EntryGives l e rows) r
+pub entry_answers : (l : Log) (e : Entry) (rows : List Row) (o : Outcome) (r : Result (List Row) QueryFault) → Gives (planned_of e.plan) (beside l e.source rows) (pos 0) o → AnswersEntry (TellsCause o) r → AnswersEntry (EntryGives l e rows) r
 entry_answers l e rows o (Ok given) gives told = record { outcome = o; gives = gives; told = told }
 entry_answers l e rows o (Err (Fails cause)) gives told = record { outcome = o; gives = gives; told = told }
 entry_answers l e rows o (Err Memory) gives told = tt
 
-pub due_answers : (l : Log) (d : Due) (e : Entry) (rows : List Row) (r : Result (List Row) QueryFault) → slice_get (policy_at (policies l) d.target) d.place ≡ Some e → Answers (EntryGives l e rows) r → Answers (DueGives l d rows) r
+pub due_answers : (l : Log) (d : Due) (e : Entry) (rows : List Row) (r : Result (List Row) QueryFault) → slice_get (policy_at (policies l) d.target) d.place ≡ Some e → AnswersEntry (EntryGives l e rows) r → AnswersEntry (DueGives l d rows) r
 due_answers l d e rows (Ok given) at gives = record { entry = e; stands = at; gives = gives }
 due_answers l d e rows (Err (Fails cause)) at gives = record { entry = e; stands = at; gives = gives }
 due_answers l d e rows (Err Memory) at gives = tt
 
-pub due_typed : (limits : Limits) (h : History) → AreLawful limits h → (d : Due) (rows : List Row) (r : Result (List Row) QueryFault) → IsStanding (policies (log h)) d → All (HasTypes (schema_of (log h) d.source)) rows → Answers (DueGives (log h) d rows) r
+pub due_typed : (limits : Limits) (h : History) → AreLawful limits h → (d : Due) (rows : List Row) (r : Result (List Row) QueryFault) → IsStanding (policies (log h)) d → All (HasTypes (schema_of (log h) d.source)) rows → AnswersEntry (DueGives (log h) d rows) r
     → IfOk r (All (IsLead (schema_of (log h) d.target)))
 due_typed limits h lawful d rows (Ok given) standing typed gives = AreTyped-bound (log h) (AreBound-lawful limits h lawful) d rows given standing typed gives
 due_typed limits h lawful d rows (Err fault) standing typed gives = tt

@@ -17,7 +17,7 @@ use Rattle.kq_model.specs.declared.table.Table.{Table}
 use Rattle.kq_model.specs.Beside.{DueGives}
 use Rattle.kq_model.specs.Derived.{Cascade, IsDerived}
 use Rattle.kq_model.specs.Force.{policy_at}
-use Rattle.kq_model.specs.History.{History, Log, Numbered, commits_of, log, tables, tables_from, tables_with}
+use Rattle.kq_model.specs.History.{History, Log, NumberedTable, commits_of, log, tables, tables_from, tables_with}
 use Rattle.kq_model.specs.Policies.{policies, policies_from, policies_with, rules}
 use Rattle.kq_model.specs.Records.{batch_records, records_from}
 use Rattle.kq_model.proofs.Lasting.{AreKept, IsDerived-later, IsKept}
@@ -199,7 +199,7 @@ module _ (l more : Log) where
   abbrev GivesNone : List ℕ → Type 0
   GivesNone ts = (t : ℕ) → is_one_of t ts ≡ true → records_from t (length l) more ≡ []
 
-  kept_found : (source : ℕ) (found : Numbered) (ts : List ℕ) → GivesNone (in_front (other_than source (Some found)) ts) → found.number ≢ source → records_from found.number (length l) more ≡ []
+  kept_found : (source : ℕ) (found : NumberedTable) (ts : List ℕ) → GivesNone (in_front (other_than source (Some found)) ts) → found.number ≢ source → records_from found.number (length l) more ≡ []
   kept_found source found ts none other = by_case (eqb_tells found.number source)
     where
       by_case : ((nat_eq found.number source ≡ true) × (found.number ≡ source)) ⊎ ((nat_eq found.number source ≡ false) × (found.number ≢ source)) → records_from found.number (length l) more ≡ []
@@ -209,7 +209,7 @@ module _ (l more : Log) where
           here found.number (itself found.number ts)
 
   kept_step : (source : ℕ) (d : Doing) (ts : List ℕ) → GivesNone (in_front (looked_by l source d) ts) → IsKept l more source d
-  kept_step source (leaf kind.Table said) ts none = λ found at other. kept_found source found ts (subst (λ (o : Option Numbered). GivesNone (in_front (other_than source o) ts)) at none) other
+  kept_step source (leaf kind.Table said) ts none = λ found at other. kept_found source found ts (subst (λ (o : Option NumberedTable). GivesNone (in_front (other_than source o) ts)) at none) other
   kept_step source (leaf kind.View said) ts none = tt
   kept_step source (leaf kind.Part said) ts none = tt
   kept_step source (one_row es) ts none = tt

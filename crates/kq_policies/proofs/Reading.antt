@@ -4,14 +4,14 @@ use Rattle.std.proofs.lemmas.Bool.{false≢true}
 use Rattle.std.proofs.lemmas.List.Elements.{All-contains_itself, All-cons, All-head, All-nil, All-tail}
 use Rattle.std.proofs.lemmas.Map.Made.{Contains-tail}
 use Rattle.std.proofs.lemmas.Slice.Eq.{bytes_eq-Decides}
-use Rattle.kq_model.specs.History.{Log, Numbered, table_numbered, tables}
+use Rattle.kq_model.specs.History.{Log, NumberedTable, table_numbered, tables}
 use Rattle.kq_model.specs.Lawful.{tables_known}
 use Rattle.kq_model.proofs.Entered.{IsReadable, IsReadable-later}
 use Rattle.kq_plan.specs.declared.names.NameKind.{NameKind}
 use Rattle.kq_plan.specs.declared.names.NameKind.TheVariants as name
 use Rattle.kq_plan.specs.declared.work.LeafKind.{LeafKind}
 use Rattle.kq_plan.specs.declared.work.LeafKind.TheVariants as kind
-use Rattle.kq_plan.specs.Fits.{FitAfter, Fits, FitsLeaf, FitsStep}
+use Rattle.kq_plan.specs.Fits.{FitAfter, FitsNames, FitsLeaf, FitsStep}
 use Rattle.kq_plan.specs.Names.{Known}
 use Rattle.kq_plan.specs.Plans.{Doing, Planned, Stepping, leaf, one_row, numbers, written, scalar, kept, mapped, cut, counted, sorted, topped, apart, summarized, joined, united, expanded}
 use Rattle.kq_value.specs.declared.schema.Field.{Field}
@@ -182,8 +182,8 @@ after_fits known other before (s ∷ steps) own fits = (
 )
 
 -- a plan that fitted the tables of some time fits them later, each with the columns that it reads
-pub Fits-later : (since rest : Log) (p : Planned) (columns : List Field) → Fits (tables_known since) p columns → Fits (known_as_read (since ++ rest) p) p columns
-Fits-later since rest p columns fits =
+pub FitsNames-later : (since rest : Log) (p : Planned) (columns : List Field) → FitsNames (tables_known since) p columns → FitsNames (known_as_read (since ++ rest) p) p columns
+FitsNames-later since rest p columns fits =
     let fit = leaves_fit (tables_known since) [] p.steps fits.steps in
     record {
       steps = after_fits (tables_known since) (known_as_read (since ++ rest) p) [] p.steps (each_later since rest p fit p.steps (All-contains_itself p.steps) fit) fits.steps;
@@ -192,13 +192,13 @@ Fits-later since rest p columns fits =
 
 -- ---- a leaf
 
-first_found : (l : Log) (said : List ℕ) (n : ℕ) (cs : List Field) (found : Option Numbered) → table_numbered said (tables l) ≡ found → option_map (known_first n) found ≡ as_table cs → IsFirstOf l said cs
+first_found : (l : Log) (said : List ℕ) (n : ℕ) (cs : List Field) (found : Option NumberedTable) → table_numbered said (tables l) ≡ found → option_map (known_first n) found ≡ as_table cs → IsFirstOf l said cs
 first_found l said n cs None at is = cc
 first_found l said n cs (Some f) at is =
     let same : take n f.table.schema ≡ cs = ap columns_known is in
     record { found = f; finds = at; first = sym same ∙ first_of n f.table.schema ∙ ap (λ (fs : List Field). take (length fs) f.table.schema) same }
 
-no_view : (n : ℕ) (cs : List Field) (found : Option Numbered) → option_map (known_first n) found ≡ as_view cs → ⊥
+no_view : (n : ℕ) (cs : List Field) (found : Option NumberedTable) → option_map (known_first n) found ≡ as_view cs → ⊥
 no_view n cs None is = cc
 no_view n cs (Some f) is = no_table cs (take n f.table.schema) (sym is)
 

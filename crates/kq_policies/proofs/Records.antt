@@ -13,7 +13,7 @@ use Rattle.kq_lent.specs.Lent.{AreLent, rows_held}
 use Rattle.kq_model.specs.declared.table.Table.{Table}
 use Rattle.kq_model.specs.Beside.{TableBeside, cut_to, rows_beside}
 use Rattle.kq_model.specs.Derived.{Row}
-use Rattle.kq_model.specs.History.{History, Log, Numbered, log, table_numbered, tables}
+use Rattle.kq_model.specs.History.{History, Log, NumberedTable, log, table_numbered, tables}
 use Rattle.kq_model.specs.Records.{records, rows_in, schema_of}
 use Rattle.kq_model.proofs.Tables.{table_numbered-at}
 use Rattle.kq_rows.specs.Chunks.{same_width}
@@ -109,15 +109,15 @@ some_same : {X : Type 0} {x z : X} → Some x ≡ Some z → x ≡ z
 some_same h = cc
 
 -- it gives the rows of the batch, cut to its first columns
-pub source_beside : (l : Log) (source : ℕ) (batch : List Row) (said : List ℕ) (columns : List Field) (n : Numbered) → table_numbered said (tables l) ≡ Some n → IsFirstOf l said columns → n.number ≡ source → All (HasTypes (schema_of l source)) batch
+pub source_beside : (l : Log) (source : ℕ) (batch : List Row) (said : List ℕ) (columns : List Field) (n : NumberedTable) → table_numbered said (tables l) ≡ Some n → IsFirstOf l said columns → n.number ≡ source → All (HasTypes (schema_of l source)) batch
     → TableBeside l source batch columns (table_numbered said (tables l)) (Is (map (take (length columns)) batch))
 source_beside l source batch said columns n finds first own typed =
     let found : first.found ≡ n = some_same (sym first.finds ∙ finds) in
     let schema : schema_of l source ≡ n.table.schema = ap (schema_of l) (sym own) ∙ schema_at l n.number n.table (table_numbered-at said (tables l) n finds).1 in
-    let is : columns ≡ take (length columns) (schema_of l source) = first.first ∙ ap (λ (f : Numbered). take (length columns) f.table.schema) found ∙ ap (take (length columns)) (sym schema) in
+    let is : columns ≡ take (length columns) (schema_of l source) = first.first ∙ ap (λ (f : NumberedTable). take (length columns) f.table.schema) found ∙ ap (take (length columns)) (sym schema) in
     let cut = map (take (length columns)) batch in
     let rows : rows_beside l source batch n.number ≡ batch = ap (λ b. cond b batch (map row_of (records l n.number))) (eq-eqb n.number source own) in
-    subst (λ (o : Option Numbered). TableBeside l source batch columns o (Is cut)) (sym finds) (
+    subst (λ (o : Option NumberedTable). TableBeside l source batch columns o (Is cut)) (sym finds) (
       subst (λ (rs : List Row). Same cut (cut_to columns rs)) (sym rows) (Same-refl cut),
       subst (λ (fs : List Field). All (HasTypes fs) cut) (sym is) (all_typed_take (length columns) (schema_of l source) batch typed),
     )

@@ -9,7 +9,7 @@ use Rattle.kq_model.specs.declared.event.Operation.TheVariants as operations
 use Rattle.kq_model.specs.declared.policy.Due.{Due}
 use Rattle.kq_model.specs.declared.policy.Entry.{Entry}
 use Rattle.kq_model.specs.Force.{policy_at}
-use Rattle.kq_model.specs.History.{History, Log, Numbered, table_numbered, tables}
+use Rattle.kq_model.specs.History.{History, Log, NumberedTable, table_numbered, tables}
 use Rattle.kq_model.specs.Policies.{policies}
 use Rattle.kq_plan.specs.declared.work.LeafKind.TheVariants as kind
 use Rattle.kq_plan.specs.Plans.{Doing, Stepping, leaf, planned_of}
@@ -17,7 +17,7 @@ use Rattle.kq_plan.specs.Plans.{Doing, Stepping, leaf, planned_of}
 -- ---- the tables that queries look into
 
 -- a table is looked into unless it is the source, whose batch the query is run for
-abbrev pub other_than : ℕ → Option Numbered → Option ℕ
+abbrev pub other_than : ℕ → Option NumberedTable → Option ℕ
 other_than source None = None
 other_than source (Some found) = if nat_eq found.number source then None else Some found.number
 

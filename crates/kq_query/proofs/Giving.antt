@@ -18,7 +18,7 @@ use Rattle.kq_pipe.specs.Outcomes.{Row, is_fault}
 use Rattle.kq_pipe.specs.Typed.{TypedWorld}
 use Rattle.kq_plan.specs.declared.names.NameKind.TheVariants as name
 use Rattle.kq_plan.specs.declared.work.LeafKind.TheVariants as kind
-use Rattle.kq_plan.specs.Fits.{Fits, columns_given}
+use Rattle.kq_plan.specs.Fits.{FitsNames, columns_given}
 use Rattle.kq_plan.specs.Plans.{Doing, Planned, Stepping, leaf, summarized}
 use Rattle.kq_value.specs.declared.schema.Field.{Field}
 use Rattle.kq_value.specs.Same.{Same}
@@ -74,7 +74,7 @@ rows_of_groups s groups = by_doing s.doing groups refl
     by_doing d is same = absurd (false≢true is)
 
 module _ (table : List ℕ) (columns : List Field) (p : Planned) (body : IsBody table columns p) where
-  body_fits : Fits (known_alone columns) p (columns_made p)
+  body_fits : FitsNames (known_alone columns) p (columns_made p)
   body_fits =
       let output : slice_get p.steps p.output ≡ Some body.last =
       ap (λ (ss : List Stepping). slice_get ss p.output) body.steps

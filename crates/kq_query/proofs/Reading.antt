@@ -10,7 +10,7 @@ use Rattle.kq_extent.specs.Wide.{wide_held}
 use Rattle.kq_grouping.specs.Bodies.{columns_made}
 use Rattle.kq_lent.specs.Lent.{AreLent, rows_held}
 use Rattle.kq_model.specs.declared.table.Table.{Table}
-use Rattle.kq_model.specs.History.{History, Numbered, log, tables}
+use Rattle.kq_model.specs.History.{History, NumberedTable, log, tables}
 use Rattle.kq_model.specs.Records.{records, rows_in, schema_of}
 use Rattle.kq_pipe.specs.declared.outcome.Outcome.{Outcome}
 use Rattle.kq_pipe.specs.declared.outcome.Outcome.TheVariants as outcome
@@ -25,7 +25,7 @@ use Rattle.kq_value.specs.declared.value.Value.{Value}
 use Rattle.kq_value.specs.Same.{Same}
 use Rattle.kq_value.specs.Typed.{HasTypes}
 use Rattle.kq_value.proofs.SameLemmas.{Same-from_permutation}
-use Rattle.kq_query.specs.Views.{Tells}
+use Rattle.kq_query.specs.Views.{TellsRows}
 use Rattle.kq_query.specs.Worlds.{FoundGives, MayGive, NumberedView, TableGives, known_in, known_table, known_view, table_found, view_found}
 use Rattle.kq_query.proofs.Known.{other_kind, same_columns}
 
@@ -54,25 +54,25 @@ typed_held schema h number held same typed =
 pub same_held : (h : History) (number : ℕ) (held : List Record) → IsPermutation held (records (log h) number) → Same (map row_of held) (rows_in h number)
 same_held h number held same = Same-from_permutation (map row_of held) (rows_in h number) (IsPermutation-map row_of held (records (log h) number) same)
 
-pub given_held : {E : Type 0} (h : History) (found : Numbered) (held : List Record) (r : Result (List (List Value)) E) → IsPermutation held (records (log h) found.number)
+pub given_held : {E : Type 0} (h : History) (found : NumberedTable) (held : List Record) (r : Result (List (List Value)) E) → IsPermutation held (records (log h) found.number)
     → All (HasTypes found.table.schema) (rows_in h found.number) → IfOk r (λ rows. rows ≡ map row_of held) → IfOk r (λ rows. TableGives h (Some found) (Is rows))
 given_held h found held (Ok rows) same typed is = rw is (same_held h found.number held same, typed_held found.table.schema h found.number held same typed)
 given_held h found held (Err e) same typed is = is
 
 -- ---- the world's rows have the types of their names
 
-table_typed : (h : History) (o : Option Numbered) (v : Option NumberedView) (cs : List Field) (rows : List (List Value)) → option_or (option_map known_table o) (option_map known_view v) ≡ Some (name.Table, cs) → TableGives h o (Is rows)
+table_typed : (h : History) (o : Option NumberedTable) (v : Option NumberedView) (cs : List Field) (rows : List (List Value)) → option_or (option_map known_table o) (option_map known_view v) ≡ Some (name.Table, cs) → TableGives h o (Is rows)
     → All (HasTypes cs) rows
 table_typed h (Some found) v cs rows fits gives = subst (λ (fs : List Field). All (HasTypes fs) rows) (same_columns name.Table found.table.schema cs fits) gives.1
 table_typed h None v cs rows fits gives = absurd gives
 
-told_typed : (cs : List Field) (o : Outcome) (rows : List (List Value)) → Tells cs o (Is rows) → All (HasTypes cs) rows
+told_typed : (cs : List Field) (o : Outcome) (rows : List (List Value)) → TellsRows cs o (Is rows) → All (HasTypes cs) rows
 told_typed cs (outcome.Table ordered given) rows told = let same : rows ≡ given = cc in subst (All (HasTypes cs)) (sym same) told.1
 told_typed cs (outcome.Cell v) rows told = absurd told
 told_typed cs (outcome.Overflow stage) rows told = absurd cc
 told_typed cs (outcome.Full limit) rows told = absurd told
 
-view_typed : (h : History) (k : LeafKind) (o : Option Numbered) (v : Option NumberedView) (cs : List Field) (rows : List (List Value)) → option_or (option_map known_table o) (option_map known_view v) ≡ Some (name.View, cs) → FoundGives h k v (Is rows)
+view_typed : (h : History) (k : LeafKind) (o : Option NumberedTable) (v : Option NumberedView) (cs : List Field) (rows : List (List Value)) → option_or (option_map known_table o) (option_map known_view v) ≡ Some (name.View, cs) → FoundGives h k v (Is rows)
     → All (HasTypes cs) rows
 view_typed h k (Some found) v cs rows fits gives = absurd (other_kind found.table.schema cs fits)
 view_typed h k None (Some found) cs rows fits gives =

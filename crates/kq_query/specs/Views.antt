@@ -38,17 +38,17 @@ abbrev pub alone_world : List Row → World
 alone_world rows said kind columns given = given ≡ Is rows
 
 -- an outcome's rows, which have the types of these columns, or its overflow
-abbrev pub Tells : List Field → Outcome → Computed (List Row) → Type 0
-Tells columns (outcome.Table ordered rows) given = (given ≡ Is rows) × All (HasTypes columns) rows
-Tells columns (outcome.Cell v) given = ⊥
-Tells columns (outcome.Overflow stage) given = given ≡ Overflow
-Tells columns (outcome.Full limit) given = ⊥
+abbrev pub TellsRows : List Field → Outcome → Computed (List Row) → Type 0
+TellsRows columns (outcome.Table ordered rows) given = (given ≡ Is rows) × All (HasTypes columns) rows
+TellsRows columns (outcome.Cell v) given = ⊥
+TellsRows columns (outcome.Overflow stage) given = given ≡ Overflow
+TellsRows columns (outcome.Full limit) given = ⊥
 
 -- what a body may give over rows of its table, or that it may overflow; it asks for no moment
 pub record BodyGives (p : Planned) (rows : List Row) (given : Computed (List Row)) : Type 0 where
   pub outcome : Outcome
   pub gives : Gives p (alone_world rows) (pos 0) outcome
-  pub told : Tells (columns_made p) outcome given
+  pub told : TellsRows (columns_made p) outcome given
 
 -- up to which cursor a leaf reads the records of a view: a part up to the view's cursor, and the view up to the last commit
 abbrev pub up_to : LeafKind → ℕ → ℕ → ℕ

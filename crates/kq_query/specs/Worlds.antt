@@ -4,7 +4,7 @@ use Rattle.std.specs.Option.{option_and_then, option_map, option_or}
 use Rattle.kq_computed.specs.Computed.{Computed, Is, Overflow}
 use Rattle.kq_grouping.specs.Bodies.{columns_made}
 use Rattle.kq_model.specs.declared.view.View.{View}
-use Rattle.kq_model.specs.History.{History, Numbered, log, names_of_views, tables, table_numbered, views}
+use Rattle.kq_model.specs.History.{History, NumberedTable, log, names_of_views, tables, table_numbered, views}
 use Rattle.kq_model.specs.Records.{rows_in}
 use Rattle.kq_names.specs.Places.{place_of}
 use Rattle.kq_plan.specs.declared.names.NameKind.TheVariants as name
@@ -20,7 +20,7 @@ use Rattle.kq_query.specs.Views.{ViewGives, view_numbered}
 
 -- ---- what names stand for
 
-abbrev pub table_found : History → List ℕ → Option Numbered
+abbrev pub table_found : History → List ℕ → Option NumberedTable
 table_found h said = table_numbered said (tables (log h))
 
 -- a view and its number
@@ -37,7 +37,7 @@ view_at h number = option_map (with_number number) (view_numbered h number)
 abbrev pub view_found : History → List ℕ → Option NumberedView
 view_found h said = option_and_then (view_at h) (place_of said (names_of_views (views (log h))))
 
-abbrev pub known_table : Numbered → Known
+abbrev pub known_table : NumberedTable → Known
 known_table found = (name.Table, found.table.schema)
 
 abbrev pub known_view : NumberedView → Known
@@ -50,7 +50,7 @@ known_in h said = option_or (option_map known_table (table_found h said)) (optio
 -- ---- what they give
 
 -- a table gives its rows in any order, and they have the types of its columns; what is no table gives nothing
-abbrev pub TableGives : History → Option Numbered → Computed (List (List Value)) → Type 0
+abbrev pub TableGives : History → Option NumberedTable → Computed (List (List Value)) → Type 0
 TableGives h (Some found) (Is rows) = Same rows (rows_in h found.number) × All (HasTypes found.table.schema) rows
 TableGives h (Some found) Overflow = ⊥
 TableGives h None given = ⊥

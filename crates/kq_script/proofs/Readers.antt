@@ -5,7 +5,7 @@ use Rattle.std.proofs.lemmas.Bool.Decides.{nat_tests}
 use Rattle.kq_script.specs.Script.{Block, Script, script_blocks, block_of, is_blank}
 use Rattle.kq_script.specs.Item.{IsItemOf}
 use Rattle.kq_script.specs.Open.{IsOpen, AreItem, open_run, open_line}
-use Rattle.kq_script.specs.Reading.{IsPrefix, IsReading, GoesOn, Outcome, ReadsItem}
+use Rattle.kq_script.specs.Reading.{IsPrefix, IsReading, IsUnclosed, Outcome, ReadsItem}
 use Rattle.kq_script.specs.State.{IsAt, unread, HasLooked, HasEnded, GivesLast, IsDrained, IsAtEnd}
 use Rattle.kq_world.specs.Told.{Loses, IsEmpty}
 use Rattle.kq_world.specs.Outside.{SourceView, Delivers, DeliversFront}
@@ -339,5 +339,5 @@ Outcome-block command input Lost reader first source taken given more h = h
 Outcome-block command input Finished reader first source taken given more h = absurd (more refl)
 
 -- a reader that has taken and given may be called again
-pub GoesOn-reading : (command input : ℕ) (reader : ScriptReader) (first source : SourceView) (taken : List ℕ) (given : List Block) → IsReading command input reader first source taken given → GoesOn reader
-GoesOn-reading command input reader first source taken given h = λ closed. subst (λ p. IsAt p command input reader first source taken given) closed h.state
+pub IsUnclosed-reading : (command input : ℕ) (reader : ScriptReader) (first source : SourceView) (taken : List ℕ) (given : List Block) → IsReading command input reader first source taken given → IsUnclosed reader
+IsUnclosed-reading command input reader first source taken given h = λ closed. subst (λ p. IsAt p command input reader first source taken given) closed h.state

@@ -4,7 +4,7 @@ use Rattle.std.specs.List.{flat_map, slice_split}
 use Rattle.std.proofs.lemmas.List.{take_more}
 use Rattle.std.proofs.lemmas.List.Concat.{flat_map-append}
 use Rattle.kq_script.specs.Script.{Block, is_line_end, is_blank, block_of, all_but_last, lines_of, runs_of, script_blocks}
-use Rattle.kq_script.specs.Open.{IsOpen, AreItem, Adds, AppendsItem, last_of, open_line, open_run}
+use Rattle.kq_script.specs.Open.{IsOpen, AreItem, AddsByte, AppendsItem, last_of, open_line, open_run}
 use Rattle.kq_script.specs.Reading.{IsPrefix}
 use Rattle.kq_script.specs.declared.block.OpenBlock.{OpenBlock}
 use Rattle.kq_script.specs.declared.item.Item.{Item}
@@ -69,13 +69,13 @@ adds_by limit block bytes b item false blank e f h =
     (moved block (open_run bytes) (open_run (bytes ++ b ∷ [])) (open_line bytes ++ b ∷ []) (open_line (bytes ++ b ∷ [])) run (last-push_no is_line_end bytes b e) h.0, ([], no_item limit item h.1, push_by limit bytes b false blank e f))
 
 -- one byte more, from lines and runs to the script
-pub adds : (limit : ℕ) (block : OpenBlock) (bytes : List ℕ) (b : ℕ) (item : Option Item) → Adds limit block (open_run bytes) (open_line bytes) b item
+pub adds : (limit : ℕ) (block : OpenBlock) (bytes : List ℕ) (b : ℕ) (item : Option Item) → AddsByte limit block (open_run bytes) (open_line bytes) b item
     → IsOpen block (open_run (bytes ++ b ∷ [])) (open_line (bytes ++ b ∷ [])) × AppendsItem limit item (script_blocks limit bytes false) (script_blocks limit (bytes ++ b ∷ []) false)
 adds limit block bytes b item h = adds_by limit block bytes b item (is_line_end b) (is_blank (open_line bytes)) refl refl h
 
 -- the next of some bytes
 pub adds_next : (limit : ℕ) (block : OpenBlock) (looked bytes : List ℕ) (i : ℕ) (item : Option Item) → i < length bytes → script_blocks limit (looked ++ take i bytes) false ≡ script_blocks limit looked false
-    → Adds limit block (open_run (looked ++ take i bytes)) (open_line (looked ++ take i bytes)) (get_or bytes i 0) item
+    → AddsByte limit block (open_run (looked ++ take i bytes)) (open_line (looked ++ take i bytes)) (get_or bytes i 0) item
     → IsOpen block (open_run (looked ++ take (i + 1) bytes)) (open_line (looked ++ take (i + 1) bytes)) × AppendsItem limit item (script_blocks limit looked false) (script_blocks limit (looked ++ take (i + 1) bytes) false)
 adds_next limit block looked bytes i item lt same h =
     let more : looked ++ take (i + 1) bytes ≡ (looked ++ take i bytes) ++ get_or bytes i 0 ∷ [] = ap (λ t. looked ++ t) (take_more bytes i 0 lt) ∙ sym (append_assoc looked (take i bytes) (get_or bytes i 0 ∷ [])) in

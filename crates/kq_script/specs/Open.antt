@@ -39,8 +39,8 @@ AreItem limit (Some item) blocks = (block : Block) × IsItemOf limit item block 
 
 -- one byte more: an LF ends the line. It joins the whole lines, or, where it is blank, their block is given and all
 -- starts anew
-abbrev pub Adds : ℕ → OpenBlock → List (List ℕ) → List ℕ → ℕ → Option Item → Type 0
-Adds limit block run line byte item =
+abbrev pub AddsByte : ℕ → OpenBlock → List (List ℕ) → List ℕ → ℕ → Option Item → Type 0
+AddsByte limit block run line byte item =
     MatchBool (is_line_end byte)
     (MatchBool (is_blank line)
     (IsOpen block [] [] × AreItem limit item (block_of limit run))

@@ -16,8 +16,8 @@ abbrev pub IsPrefix : {X : Type 0} → List X → List X → Type 0
 IsPrefix {X} front whole = (more : List X) × (whole ≡ front ++ more)
 
 -- neither a fault nor the end was answered before
-abbrev pub GoesOn : ScriptReader → Type 0
-GoesOn reader = reader.phase ≢ phases.Closed
+abbrev pub IsUnclosed : ScriptReader → Type 0
+IsUnclosed reader = reader.phase ≢ phases.Closed
 
 -- a reader with these limits has taken these bytes from a source that told this at first and tells this now, and has given
 -- these blocks. They begin the script's blocks, among which the last one counts only where the end was read

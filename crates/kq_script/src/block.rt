@@ -30,7 +30,7 @@ pub struct OpenBlock {
 
 impl OpenBlock {
     ghost use Rattle.kq_script.specs.Script.{block_of, is_blank, script_blocks};
-    ghost use Rattle.kq_script.specs.Open.{IsOpen, AreItem, Adds, AppendsItem, open_run, open_line};
+    ghost use Rattle.kq_script.specs.Open.{IsOpen, AreItem, AddsByte, AppendsItem, open_run, open_line};
 
     pub fn new(alloc: Global, limit: u64) -> OpenBlock
         ensures limit { result.limit ≡ limit }
@@ -55,7 +55,7 @@ impl OpenBlock {
         ensures limit { self.new.limit ≡ self.old.limit }
         ensures count { self.new.count ≤ self.old.count + 1 }
         ensures adds { (run : List (List ℕ)) (line : List ℕ) → IsOpen self.old run line
-            → Adds self.old.limit self.new run line byte result }
+            → AddsByte self.old.limit self.new run line byte result }
     {
         if byte != LF {
             self.put(byte);

@@ -45,13 +45,13 @@ pub struct ScriptReader {
 
 impl ScriptReader {
     ghost use Rattle.kq_script.specs.Script.{Block};
-    ghost use Rattle.kq_script.specs.Reading.{IsReading, GoesOn, ReadsItem, CausedBy};
+    ghost use Rattle.kq_script.specs.Reading.{IsReading, IsUnclosed, ReadsItem, CausedBy};
     ghost use Rattle.kq_script.specs.State.{HasLooked, GivesLast, unread};
     ghost use Rattle.kq_script.specs.Open.{AreItem};
 
     /// A reader of commands of at most `command` bytes that takes at most `input` bytes.
     pub fn new(alloc: Global, command: u64, input: u64) -> Result<ScriptReader, Memory>
-        ensures goes_on { IfOk result GoesOn }
+        ensures goes_on { IfOk result IsUnclosed }
         ensures reading { IfOk result (λ reader. (source : SourceView) → IsReading command input reader source source [] []) }
     {
         let piece = vec![in alloc; 0; PIECE]?;
@@ -69,9 +69,9 @@ impl ScriptReader {
     /// The next thing in the script. The source is read only where no closed block is left, a piece of at most 4096
     /// bytes at a time. After a fault or `Finished` the reader isn't to be called again.
     pub fn next_command<S: Source>(&mut self, source: &mut S) -> Result<Item, ScriptFault>
-        requires { GoesOn self.old }
+        requires { IsUnclosed self.old }
         ensures cause { CausedBy (S.faults source.old) (S.faults source.new) result }
-        ensures goes_on { IfOk result (λ item. item ≢ Item.Finished → GoesOn self.new) }
+        ensures goes_on { IfOk result (λ item. item ≢ Item.Finished → IsUnclosed self.new) }
         ensures reads { (command input : ℕ) (first : SourceView) (taken : List ℕ) (given : List Block)
             → IsReading command input self.old first (S.told source.old) taken given
             → ReadsItem command input result self.new first (S.told source.old) (S.told source.new) taken given }
@@ -90,7 +90,7 @@ impl ScriptReader {
     fn read_on<S: Source>(&mut self, source: &mut S) -> Result<Item, ScriptFault>
         requires { self.old.phase ≡ Phase.Reading }
         ensures cause { CausedBy (S.faults source.old) (S.faults source.new) result }
-        ensures goes_on { IfOk result (λ item. item ≢ Item.Finished → GoesOn self.new) }
+        ensures goes_on { IfOk result (λ item. item ≢ Item.Finished → IsUnclosed self.new) }
         ensures reads { (command input : ℕ) (first : SourceView) (taken : List ℕ) (given : List Block)
             → IsReading command input self.old first (S.told source.old) taken given
             → ReadsItem command input result self.new first (S.told source.old) (S.told source.new) taken given }

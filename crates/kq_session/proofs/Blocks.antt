@@ -19,10 +19,10 @@ use Rattle.kq_engine.specs.Shared.{PassView, Applies}
 use Rattle.kq_script.specs.Script.{Block, command, too_long}
 use Rattle.kq_engine.proofs.Advancing.{Fits-append}
 use Rattle.kq_engine.proofs.Telling.{refused_still, still_names}
-use Rattle.kq_session.specs.Blocks.{Refuses, FitsRead, FitsBlock, Steps, is_early, refusal_of}
+use Rattle.kq_session.specs.Blocks.{RefusesAlone, FitsRead, FitsBlock, AnswersBlock, is_early, refusal_of}
 
-Refuses-append : (h more : History) (place : ℕ) (own : Bool) (reply : Reply) (r : Refusal) → Refuses h place own reply r → Refuses (h ++ more) place own reply r
-Refuses-append h more place own reply r refuses = record {
+RefusesAlone-append : (h more : History) (place : ℕ) (own : Bool) (reply : Reply) (r : Refusal) → RefusesAlone h place own reply r → RefusesAlone (h ++ more) place own reply r
+RefusesAlone-append h more place own reply r refuses = record {
   within = omega (arith, refuses.within, length-append h more);
   not_own = refuses.not_own;
   reason = refuses.reason;
@@ -30,7 +30,7 @@ Refuses-append h more place own reply r refuses = record {
 
 FitsRead-append : (limits : Limits) (h more : History) (request : By) (read : Result Command CommandFault) (now : ℤ) (place : ℕ) (own : Bool) (reply : Reply) → FitsRead limits h request read now place own reply → FitsRead limits (h ++ more) request read now place own reply
 FitsRead-append limits h more request (Ok asked) now place own reply fits = Fits-append limits h more request asked now place own reply fits
-FitsRead-append limits h more request (Err fault) now place own reply fits = Refuses-append h more place own reply (refusal_of fault) fits
+FitsRead-append limits h more request (Err fault) now place own reply fits = RefusesAlone-append h more place own reply (refusal_of fault) fits
 
 -- what fits a history fits each that begins with it
 pub FitsBlock-append : (limits : Limits) (h more : History) (request : By) (block : Block) (now : ℤ) (place : ℕ) (own : Bool) (reply : Reply) → FitsBlock limits h request block now place own reply → FitsBlock limits (h ++ more) request block now place own reply
@@ -46,8 +46,8 @@ FitsBlock-append limits h more request (too_long bytes) now place own reply fits
 }
 
 -- nothing was asked of the engine
-pub Steps-refused : (limits : Limits) (p : PassView) (by : By) (block : Block) (now : ℤ) (r : Refusal) (outcome : Outcome) → outcome ≡ record { place = length p.seen; own = false; reply = replies.Refused r } → is_early (number_of r) ≡ true → FitsBlock limits p.seen by block now (length p.seen) false (replies.Refused r) → Steps limits p p by block now outcome
-Steps-refused limits p by block now r outcome is early fits = subst (λ (o : Outcome). Steps limits p p by block now o) (sym is) (record {
+pub AnswersBlock-refused : (limits : Limits) (p : PassView) (by : By) (block : Block) (now : ℤ) (r : Refusal) (outcome : Outcome) → outcome ≡ record { place = length p.seen; own = false; reply = replies.Refused r } → is_early (number_of r) ≡ true → FitsBlock limits p.seen by block now (length p.seen) false (replies.Refused r) → AnswersBlock limits p p by block now outcome
+AnswersBlock-refused limits p by block now r outcome is early fits = subst (λ (o : Outcome). AnswersBlock limits p p by block now o) (sym is) (record {
   of = refl;
   worth = refl;
   seen = IsPrefix-refl p.seen;
@@ -69,28 +69,28 @@ early (Unsupported at) = refl
 early Memory = refl
 
 -- a text that was refused
-pub Steps-text : (limits : Limits) (p : PassView) (by : By) (text : List ℕ) (now : ℤ) (f : CommandFault) (outcome : Outcome) → outcome ≡ record { place = length p.seen; own = false; reply = replies.Refused (refusal_of f) } → ReadsAs text (Err f) → Steps limits p p by (command text) now outcome
-Steps-text limits p by text now f outcome is reads = Steps-refused limits p by (command text) now (refusal_of f) outcome is (early f) (record {
+pub AnswersBlock-text : (limits : Limits) (p : PassView) (by : By) (text : List ℕ) (now : ℤ) (f : CommandFault) (outcome : Outcome) → outcome ≡ record { place = length p.seen; own = false; reply = replies.Refused (refusal_of f) } → ReadsAs text (Err f) → AnswersBlock limits p p by (command text) now outcome
+AnswersBlock-text limits p by text now f outcome is reads = AnswersBlock-refused limits p by (command text) now (refusal_of f) outcome is (early f) (record {
   read = Err f;
   reads = reads;
   fits = record { within = omega arith; not_own = refl; reason = inl refl };
 })
 
 -- a block that was too long
-pub Steps-long : (limits : Limits) (p : PassView) (by : By) (bytes : ℕ) (now : ℤ) (outcome : Outcome) → outcome ≡ record { place = length p.seen; own = false; reply = replies.Refused (refusals.TooLong bytes) } → Steps limits p p by (too_long bytes) now outcome
-Steps-long limits p by bytes now outcome is = Steps-refused limits p by (too_long bytes) now (refusals.TooLong bytes) outcome is refl (record { within = omega arith; not_own = refl; refused = refl })
+pub AnswersBlock-long : (limits : Limits) (p : PassView) (by : By) (bytes : ℕ) (now : ℤ) (outcome : Outcome) → outcome ≡ record { place = length p.seen; own = false; reply = replies.Refused (refusals.TooLong bytes) } → AnswersBlock limits p p by (too_long bytes) now outcome
+AnswersBlock-long limits p by bytes now outcome is = AnswersBlock-refused limits p by (too_long bytes) now (refusals.TooLong bytes) outcome is refl (record { within = omega arith; not_own = refl; refused = refl })
 
 -- want of memory fits every text
-pub Steps-memory : (limits : Limits) (p : PassView) (by : By) (text : List ℕ) (now : ℤ) (outcome : Outcome) → outcome ≡ record { place = length p.seen; own = false; reply = replies.Refused refusals.Memory } → Steps limits p p by (command text) now outcome
-Steps-memory limits p by text now outcome is = Steps-refused limits p by (command text) now refusals.Memory outcome is refl (record {
+pub AnswersBlock-memory : (limits : Limits) (p : PassView) (by : By) (text : List ℕ) (now : ℤ) (outcome : Outcome) → outcome ≡ record { place = length p.seen; own = false; reply = replies.Refused refusals.Memory } → AnswersBlock limits p p by (command text) now outcome
+AnswersBlock-memory limits p by text now outcome is = AnswersBlock-refused limits p by (command text) now refusals.Memory outcome is refl (record {
   read = Err Memory;
   reads = tt;
   fits = record { within = omega arith; not_own = refl; reason = inr refl };
 })
 
 -- the engine answered the command that the text reads as
-pub Steps-applied : (limits : Limits) (old new : PassView) (work : Work) (text : List ℕ) (outcome : Outcome) → ReadsAs text (Ok work.command) → Applies limits old new work outcome → Steps limits old new work.by (command text) work.now outcome
-Steps-applied limits old new work text outcome reads applies = record {
+pub AnswersBlock-applied : (limits : Limits) (old new : PassView) (work : Work) (text : List ℕ) (outcome : Outcome) → ReadsAs text (Ok work.command) → Applies limits old new work outcome → AnswersBlock limits old new work.by (command text) work.now outcome
+AnswersBlock-applied limits old new work text outcome reads applies = record {
   of = applies.of;
   worth = applies.worth;
   seen = applies.seen;

@@ -22,8 +22,8 @@ use Rattle.kq_engine.proofs.Accepting.{Accept-commit}
 use Rattle.kq_session.specs.declared.end.End.{End}
 use Rattle.kq_session.specs.declared.end.End.TheVariants.{Finished, Short, SourceFault, SinkFault, InputLimit}
 use Rattle.kq_session.specs.declared.receipt.Receipt.{Receipt}
-use Rattle.kq_session.specs.Blocks.{FitsRead, FitsBlock, Refuses, refusal_of}
-use Rattle.kq_session.specs.Complete.{AreAllBlocks, Completes, IsComplete, IsRefused, IsServed, IsValid}
+use Rattle.kq_session.specs.Blocks.{FitsRead, FitsBlock, RefusesAlone, refusal_of}
+use Rattle.kq_session.specs.Complete.{AreAllBlocks, CompletesSession, IsComplete, IsRefusedBlock, IsServed, IsValid}
 use Rattle.kq_session.specs.Ends.{status_of, wants_memory}
 use Rattle.kq_session.specs.Objects.{Objects, SessionView}
 use Rattle.kq_session.specs.Session.{Exchange, AreExchanges, SessionEnds, Explained, blocks_of, texts_of, input_bytes}
@@ -52,7 +52,7 @@ same_refusal : (r q : Refusal) → replies.Refused r ≡ replies.Refused q → r
 same_refusal r q e = cc
 
 -- a refusal of a text alone
-refused_alone : (limits : Limits) (answers h : History) (now : ℤ) (block : Block) (place : ℕ) (own : Bool) (reply : Reply) (r : Refusal) → IsValid limits answers now block → ((q : Refusal) → q ≡ r → IsRefused limits answers now block q) → Refuses h place own reply r → IsGranted reply
+refused_alone : (limits : Limits) (answers h : History) (now : ℤ) (block : Block) (place : ℕ) (own : Bool) (reply : Reply) (r : Refusal) → IsValid limits answers now block → ((q : Refusal) → q ≡ r → IsRefusedBlock limits answers now block q) → RefusesAlone h place own reply r → IsGranted reply
 refused_alone limits answers h now block place own reply r valid due refuses = granted reply (λ q is. by_reason q is refuses.reason)
   where
     by_reason : (q : Refusal) → reply ≡ replies.Refused q → (reply ≡ replies.Refused r) ⊎ (reply ≡ replies.Refused refusals.Memory) → q ≡ refusals.Memory
@@ -126,8 +126,8 @@ complete_by limits h actor before s InputLimit ends is source sink few =
     let all = ap length ends.gave.taken in
     absurd (omega (arith, all, length-append before.contents.source.taken ends.bytes, ends.blocks.1, few))
 
-pub Completes-explained : (limits : Limits) (h : History) (actor : ℕ) (before : Objects) (s : SessionView) → Explained limits h actor before.contents s → Rises before.source_faults s.objects.source_faults (s.status ≡ 3) → Rises before.sink_faults s.objects.sink_faults (s.status ≡ 4) → Completes limits h actor before s
-Completes-explained limits h actor before s explained source sink untroubled =
+pub CompletesSession-explained : (limits : Limits) (h : History) (actor : ℕ) (before : Objects) (s : SessionView) → Explained limits h actor before.contents s → Rises before.source_faults s.objects.source_faults (s.status ≡ 3) → Rises before.sink_faults s.objects.sink_faults (s.status ≡ 4) → CompletesSession limits h actor before s
+CompletesSession-explained limits h actor before s explained source sink untroubled =
     complete_by limits h actor before s explained.end explained.ends explained.by_end (λ e. untroubled.source (source.rose e)) (λ e. untroubled.sink (sink.rose e)) untroubled.few
 
 -- ---- faults and statuses

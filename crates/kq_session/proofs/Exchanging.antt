@@ -6,7 +6,7 @@ use Rattle.kq_world.proofs.Told.{Delivers-none}
 use Rattle.kq_model.specs.declared.event.By.{By}
 use Rattle.kq_model.specs.declared.limits.Limits.{Limits}
 use Rattle.kq_script.specs.Script.{Block, script_blocks}
-use Rattle.kq_script.specs.Reading.{GoesOn as MayGoOn, IsPrefix, IsReading, ReadsItem as ReadsOn}
+use Rattle.kq_script.specs.Reading.{IsUnclosed as MayGoOn, IsPrefix, IsReading, ReadsItem as ReadsOn}
 use Rattle.kq_script.specs.State.{IsAt}
 use Rattle.kq_script.specs.declared.reader.Phase.{Phase}
 use Rattle.kq_script.specs.declared.reader.Phase.TheVariants as phases
@@ -18,7 +18,7 @@ use Rattle.kq_session.specs.declared.end.End.{End}
 use Rattle.kq_session.specs.declared.end.End.TheVariants as ends
 use Rattle.kq_session.specs.declared.receipt.Receipt.{Receipt}
 use Rattle.kq_session.specs.Session.{AreAllAtEnd, AreBlocks, IsLeft, command_bytes, input_bytes}
-use Rattle.kq_session.specs.Exchanges.{State, Progress, IsAfter, Idle, ReadsItem, Replies, Rises, Went}
+use Rattle.kq_session.specs.Exchanges.{State, Progress, IsAfter, Idle, ReadsBlock, Replies, Rises, Went}
 
 -- the session, whose source tells this now, and which keeps these receipts
 abbrev pub read_on : State → SourceView → List Receipt → State
@@ -69,22 +69,22 @@ Idle-read p s now receipts bytes end gave blocks at_end all same = record {
 }
 
 -- an item that isn't the end is a block
-pub ReadsItem-item : (p : Progress) (old now : SourceView) (reader : ScriptReader) (item : Item) → item ≢ Finished → ReadsOn command_bytes input_bytes (Ok item) reader p.first old now p.taken p.given → (block : Block) × IsItemOf command_bytes item block × ReadsItem p old now reader block
-ReadsItem-item p old now reader (Command bytes) not reads = (reads.outcome.0, reads.outcome.1, record { bytes = reads.before ++ reads.last; gave = reads.gives; reading = reads.outcome.2 })
-ReadsItem-item p old now reader (TooLong bytes) not reads = (reads.outcome.0, reads.outcome.1, record { bytes = reads.before ++ reads.last; gave = reads.gives; reading = reads.outcome.2 })
-ReadsItem-item p old now reader Lost not reads = (reads.outcome.0, reads.outcome.1, record { bytes = reads.before ++ reads.last; gave = reads.gives; reading = reads.outcome.2 })
-ReadsItem-item p old now reader Finished not reads = absurd (not refl)
+pub ReadsBlock-item : (p : Progress) (old now : SourceView) (reader : ScriptReader) (item : Item) → item ≢ Finished → ReadsOn command_bytes input_bytes (Ok item) reader p.first old now p.taken p.given → (block : Block) × IsItemOf command_bytes item block × ReadsBlock p old now reader block
+ReadsBlock-item p old now reader (Command bytes) not reads = (reads.outcome.0, reads.outcome.1, record { bytes = reads.before ++ reads.last; gave = reads.gives; reading = reads.outcome.2 })
+ReadsBlock-item p old now reader (TooLong bytes) not reads = (reads.outcome.0, reads.outcome.1, record { bytes = reads.before ++ reads.last; gave = reads.gives; reading = reads.outcome.2 })
+ReadsBlock-item p old now reader Lost not reads = (reads.outcome.0, reads.outcome.1, record { bytes = reads.before ++ reads.last; gave = reads.gives; reading = reads.outcome.2 })
+ReadsBlock-item p old now reader Finished not reads = absurd (not refl)
 
 -- a block that was read and answered
 pub Went-reply : {E : Type 0} (limits : Limits) (by : By) (p : Progress) (s new : State) (reader : ScriptReader) (now : SourceView) (receipts : List Receipt) (item : Item) (result : Result (Unit {0}) E)
     → item ≢ Finished → ReadsOn command_bytes input_bytes (Ok item) reader p.first s.contents.source now p.taken p.given → receipts ≡ s.receipts → new.contents.source ≡ now
     → Replies limits by item (read_on s now receipts) new result → Went limits by p s new reader result
 Went-reply limits by p s new reader now receipts item result not reads same is_now replies =
-    let read = ReadsItem-item p s.contents.source now reader item not reads in
+    let read = ReadsBlock-item p s.contents.source now reader item not reads in
     let done = replies command_bytes read.0 read.1 in
     record {
       block = read.0;
-      reads = subst (λ (v : SourceView). ReadsItem p s.contents.source v reader read.0) (sym is_now) read.2;
+      reads = subst (λ (v : SourceView). ReadsBlock p s.contents.source v reader read.0) (sym is_now) read.2;
       replied = record {
         exchange = done.exchange;
         same_block = done.same_block;

@@ -22,10 +22,10 @@ use Rattle.kq_engine.proofs.Telling.{NamesAll-since}
 use Rattle.kq_session.specs.declared.end.End.{End}
 use Rattle.kq_session.specs.declared.end.End.TheVariants.{Finished, Short, SourceFault, SinkFault, InputLimit}
 use Rattle.kq_session.specs.declared.receipt.Receipt.{Receipt}
-use Rattle.kq_session.specs.Blocks.{FitsBlock, Steps, AreTakes}
+use Rattle.kq_session.specs.Blocks.{FitsBlock, AnswersBlock, AreTakes}
 use Rattle.kq_session.specs.Objects.{SessionView}
-use Rattle.kq_session.specs.Session.{Exchange, IsExchange, ComesAfter, AreExchanges, AreWritten, SessionEnds, Explained, GoesOn, blocks_of, moments_of, texts_of, owns, AreTaken, command_bytes, input_bytes}
-use Rattle.kq_session.specs.Exchanges.{State, Progress, Went, Idle, ExchangeBy, Comes}
+use Rattle.kq_session.specs.Session.{Exchange, IsExchange, ComesAfter, AreExchanges, AreWritten, SessionEnds, Explained, PassGoesOn, blocks_of, moments_of, texts_of, owns, AreTaken, command_bytes, input_bytes}
+use Rattle.kq_session.specs.Exchanges.{State, Progress, Went, Idle, ExchangeBy, SessionComesTo}
 use Rattle.kq_session.proofs.Blocks.{FitsBlock-append}
 use Rattle.kq_session.proofs.Exchanging.{given_at_end, open_still}
 
@@ -70,8 +70,8 @@ owns-push : (receipts : List Receipt) (r : Receipt) → owns (receipts ++ r ∷ 
 owns-push receipts r = sum_by-append (λ (x : Receipt). commit_count x.own) receipts (r ∷ []) ∙ ap (λ (k : ℕ). owns receipts + k) (zero-add (commit_count r.own))
 
 -- no receipt yet
-pub GoesOn-none : (p : PassView) → GoesOn p p []
-GoesOn-none p = record {
+pub PassGoesOn-none : (p : PassView) → PassGoesOn p p []
+PassGoesOn-none p = record {
   of = refl;
   worth = refl;
   seen = IsPrefix-refl p.seen;
@@ -82,8 +82,8 @@ GoesOn-none p = record {
 }
 
 -- one receipt more
-GoesOn-push : (limits : Limits) (first old new : PassView) (by : By) (block : Block) (receipts : List Receipt) (r : Receipt) (reply : Reply) → GoesOn first old receipts → r.kind ≡ kind_of reply → Steps limits old new by block r.moment (record { place = r.place; own = r.own; reply = reply }) → GoesOn first new (receipts ++ r ∷ [])
-GoesOn-push limits first old new by block receipts r reply goes_on kind step = record {
+PassGoesOn-push : (limits : Limits) (first old new : PassView) (by : By) (block : Block) (receipts : List Receipt) (r : Receipt) (reply : Reply) → PassGoesOn first old receipts → r.kind ≡ kind_of reply → AnswersBlock limits old new by block r.moment (record { place = r.place; own = r.own; reply = reply }) → PassGoesOn first new (receipts ++ r ∷ [])
+PassGoesOn-push limits first old new by block receipts r reply goes_on kind step = record {
   of = step.of ∙ goes_on.of;
   worth = step.worth ∙ goes_on.worth;
   seen = IsPrefix-trans first.seen old.seen new.seen goes_on.seen step.seen;
@@ -103,7 +103,7 @@ pub record SoFar (limits : Limits) (actor : ℕ) (start now : State) (reader : S
   pub reading : IsReading command_bytes input_bytes reader start.contents.source now.contents.source bytes (blocks_of exchanges)
   pub moments : Adds start.contents.readings now.contents.readings (moments_of exchanges)
   pub written : Adds start.contents.accepted now.contents.accepted (texts_of exchanges)
-  pub goes_on : GoesOn start.pass now.pass now.receipts
+  pub goes_on : PassGoesOn start.pass now.pass now.receipts
   pub count : length exchanges + 1 ≡ n
 
 pub SoFar-none : (limits : Limits) (actor : ℕ) (s : State) (reader : ScriptReader) → s.receipts ≡ [] → IsReading command_bytes input_bytes reader s.contents.source s.contents.source [] [] → SoFar limits actor s s reader 1
@@ -116,7 +116,7 @@ SoFar-none limits actor s reader fresh reading = record {
   reading = reading;
   moments = Adds-none s.contents.readings;
   written = Adds-none s.contents.accepted;
-  goes_on = subst (GoesOn s.pass s.pass) (sym fresh) (GoesOn-none s.pass);
+  goes_on = subst (PassGoesOn s.pass s.pass) (sym fresh) (PassGoesOn-none s.pass);
   count = refl;
 }
 
@@ -135,7 +135,7 @@ record More (limits : Limits) (actor : ℕ) (start now : State) (reader : Script
   pub gave : Delivers start.contents.source now.contents.source bytes
   pub reading : IsReading command_bytes input_bytes reader start.contents.source now.contents.source bytes (blocks_of exchanges)
   pub moments : Adds start.contents.readings now.contents.readings (moments_of exchanges)
-  pub goes_on : GoesOn start.pass now.pass now.receipts
+  pub goes_on : PassGoesOn start.pass now.pass now.receipts
   pub count : length exchanges + 1 ≡ n
 
 more_by : {E : Type 0} (limits : Limits) (actor n : ℕ) (start old new : State) (was reader : ScriptReader) (so_far : SoFar limits actor start old was n) (result : Result (Unit {0}) E)
@@ -161,7 +161,7 @@ more_by limits actor n start old new was reader so_far result went =
       gave = Delivers-trans start.contents.source old.contents.source new.contents.source so_far.bytes went.reads.bytes so_far.gave went.reads.gave;
       reading = subst (IsReading command_bytes input_bytes reader start.contents.source new.contents.source (so_far.bytes ++ went.reads.bytes)) (ap (λ (b : Block). blocks_of exchanges ++ b ∷ []) (sym went.replied.same_block) ∙ sym (map_push (λ (u : Exchange). u.block) exchanges t)) went.reads.reading;
       moments = subst (Adds start.contents.readings new.contents.readings) (sym (map_push (λ (u : Exchange). u.receipt.moment) exchanges t)) (Adds-trans start.contents.readings old.contents.readings new.contents.readings (moments_of exchanges) _ so_far.moments answered.moment);
-      goes_on = subst (GoesOn start.pass new.pass) (sym answered.receipt) (GoesOn-push limits start.pass old.pass new.pass (record { actor = actor; number = n }) t.block old.receipts r t.reply so_far.goes_on answered.kind step);
+      goes_on = subst (PassGoesOn start.pass new.pass) (sym answered.receipt) (PassGoesOn-push limits start.pass old.pass new.pass (record { actor = actor; number = n }) t.block old.receipts r t.reply so_far.goes_on answered.kind step);
       count = omega (arith, so_far.count, length_push exchanges t);
     }
 
@@ -199,19 +199,19 @@ SessionEnds-idle limits actor n start old new was end so_far idle all_written = 
   written = all_written so_far.exchanges (idle.accepted ∙ so_far.written);
 }
 
-GoesOn-idle : (first old new : PassView) (receipts more : List Receipt) → GoesOn first old receipts → new ≡ old → more ≡ receipts → GoesOn first new more
-GoesOn-idle first old new receipts more goes_on same same_receipts = subst (λ (p : PassView). GoesOn first p more) (sym same) (subst (GoesOn first old) (sym same_receipts) goes_on)
+PassGoesOn-idle : (first old new : PassView) (receipts more : List Receipt) → PassGoesOn first old receipts → new ≡ old → more ≡ receipts → PassGoesOn first new more
+PassGoesOn-idle first old new receipts more goes_on same same_receipts = subst (λ (p : PassView). PassGoesOn first p more) (sym same) (subst (PassGoesOn first old) (sym same_receipts) goes_on)
 
 idle_comes : (limits : Limits) (actor n : ℕ) (start old new : State) (was : ScriptReader) (end : End) (so_far : SoFar limits actor start old was n) → Idle (progress so_far) old new end
-    → ((exchanges : List Exchange) → Adds start.contents.accepted new.contents.accepted (texts_of exchanges) → AreWritten end start.contents.accepted new.contents.accepted exchanges) → Comes limits actor start new end
+    → ((exchanges : List Exchange) → Adds start.contents.accepted new.contents.accepted (texts_of exchanges) → AreWritten end start.contents.accepted new.contents.accepted exchanges) → SessionComesTo limits actor start new end
 idle_comes limits actor n start old new was end so_far idle all_written = record {
   ends = SessionEnds-idle limits actor n start old new was end so_far idle all_written;
-  goes_on = GoesOn-idle start.pass old.pass new.pass old.receipts new.receipts so_far.goes_on idle.same_pass idle.same_receipts;
+  goes_on = PassGoesOn-idle start.pass old.pass new.pass old.receipts new.receipts so_far.goes_on idle.same_pass idle.same_receipts;
 }
 
-pub Comes-end : (limits : Limits) (actor n : ℕ) (start old new : State) (was reader : ScriptReader) (end : End) (so_far : SoFar limits actor start old was n)
-    → ExchangeBy limits (record { actor = actor; number = n }) (progress so_far) old new reader (Some end) → Comes limits actor start new end
-Comes-end limits actor n start old new was reader SinkFault so_far failed =
+pub SessionComesTo-end : (limits : Limits) (actor n : ℕ) (start old new : State) (was reader : ScriptReader) (end : End) (so_far : SoFar limits actor start old was n)
+    → ExchangeBy limits (record { actor = actor; number = n }) (progress so_far) old new reader (Some end) → SessionComesTo limits actor start new end
+SessionComesTo-end limits actor n start old new was reader SinkFault so_far failed =
     let went = failed.1 in
     let t = went.replied.exchange in
     let exchanges = so_far.exchanges in
@@ -232,10 +232,10 @@ Comes-end limits actor n start old new was reader SinkFault so_far failed =
       };
       goes_on = m.goes_on;
     }
-Comes-end limits actor n start old new was reader Finished so_far exchange = idle_comes limits actor n start old new was Finished so_far exchange (λ exchanges w. w)
-Comes-end limits actor n start old new was reader Short so_far exchange = idle_comes limits actor n start old new was Short so_far exchange (λ exchanges w. w)
-Comes-end limits actor n start old new was reader SourceFault so_far exchange = idle_comes limits actor n start old new was SourceFault so_far exchange (λ exchanges w. w)
-Comes-end limits actor n start old new was reader InputLimit so_far exchange = idle_comes limits actor n start old new was InputLimit so_far exchange (λ exchanges w. w)
+SessionComesTo-end limits actor n start old new was reader Finished so_far exchange = idle_comes limits actor n start old new was Finished so_far exchange (λ exchanges w. w)
+SessionComesTo-end limits actor n start old new was reader Short so_far exchange = idle_comes limits actor n start old new was Short so_far exchange (λ exchanges w. w)
+SessionComesTo-end limits actor n start old new was reader SourceFault so_far exchange = idle_comes limits actor n start old new was SourceFault so_far exchange (λ exchanges w. w)
+SessionComesTo-end limits actor n start old new was reader InputLimit so_far exchange = idle_comes limits actor n start old new was InputLimit so_far exchange (λ exchanges w. w)
 
 no_blocks : (ended : Bool) → Begins [] (script_blocks command_bytes [] ended)
 no_blocks ended = (script_blocks command_bytes [] ended, refl)

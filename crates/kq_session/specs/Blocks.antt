@@ -21,7 +21,7 @@ use Rattle.kq_engine.specs.Merges.{NamesAll}
 use Rattle.kq_engine.specs.Shared.{PassView, commit_count}
 
 -- refused for the text alone, or for want of memory
-pub record Refuses (h : History) (place : ℕ) (own : Bool) (reply : Reply) (r : Refusal) : Type 0 where
+pub record RefusesAlone (h : History) (place : ℕ) (own : Bool) (reply : Reply) (r : Refusal) : Type 0 where
   pub within : place ≤ length h
   pub not_own : own ≡ false
   pub reason : (reply ≡ replies.Refused r) ⊎ (reply ≡ replies.Refused refusals.Memory)
@@ -43,7 +43,7 @@ refusal_of Memory = refusals.Memory
 -- the reply to what a text reads as
 abbrev pub FitsRead : Limits → History → By → Result Command CommandFault → ℤ → ℕ → Bool → Reply → Type 0
 FitsRead limits h request (Ok asked) now place own reply = Fits limits h request asked now place own reply
-FitsRead limits h request (Err fault) now place own reply = Refuses h place own reply (refusal_of fault)
+FitsRead limits h request (Err fault) now place own reply = RefusesAlone h place own reply (refusal_of fault)
 
 -- the reply to a text fits the command that the text reads as, or is the refusal of the text
 pub record FitsText (limits : Limits) (h : History) (request : By) (text : List ℕ) (now : ℤ) (place : ℕ) (own : Bool) (reply : Reply) : Type 0 where
@@ -68,7 +68,7 @@ AreTakes kind place (first ∷ more) = (first ≤ place) × (length more ≤ 1)
 
 -- one block was answered through a pass: the outcome fits what it has then seen, at a place not below what it had seen, and
 -- a merge that it tells is of all that were picked at such a place, and a fold up to the cursor there or a later one
-pub record Steps (limits : Limits) (old new : PassView) (by : By) (block : Block) (now : ℤ) (outcome : Outcome) : Type 0 where
+pub record AnswersBlock (limits : Limits) (old new : PassView) (by : By) (block : Block) (now : ℤ) (outcome : Outcome) : Type 0 where
   pub of : new.of ≡ old.of
   pub worth : new.worth ≡ old.worth
   pub seen : IsPrefix old.seen new.seen

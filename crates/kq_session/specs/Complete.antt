@@ -30,13 +30,13 @@ RefusesRead limits h now (Ok asked) r = IsDue limits h now asked (replies.Refuse
 RefusesRead limits h now (Err fault) r = r ≡ refusal_of fault
 
 -- the refusal is due over this history at a moment to the block
-abbrev pub IsRefused : Limits → History → ℤ → Block → Refusal → Type 0
-IsRefused limits h now (command text) r = (read : Result Command CommandFault) × ReadsAs text read × RefusesRead limits h now read r
-IsRefused limits h now (too_long bytes) r = r ≡ refusals.TooLong bytes
+abbrev pub IsRefusedBlock : Limits → History → ℤ → Block → Refusal → Type 0
+IsRefusedBlock limits h now (command text) r = (read : Result Command CommandFault) × ReadsAs text read × RefusesRead limits h now read r
+IsRefusedBlock limits h now (too_long bytes) r = r ≡ refusals.TooLong bytes
 
 -- no refusal is due to the block but want of memory
 abbrev pub IsValid : Limits → History → ℤ → Block → Type 0
-IsValid limits h now block = (r : Refusal) → IsRefused limits h now block r → r ≡ refusals.Memory
+IsValid limits h now block = (r : Refusal) → IsRefusedBlock limits h now block r → r ≡ refusals.Memory
 
 -- the history that answers a command: the one up to its place, without its own commit
 abbrev pub answering : History → Receipt → History
@@ -79,5 +79,5 @@ pub record IsComplete (limits : Limits) (h : History) (actor : ℕ) (before : Co
   pub written : Adds before.accepted s.objects.contents.accepted (texts_of exchanges)
 
 -- a session that nothing troubled is complete
-abbrev pub Completes : Limits → History → ℕ → Objects → SessionView → Type 0
-Completes limits h actor before s = IsUntroubled before s.objects → IsComplete limits h actor before.contents s
+abbrev pub CompletesSession : Limits → History → ℕ → Objects → SessionView → Type 0
+CompletesSession limits h actor before s = IsUntroubled before s.objects → IsComplete limits h actor before.contents s

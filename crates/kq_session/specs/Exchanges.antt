@@ -17,8 +17,8 @@ use Rattle.kq_session.specs.declared.end.End.{End}
 use Rattle.kq_session.specs.declared.end.End.TheVariants.{Finished, Short, SourceFault, SinkFault, InputLimit}
 use Rattle.kq_session.specs.declared.receipt.Receipt.{Receipt}
 use Rattle.kq_session.specs.declared.session.Session.{Session}
-use Rattle.kq_session.specs.Blocks.{Steps}
-use Rattle.kq_session.specs.Session.{Exchange, SessionEnds, GoesOn, AreBlocks, AreAllAtEnd, IsLeft, command_bytes, input_bytes}
+use Rattle.kq_session.specs.Blocks.{AnswersBlock}
+use Rattle.kq_session.specs.Session.{Exchange, SessionEnds, PassGoesOn, AreBlocks, AreAllAtEnd, IsLeft, command_bytes, input_bytes}
 
 -- a session at one moment: its pass, what its objects tell, and its receipts
 pub record State : Type 0 where
@@ -41,7 +41,7 @@ IsAfter reader now p = IsReading command_bytes input_bytes reader p.first now p.
 
 -- a block was answered, and its receipt kept
 pub record Answered (limits : Limits) (by : By) (old new : State) (t : Exchange) : Type 0 where
-  pub step : Steps limits old.pass new.pass by t.block t.receipt.moment (record { place = t.receipt.place; own = t.receipt.own; reply = t.reply })
+  pub step : AnswersBlock limits old.pass new.pass by t.block t.receipt.moment (record { place = t.receipt.place; own = t.receipt.own; reply = t.reply })
   pub number : t.receipt.number ≡ by.number
   pub kind : t.receipt.kind ≡ kind_of t.reply
   pub receipt : new.receipts ≡ old.receipts ++ t.receipt ∷ []
@@ -98,8 +98,8 @@ TakesExchange told accepted readings limits by was reader old new end =
     (p : Progress) → IsAfter was (at old).contents.source p → ExchangeBy limits by p (at old) (at new) reader end
 
 -- what a session comes to from its start
-pub record Comes (limits : Limits) (actor : ℕ) (old new : State) (end : End) : Type 0 where
-  pub goes_on : GoesOn old.pass new.pass new.receipts
+pub record SessionComesTo (limits : Limits) (actor : ℕ) (old new : State) (end : End) : Type 0 where
+  pub goes_on : PassGoesOn old.pass new.pass new.receipts
   pub ends : SessionEnds limits new.pass.seen actor old.contents new.contents new.receipts end
 
 -- the count of faults never falls, rose where this holds, and stays where it doesn't

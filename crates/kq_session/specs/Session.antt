@@ -126,7 +126,7 @@ AreTaken (r ∷ receipts) taken = (takes : List ℕ) × (more : List ℕ) × (ta
 
 -- a pass after these receipts: it has seen at least as much, the commits made through it since are those of the receipts
 -- with `own`, and it took the catalogue for each of them, twice at most
-pub record GoesOn (old new : PassView) (receipts : List Receipt) : Type 0 where
+pub record PassGoesOn (old new : PassView) (receipts : List Receipt) : Type 0 where
   pub of : new.of ≡ old.of
   pub worth : new.worth ≡ old.worth
   pub seen : IsPrefix old.seen new.seen

@@ -4,7 +4,7 @@ ghost use Rattle.kq_script.specs.Script.{Block, command};
 ghost use Rattle.kq_script.specs.Item.{IsItemOf};
 ghost use Rattle.kq_value.specs.Typed.{IsMoment};
 ghost use Rattle.kq_reply.specs.declared.reply.Reply.TheVariants as replies;
-ghost use Rattle.kq_session.specs.Blocks.{Steps, refusal_of};
+ghost use Rattle.kq_session.specs.Blocks.{AnswersBlock, refusal_of};
 
 use crate::service::Service;
 use kq_command::{CommandFault, read_command};
@@ -27,7 +27,7 @@ pub(crate) fn answer<R: Wait, G: Gate>(
     requires of { pass.old.of ≡ service.now.shared.now.turn }
     requires block { item ≢ Item.Finished }
     requires moment { IsMoment now }
-    ensures { (limit : ℕ) (block : Block) → IsItemOf limit item block → Steps service.now.shared.now.limits pass.old pass.new by block now result }
+    ensures { (limit : ℕ) (block : Block) → IsItemOf limit item block → AnswersBlock service.now.shared.now.limits pass.old pass.new by block now result }
 {
     let shared = service.shared;
     match item {
@@ -47,7 +47,7 @@ fn answer_text<R: Wait, G: Gate>(
 ) -> Outcome
     requires of { pass.old.of ≡ service.now.shared.now.turn }
     requires moment { IsMoment now }
-    ensures { Steps service.now.shared.now.limits pass.old pass.new by (command text.now) now result }
+    ensures { AnswersBlock service.now.shared.now.limits pass.old pass.new by (command text.now) now result }
 {
     let shared = service.shared;
     match read_command(service.alloc, text.as_slice()) {

@@ -1,11 +1,11 @@
 // The session's loop.
 ghost use Rattle.std.specs.Prelude.{◌≡◌, ◌≢◌, ◌<◌, ℕ, [], Some, vec_len, vec_capacity};
 ghost use Rattle.kq_world.specs.Outside.{HasCause, contents};
-ghost use Rattle.kq_script.specs.Reading.{IsReading, GoesOn as MayGoOn};
-ghost use Rattle.kq_session.specs.Complete.{Completes};
+ghost use Rattle.kq_script.specs.Reading.{IsReading, IsUnclosed as MayGoOn};
+ghost use Rattle.kq_session.specs.Complete.{CompletesSession};
 ghost use Rattle.kq_session.specs.Objects.{objects};
-ghost use Rattle.kq_session.specs.Session.{Explained, GoesOn, command_bytes, input_bytes};
-ghost use Rattle.kq_session.specs.Exchanges.{Comes, Replies, Rises, TakesExchange, state_of};
+ghost use Rattle.kq_session.specs.Session.{Explained, PassGoesOn, command_bytes, input_bytes};
+ghost use Rattle.kq_session.specs.Exchanges.{SessionComesTo, Replies, Rises, TakesExchange, state_of};
 
 use crate::answer::answer;
 use crate::end::End;
@@ -45,9 +45,9 @@ pub fn serve<R: Wait, S: Source, K: Sink, C: Clock, G: Gate>(
     gate: &G,
 ) -> Served<S, K, C>
     requires { pass.of ≡ shared.now.turn }
-    ensures pass { GoesOn pass result.pass result.session.receipts }
+    ensures pass { PassGoesOn pass result.pass result.session.receipts }
     ensures explained { Explained shared.now.limits result.pass.seen actor (contents S.told K.accepted C.readings parts) result.session }
-    ensures complete { Completes shared.now.limits result.pass.seen actor (objects S.told S.faults K.accepted K.faults C.readings parts) result.session }
+    ensures complete { CompletesSession shared.now.limits result.pass.seen actor (objects S.told S.faults K.accepted K.faults C.readings parts) result.session }
     ensures source { Rises (S.faults parts.source) result.session.objects.source_faults (result.session.status ≡ 3) }
     ensures sink { Rises (K.faults parts.sink) result.session.objects.sink_faults (result.session.status ≡ 4) }
 {
@@ -90,7 +90,7 @@ fn serve_script<R: Wait, S: Source, K: Sink, C: Clock, G: Gate>(
     requires of { session.old.pass.of ≡ service.now.shared.now.turn }
     requires reading { let source = S.told session.old.parts.source in IsReading command_bytes input_bytes reader.old source source [] [] }
     requires fresh { session.old.receipts.items ≡ [] }
-    ensures comes { let at = state_of S.told K.accepted C.readings in Comes service.now.shared.now.limits actor (at session.old) (at session.new) result }
+    ensures comes { let at = state_of S.told K.accepted C.readings in SessionComesTo service.now.shared.now.limits actor (at session.old) (at session.new) result }
     ensures source { Rises (S.faults session.old.parts.source) (S.faults session.new.parts.source) (result ≡ End.SourceFault) }
     ensures sink { Rises (K.faults session.old.parts.sink) (K.faults session.new.parts.sink) (result ≡ End.SinkFault) }
 {

@@ -5,7 +5,7 @@ use Rattle.std.specs.List.{filter}
 use Rattle.std.specs.Cmp.Lexicographic.{pointwise, same_text}
 use Rattle.std.proofs.lemmas.Bool.{eqb-true}
 use Rattle.kq_tagged.specs.declared.entry.Entry.{Entry}
-use Rattle.kq_tagged.specs.Index.{is_key, cursor_at, given_if, Adds, key_hash}
+use Rattle.kq_tagged.specs.Index.{is_key, cursor_at, given_if, AddsTags, key_hash}
 use Rattle.kq_tagged.specs.Trees.{goes_right, is_right, IsSide, FindAlike}
 
 both : (a b : Bool) → (a && b) ≡ true → (a ≡ true) × (b ≡ true)
@@ -64,20 +64,20 @@ pub found_left : (level : ℕ) (left right : List Entry) (t : ℕ) (tag : List �
 found_left level left right t tag side goes = cursor_at-append left right t tag ∙ ap (λ (o : Option ℕ). option_or (cursor_at left t tag) o) (side.none t tag goes) ∙ or_none (cursor_at left t tag)
 
 -- one that is put last is added
-pub Adds-last : (es all new : List Entry) (e : Entry) → all ≡ es ++ e ∷ [] → FindAlike all new → Adds es (is_key e.table e.tag) e.cursor new
-Adds-last es all new e is alike = record { is = λ t tag. sym (alike.is t tag) ∙ ap (λ (xs : List Entry). cursor_at xs t tag) is ∙ cursor_at-append es (e ∷ []) t tag }
+pub AddsTags-last : (es all new : List Entry) (e : Entry) → all ≡ es ++ e ∷ [] → FindAlike all new → AddsTags es (is_key e.table e.tag) e.cursor new
+AddsTags-last es all new e is alike = record { is = λ t tag. sym (alike.is t tag) ∙ ap (λ (xs : List Entry). cursor_at xs t tag) is ∙ cursor_at-append es (e ∷ []) t tag }
 
 -- one that is added on the right is added to both
-pub Adds-right : (left right new : List Entry) (test : ℕ → List ℕ → Bool) (cursor : ℕ) → Adds right test cursor new → Adds (left ++ right) test cursor (left ++ new)
-Adds-right left right new test cursor adds = record {
+pub AddsTags-right : (left right new : List Entry) (test : ℕ → List ℕ → Bool) (cursor : ℕ) → AddsTags right test cursor new → AddsTags (left ++ right) test cursor (left ++ new)
+AddsTags-right left right new test cursor adds = record {
   is = λ t tag.
       cursor_at-append left new t tag ∙ ap (option_or (cursor_at left t tag)) (adds.is t tag) ∙ or_assoc (cursor_at left t tag) (cursor_at right t tag) (given_if (test t tag) cursor)
       ∙ ap (λ (o : Option ℕ). option_or o (given_if (test t tag) cursor)) (sym (cursor_at-append left right t tag));
 }
 
 -- and so is one on the left, if the right has nothing of its key
-pub Adds-left : (level : ℕ) (left right new : List Entry) (t : ℕ) (tag : List ℕ) (cursor : ℕ) → IsSide level true right → goes_right level (key_hash t tag) ≡ false → Adds left (is_key t tag) cursor new → Adds (left ++ right) (is_key t tag) cursor (new ++ right)
-Adds-left level left right new t tag cursor side goes adds = record { is = λ u other. cursor_at-append new right u other ∙ ap (λ (o : Option ℕ). option_or o (cursor_at right u other)) (adds.is u other) ∙ by_test u other (is_key t tag u other) refl ∙ ap (λ (o : Option ℕ). option_or o (given_if (is_key t tag u other) cursor)) (sym (cursor_at-append left right u other)) }
+pub AddsTags-left : (level : ℕ) (left right new : List Entry) (t : ℕ) (tag : List ℕ) (cursor : ℕ) → IsSide level true right → goes_right level (key_hash t tag) ≡ false → AddsTags left (is_key t tag) cursor new → AddsTags (left ++ right) (is_key t tag) cursor (new ++ right)
+AddsTags-left level left right new t tag cursor side goes adds = record { is = λ u other. cursor_at-append new right u other ∙ ap (λ (o : Option ℕ). option_or o (cursor_at right u other)) (adds.is u other) ∙ by_test u other (is_key t tag u other) refl ∙ ap (λ (o : Option ℕ). option_or o (given_if (is_key t tag u other) cursor)) (sym (cursor_at-append left right u other)) }
   where
     swap : (a b c : Option ℕ) → b ≡ None → option_or (option_or a c) b ≡ option_or (option_or a b) c
     swap None b c is = ap (option_or c) is ∙ or_none c ∙ ap (λ (o : Option ℕ). option_or o c) (sym is)

@@ -19,7 +19,7 @@ abbrev pub given_if : Bool → ℕ → Option ℕ
 given_if given cursor = if given then Some cursor else None
 
 -- what had a cursor keeps it, and of the rest those that pass a test get this one
-pub record Adds (old : List Entry) (test : ℕ → List ℕ → Bool) (cursor : ℕ) (new : List Entry) : Type 0 where
+pub record AddsTags (old : List Entry) (test : ℕ → List ℕ → Bool) (cursor : ℕ) (new : List Entry) : Type 0 where
   pub is : (t : ℕ) (tag : List ℕ) → cursor_at new t tag ≡ option_or (cursor_at old t tag) (given_if (test t tag) cursor)
 
 -- where a tag of a table is looked for

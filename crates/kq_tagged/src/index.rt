@@ -1,6 +1,6 @@
 // Indexes.
 ghost use Rattle.std.specs.Prelude.{◌≡◌, [], IfOk};
-ghost use Rattle.kq_tagged.specs.Index.{Adds, cursor_at, is_key};
+ghost use Rattle.kq_tagged.specs.Index.{AddsTags, cursor_at, is_key};
 
 use crate::entry::{Entry, key_hash};
 use crate::tree::Tree;
@@ -51,7 +51,7 @@ impl TagIndex {
 
     /// An index in which a tag of a table has the cursor, unless it had one here. This one doesn't change.
     pub fn with(&self, table: u32, tag: &Text, cursor: u64) -> Result<TagIndex, Memory>
-        ensures { IfOk result (Adds self.now (is_key table tag.now) cursor) }
+        ensures { IfOk result (AddsTags self.now (is_key table tag.now) cursor) }
     {
         if self.find(table, tag).is_some() {
             return self.share();

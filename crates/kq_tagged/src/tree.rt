@@ -1,7 +1,7 @@
 // Trees of entries, which nothing changes once they stand.
 ghost use Rattle.std.specs.Prelude.{◌≡◌, ◌≤◌, ◌<◌, IfOk};
 ghost use Rattle.std.specs.Arc.{arc_value};
-ghost use Rattle.kq_tagged.specs.Index.{Adds, cursor_at, key_hash, is_key};
+ghost use Rattle.kq_tagged.specs.Index.{AddsTags, cursor_at, key_hash, is_key};
 ghost use Rattle.kq_tagged.specs.Trees.{ArePlaced, FindAlike, entries_of};
 
 use crate::entry::{Entry, find_among, goes_right, parted, with_last};
@@ -52,7 +52,7 @@ impl Tree {
         requires placed { ArePlaced level self.now }
         requires hash { hash ≡ key_hash entry.table entry.tag }
         ensures placed { IfOk result (λ t. ArePlaced level (arc_value t)) }
-        ensures adds { IfOk result (λ t. Adds (entries_of self.now) (is_key entry.table entry.tag) entry.cursor (entries_of (arc_value t))) }
+        ensures adds { IfOk result (λ t. AddsTags (entries_of self.now) (is_key entry.table entry.tag) entry.cursor (entries_of (arc_value t))) }
     {
         match self {
             Tree::Leaf(entries) => {

@@ -7,7 +7,7 @@ use Rattle.kq_model.specs.History.{History}
 use Rattle.kq_engine.specs.declared.upkeep.Upkeep.{Upkeep}
 use Rattle.kq_engine.specs.Shared.{PassView}
 use Rattle.kq_workers.specs.declared.worker.Worker.{Worker}
-use Rattle.kq_workers.specs.Rounds.{GoesOn, GoesRound, GoesRounds, HasRound, HasRounds, HasChores, Looks, TakesOne, TakesChore, TakesChores, Chore, Works, begun, wants_memory}
+use Rattle.kq_workers.specs.Rounds.{SeenGoesOn, GoesRound, GoesRounds, HasRound, HasRounds, HasChores, Looks, TakesOne, TakesChore, TakesChores, Chore, Works, begun, wants_memory}
 
 -- ---- short
 
@@ -107,8 +107,8 @@ rounds_carry limits actor [] old new same = Carries-same old.pass new.pass (ap (
 rounds_carry limits actor (chores ∷ rounds) old new went = Carries-trans old.pass went.0.pass new.pass (round_carries limits actor chores old went.0 went.1) (rounds_carry limits actor rounds went.0 new went.2)
 
 -- a chore goes on lawfully
-pub GoesOn-one : (limits : Limits) (actor : ℕ) (first : History) (old new : Worker) (upkeep : Upkeep) → GoesOn limits first old.pass.seen → TakesOne limits actor old new upkeep → GoesOn limits first new.pass.seen
-GoesOn-one limits actor first old new upkeep on one = record { begins = IsPrefix-trans first old.pass.seen new.pass.seen on.begins one.chore.keeps.seen; lawful = one.chore.keeps.lawful }
+pub SeenGoesOn-one : (limits : Limits) (actor : ℕ) (first : History) (old new : Worker) (upkeep : Upkeep) → SeenGoesOn limits first old.pass.seen → TakesOne limits actor old new upkeep → SeenGoesOn limits first new.pass.seen
+SeenGoesOn-one limits actor first old new upkeep on one = record { begins = IsPrefix-trans first old.pass.seen new.pass.seen on.begins one.chore.keeps.seen; lawful = one.chore.keeps.lawful }
 
 -- ---- rounds
 

@@ -26,7 +26,7 @@ use Rattle.kq_engine.specs.Upkeeps.{IsIdle, IsThere, KeepsUp, TellsUpkeep}
 use Rattle.kq_engine.proofs.Telling.{cursor_take}
 use Rattle.kq_engine.proofs.Upholding.{there_later}
 use Rattle.kq_workers.specs.Kept.{AreKept, IsForward, IsKept, IsLate, IsMerged}
-use Rattle.kq_workers.specs.Rounds.{GoesOn, wants_memory}
+use Rattle.kq_workers.specs.Rounds.{SeenGoesOn, wants_memory}
 
 -- ---- histories that go on
 
@@ -113,7 +113,7 @@ AreKept-earlier older first h begins kept upkeep there = kept_earlier older firs
 
 -- ---- without a chore
 
-pub kept_idle : (limits : Limits) (first seen : History) (upkeep : Upkeep) → GoesOn limits first seen → IsThere (log first) upkeep → IsIdle first upkeep → IsKept first seen upkeep
+pub kept_idle : (limits : Limits) (first seen : History) (upkeep : Upkeep) → SeenGoesOn limits first seen → IsThere (log first) upkeep → IsIdle first upkeep → IsKept first seen upkeep
 kept_idle limits first seen (upkeeps.Fold view) on there idle = let rises = marks_rise limits first seen on.begins on.lawful view there in inl (omega (arith, rises, idle))
 kept_idle limits first seen (upkeeps.Merge table) on there idle = inr (record {
   place = length first;

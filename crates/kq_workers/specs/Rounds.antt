@@ -95,6 +95,6 @@ pub record HasRound (limits : Limits) (actor : ℕ) (old new : Worker) : Type 0 
   pub went : GoesRound limits actor chores old new
 
 -- what was seen goes on lawfully from an earlier history
-pub record GoesOn (limits : Limits) (first seen : History) : Type 0 where
+pub record SeenGoesOn (limits : Limits) (first seen : History) : Type 0 where
   pub begins : IsPrefix first seen
   pub lawful : AreLawful limits seen

@@ -3,7 +3,7 @@ ghost use Rattle.std.specs.Prelude.{◌≡◌, false, length};
 ghost use Rattle.kq_engine.specs.Upkeeps.{IsThere, KeepsUp};
 ghost use Rattle.kq_model.specs.History.{log, tables, view_count};
 ghost use Rattle.kq_workers.specs.Kept.{AreKept, AreKeptBelow, IsKept};
-ghost use Rattle.kq_workers.specs.Rounds.{GoesOn, HasRound, HasChores, TakesOne, wants_memory as wants_memory_by};
+ghost use Rattle.kq_workers.specs.Rounds.{SeenGoesOn, HasRound, HasChores, TakesOne, wants_memory as wants_memory_by};
 
 use crate::worker::{Post, Worker};
 use kq_catalog::Snapshot;
@@ -30,9 +30,9 @@ pub(crate) fn round<R: Wait, G: Gate>(post: &Post<R, G>, worker: &mut Worker) ->
 
 fn fold_views<R: Wait, G: Gate>(post: &Post<R, G>, worker: &mut Worker, snapshot: &Snapshot) -> bool
     requires of { worker.old.pass.of ≡ post.now.shared.now.turn }
-    requires since { GoesOn post.now.shared.now.limits snapshot.now.history worker.old.pass.seen }
+    requires since { SeenGoesOn post.now.shared.now.limits snapshot.now.history worker.old.pass.seen }
     ensures chores { HasChores post.now.shared.now.limits post.now.actor worker.old worker.new }
-    ensures since { GoesOn post.now.shared.now.limits snapshot.now.history worker.new.pass.seen }
+    ensures since { SeenGoesOn post.now.shared.now.limits snapshot.now.history worker.new.pass.seen }
     ensures kept { worker.new.short ≡ false → AreKeptBelow snapshot.now.history worker.new.pass.seen Upkeep.Fold (view_count (log snapshot.now.history)) }
 {
     let mut moved = false;
@@ -50,9 +50,9 @@ fn merge_tables<R: Wait, G: Gate>(
     snapshot: &Snapshot,
 ) -> bool
     requires of { worker.old.pass.of ≡ post.now.shared.now.turn }
-    requires since { GoesOn post.now.shared.now.limits snapshot.now.history worker.old.pass.seen }
+    requires since { SeenGoesOn post.now.shared.now.limits snapshot.now.history worker.old.pass.seen }
     ensures chores { HasChores post.now.shared.now.limits post.now.actor worker.old worker.new }
-    ensures since { GoesOn post.now.shared.now.limits snapshot.now.history worker.new.pass.seen }
+    ensures since { SeenGoesOn post.now.shared.now.limits snapshot.now.history worker.new.pass.seen }
     ensures kept { worker.new.short ≡ false → AreKeptBelow snapshot.now.history worker.new.pass.seen Upkeep.Merge (length (tables (log snapshot.now.history))) }
 {
     let mut moved = false;
@@ -72,10 +72,10 @@ fn tend<R: Wait, G: Gate>(
     upkeep: Upkeep,
 ) -> bool
     requires of { worker.old.pass.of ≡ post.now.shared.now.turn }
-    requires since { GoesOn post.now.shared.now.limits snapshot.now.history worker.old.pass.seen }
+    requires since { SeenGoesOn post.now.shared.now.limits snapshot.now.history worker.old.pass.seen }
     requires there { IsThere (log snapshot.now.history) upkeep }
     ensures chores { HasChores post.now.shared.now.limits post.now.actor worker.old worker.new }
-    ensures since { GoesOn post.now.shared.now.limits snapshot.now.history worker.new.pass.seen }
+    ensures since { SeenGoesOn post.now.shared.now.limits snapshot.now.history worker.new.pass.seen }
     ensures kept { worker.new.short ≡ false → IsKept snapshot.now.history worker.new.pass.seen upkeep }
 {
     if upkeep.is_wanted(snapshot) {

@@ -2,7 +2,7 @@
 use Rattle.std.proofs.Common.{◌≡◌, true, Err, subst}
 use Rattle.std.proofs.lemmas.Result.{err_from_is_err_and}
 use Rattle.kq_bind.specs.Queries.{query_bound}
-use Rattle.kq_body.specs.Bodies.{is_body, Judges}
+use Rattle.kq_body.specs.Bodies.{is_body, JudgesBody}
 use Rattle.kq_body.specs.Parts.{query_parts}
 use Rattle.kq_grammar.specs.TabularViews.{query_of}
 use Rattle.kq_plan.specs.Plans.{planned_of}
@@ -27,5 +27,5 @@ returns-in_err-check_body-clause-answer g c =
     let q = query_of c.args.query.now in
     let f = c.in_err-check_body.field-0.0 in
     let p = err_from_is_err_and c.from_residual-in_err-check_body.result c.from_residual-in_err-check_body.ensures.1 in
-    let judged = subst (λ t. Judges (query_parts c.args.text.now t q) (Err f)) c.as_str.ensures c.in_err-check_body.ensures in
+    let judged = subst (λ t. JudgesBody (query_parts c.args.text.now t q) (Err f)) c.as_str.ensures c.in_err-check_body.ensures in
     rw (p.1, p.2) (form_answers (query_bound c.args.text.now (g.N.Names.known c.args.names.now) q) (query_parts c.args.text.now c.args.table.now q) (planned_of c.in_ok-plan.plan) f c.in_ok-plan.ensures.bound judged)

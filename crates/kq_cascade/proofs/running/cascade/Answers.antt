@@ -4,7 +4,7 @@ use Rattle.kq_model.specs.declared.batch.Batch.{Batch}
 use Rattle.kq_model.specs.declared.policy.Due.{Due}
 use Rattle.kq_model.specs.Force.{IsStanding}
 use Rattle.kq_model.proofs.Passed.{enabled-standing}
-use Rattle.kq_cascade.specs.Runs.{FailsWhole, Runs}
+use Rattle.kq_cascade.specs.Runs.{FailsWhole, RunsDue}
 use Rattle.kq_cascade.specs.Steps.{begun, state_of, Settles}
 use Rattle.kq_cascade.proofs.Cascading.{IsUnderWay, IsUnderWay-begun, ready, ran, refused, too_many_asked, whole}
 use Rattle.kq_cascade.proofs.running.cascade.Goals as goal
@@ -59,7 +59,7 @@ loop-due-preserved g c =
     let settles : Settles dues s.batches s.top s.below (Some c.in-Some.due) t.top t.below = c.in-Some.ensures.next in
     let room : length asked < c.args.limit = search rules in
     let standing : All (IsStanding r.policies) dues = subst (All (IsStanding r.policies)) (sym c.dues-dues.ensures) (enabled-standing r.policies) in
-    let runs : Runs r q dues c.in-Some.due t u = c.in_ok-run.ensures.ok in
+    let runs : RunsDue r q dues c.in-Some.due t u = c.in_ok-run.ensures.ok in
     ran c.args.limit r q dues own asked c.push.new.self.items s t u c.in-Some.due c.dues-dues.ensures standing c.loop-due.invariant (settles, c.in-Some.ensures.batches, c.in-Some.ensures.failures) room c.in_ok-push.ensures.items runs
 
 pub returns-in_err-run-clause-refused : goal.returns-in_err-run-clause-refused

@@ -1,8 +1,8 @@
 use Rattle.std.proofs.Common.{take}
 use Rattle.std.specs.List.{list_any}
 use Rattle.kq_model.specs.Tagged.{gives_tag}
-use Rattle.kq_tagged.specs.Index.{Adds}
+use Rattle.kq_tagged.specs.Index.{AddsTags}
 use Rattle.kq_catalog.proofs.tagging.with_batches.Given as goal
 
 abbrev pub invariant-loop-batch : goal.invariant-loop-batch
-invariant-loop-batch l = Adds l.index (λ t tag. list_any (gives_tag t tag) (take l.batch-index l.batches)) l.cursor l.all
+invariant-loop-batch l = AddsTags l.index (λ t tag. list_any (gives_tag t tag) (take l.batch-index l.batches)) l.cursor l.all

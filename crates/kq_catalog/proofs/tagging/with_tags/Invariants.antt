@@ -1,7 +1,7 @@
 use Rattle.std.proofs.Common.{take, ◌&&◌, nat_eq}
 use Rattle.kq_model.specs.Names.{is_among}
-use Rattle.kq_tagged.specs.Index.{Adds}
+use Rattle.kq_tagged.specs.Index.{AddsTags}
 use Rattle.kq_catalog.proofs.tagging.with_tags.Given as goal
 
 abbrev pub invariant-loop-tag : goal.invariant-loop-tag
-invariant-loop-tag l = Adds l.index (λ t tag. nat_eq l.table t && is_among tag (take l.tag-index l.tags)) l.cursor l.all
+invariant-loop-tag l = AddsTags l.index (λ t tag. nat_eq l.table t && is_among tag (take l.tag-index l.tags)) l.cursor l.all

@@ -1,6 +1,6 @@
 use Rattle.std.proofs.Common.{◌∙◌, arith, subst}
 use Rattle.kq_world.specs.Outside.{Contents}
-use Rattle.kq_console.specs.Headline.{Runs}
+use Rattle.kq_console.specs.Headline.{RunsProgram}
 use Rattle.kq_console.proofs.Opening.{OpensFeeds-all}
 use Rattle.kq_console.proofs.Running.{AreOpened-length}
 use Rattle.kq_console.proofs.program.run_sessions.Goals as goal
@@ -12,7 +12,7 @@ pub returns-in-Ok-clause-run : goal.returns-in-Ok-clause-run
 returns-in-Ok-clause-run g c =
     let of_feed = g.W.World.feed_contents c.args.world.now in
     let options = c.args.options in
-    subst (λ (first : Contents). Runs options.generate options.feeds.items first of_feed c.run_opened.result) c.in-Ok.ensures.first (c.run_opened.ensures.run of_feed options.feeds.items c.in-Ok.ensures.opened)
+    subst (λ (first : Contents). RunsProgram options.generate options.feeds.items first of_feed c.run_opened.result) c.in-Ok.ensures.first (c.run_opened.ensures.run of_feed options.feeds.items c.in-Ok.ensures.opened)
 
 pub returns-in-Ok-clause-opens : goal.returns-in-Ok-clause-opens
 returns-in-Ok-clause-opens g c =

@@ -3,7 +3,7 @@ use Rattle.std.proofs.lemmas.Bool.{false≢true}
 use Rattle.kq_model.specs.declared.policy.Entry.{Entry}
 use Rattle.kq_model.specs.History.{log}
 use Rattle.kq_model.specs.Policies.{policies, with_policy}
-use Rattle.kq_cycle.specs.Search.{Adds, HasSource, Searches, unmarked}
+use Rattle.kq_cycle.specs.Search.{AddsSources, HasSource, Searches, unmarked}
 use Rattle.kq_cycle.proofs.Searching.{Searches-first, Searches-more, all_done, exhausted, fewer, found, none_where, unmarked-none}
 use Rattle.kq_cycle.proofs.Setting.{set-past}
 use Rattle.kq_cycle.proofs.cycle.closes_cycle.Goals as goal
@@ -51,7 +51,7 @@ loop-preserved c =
     let o = c.add_sources.new.open.items in
     let searches = subst (Searches ps target a) c.in-Some.ensures.items c.loop.invariant.searches in
     let given = c.in_ok-add_sources.ensures.added c.if-branch.false in
-    let adds = subst (λ (es : List Entry). Adds es target a rest b o) c.policy_of-policy.ensures given in
+    let adds = subst (λ (es : List Entry). AddsSources es target a rest b o) c.policy_of-policy.ensures given in
     let one = fewer c.policy_of-policy.result.now target t a b c.loop.open.items rest o c.in-Some.ensures.items given in
     let left = c.loop.invariant.left in
     record {

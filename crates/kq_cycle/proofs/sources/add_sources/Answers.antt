@@ -3,8 +3,8 @@ use Rattle.std.proofs.Math.Seq.{take-suc}
 use Rattle.std.proofs.lemmas.List.Elements.{Contains-get_or}
 use Rattle.std.specs.List.{Contains}
 use Rattle.kq_model.specs.declared.policy.Entry.{Entry}
-use Rattle.kq_cycle.specs.Search.{Adds, marked_with, open_with}
-use Rattle.kq_cycle.proofs.Marking.{Adds-more}
+use Rattle.kq_cycle.specs.Search.{AddsSources, marked_with, open_with}
+use Rattle.kq_cycle.proofs.Marking.{AddsSources-more}
 use Rattle.kq_cycle.proofs.sources.add_sources.Goals as goal
 
 pub returns-then-entry-target-clause-found : goal.returns-then-entry-target-clause-found
@@ -26,5 +26,5 @@ loop-entry-preserved c =
     let opened = c.loop-entry.open.items in
     let one : i + 1 ≡ suc i = omega arith in
     let longer : take (i + 1) es ≡ take i es ++ e ∷ [] = ap (λ (k : ℕ). take k es) one ∙ take-suc es i e c.loop-entry-test.true ∙ ap (λ (x : Entry). take i es ++ x ∷ []) (sym c.entry-item.is) in
-    let more = Adds-more (take i es) e target c.args.marked.now.items marked c.args.open.now.items opened c.if-entry-target.false c.loop-entry.invariant in
+    let more = AddsSources-more (take i es) e target c.args.marked.now.items marked c.args.open.now.items opened c.if-entry-target.false c.loop-entry.invariant in
     rw (longer, c.in_ok-add.ensures.marks, c.in_ok-add.ensures.opens) more

@@ -1,7 +1,7 @@
 use Rattle.std.proofs.Common.{◌≡◌, None, ap, sym, ◌∙◌}
 use Rattle.kq_ingest.specs.Ingestion.{first_fault, rows_of}
 use Rattle.kq_model.specs.declared.limits.Limits.{Limits}
-use Rattle.kq_model.specs.History.{Numbered, log}
+use Rattle.kq_model.specs.History.{NumberedTable, log}
 use Rattle.kq_engine.proofs.Keeping.{Offers-rows}
 use Rattle.kq_engine.proofs.ingestions.read.Goals as goal
 
@@ -9,7 +9,7 @@ pub returns-in-Ok-clause-offers : goal.returns-in-Ok-clause-offers
 returns-in-Ok-clause-offers c =
     let limits = c.args.snapshot.now.limits in
     let i = c.args.ingestion.now in
-    let table : Numbered = record { number = c.args.number; table = c.args.table.now } in
+    let table : NumberedTable = record { number = c.args.number; table = c.args.table.now } in
     let so : c.in-Ok.rows ≡ rows_of table.table.schema i.properties.ignore_first i.body =
     c.in-Ok.ensures.rows ∙ ap (rows_of table.table.schema i.properties.ignore_first) c.as_str-body.ensures in
     let sound : first_fault table.table.schema i.properties.ignore_first limits.batch i.body ≡ None =

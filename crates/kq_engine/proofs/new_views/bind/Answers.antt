@@ -5,7 +5,7 @@ use Rattle.kq_body.specs.Parts.{query_parts}
 use Rattle.kq_catalog.specs.Seen.{CatalogView}
 use Rattle.kq_engine.specs.Due.{IsViewDue, tree_in}
 use Rattle.kq_engine.specs.Found.{Finds}
-use Rattle.kq_model.specs.History.{Numbered, log}
+use Rattle.kq_model.specs.History.{NumberedTable, log}
 use Rattle.kq_query.specs.Worlds.{known_in}
 use Rattle.kq_reply.specs.declared.refusal.Refusal.{Refusal}
 use Rattle.kq_engine.proofs.Defining.{bound_named, table_known, unbound_due}
@@ -15,7 +15,7 @@ pub name_view-requires : goal.name_view-requires
 name_view-requires c =
     let now = c.args.snapshot.now in
     let view = c.args.view.now in
-    let table : Numbered = record { number = c.args.number; table = c.args.table.now } in
+    let table : NumberedTable = record { number = c.args.number; table = c.args.table.now } in
     let known = ap (λ (v : CatalogView). known_in v.history view.table.text) c.in_ok-names.ensures ∙ table_known now.history view.table.text table c.requires in
     record { table = view.table.text; columns = table.table.schema; body = c.in-Ok.ensures.body table.table.schema known }
 
@@ -23,7 +23,7 @@ pub returns-in-Ok-clause-due : goal.returns-in-Ok-clause-due
 returns-in-Ok-clause-due c =
     let now = c.args.snapshot.now in
     let view = c.args.view.now in
-    let table : Numbered = record { number = c.args.number; table = c.args.table.now } in
+    let table : NumberedTable = record { number = c.args.number; table = c.args.table.now } in
     let known = ap (λ (v : CatalogView). known_in v.history view.table.text) c.in_ok-names.ensures ∙ table_known now.history view.table.text table c.requires in
     let read = subst (λ (t : List ℕ). AnswersBody (query_bound t (known_in c.in_ok-names.names.snapshot.now.history) (tree_in view)) (query_parts t view.table.text (tree_in view)) (Ok c.in-Ok.plan)) c.as_str.ensures c.in-Ok.ensures.answer in
     let answer = subst (λ (v : CatalogView). AnswersBody (query_bound view.body.text (known_in v.history) (tree_in view)) (query_parts view.body.text view.table.text (tree_in view)) (Ok c.in-Ok.plan)) c.in_ok-names.ensures read in
@@ -33,7 +33,7 @@ pub returns-clause-due : goal.returns-clause-due
 returns-clause-due c =
     let now = c.args.snapshot.now in
     let view = c.args.view.now in
-    let table : Numbered = record { number = c.args.number; table = c.args.table.now } in
+    let table : NumberedTable = record { number = c.args.number; table = c.args.table.now } in
     let fault = c.in-Err.fault in
     let read = subst (λ (t : List ℕ). AnswersBody (query_bound t (known_in c.in_ok-names.names.snapshot.now.history) (tree_in view)) (query_parts t view.table.text (tree_in view)) (Err fault)) c.as_str.ensures c.in-Err.ensures.answer in
     let answer = subst (λ (v : CatalogView). AnswersBody (query_bound view.body.text (known_in v.history) (tree_in view)) (query_parts view.body.text view.table.text (tree_in view)) (Err fault)) c.in_ok-names.ensures read in

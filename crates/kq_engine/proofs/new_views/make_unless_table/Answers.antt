@@ -3,7 +3,7 @@ use Rattle.std.specs.Option.{option_map}
 use Rattle.kq_engine.specs.Due.{IsNewDue, refused}
 use Rattle.kq_engine.specs.Found.{Finds}
 use Rattle.kq_model.specs.declared.table.Table.{Table}
-use Rattle.kq_model.specs.History.{Numbered, log, tables}
+use Rattle.kq_model.specs.History.{NumberedTable, log, tables}
 use Rattle.kq_model.proofs.Tables.{table_numbered-named}
 use Rattle.kq_plan.specs.Plans.{planned_of}
 use Rattle.kq_reply.specs.declared.refusal.Refusal.TheVariants as refusals
@@ -14,7 +14,7 @@ returns-in-Some-clause-due c =
     let limits = c.args.snapshot.now.limits in
     let l = log c.args.snapshot.now.history in
     let view = c.args.view.now in
-    let named = table_numbered-named view.name.text (tables l) ∙ ap (option_map (λ (n : Numbered). n.table)) c.in-Some.ensures in
+    let named = table_numbered-named view.name.text (tables l) ∙ ap (option_map (λ (n : NumberedTable). n.table)) c.in-Some.ensures in
     inr (subst (λ (o : Option Table). IsNewDue limits l view c.args.number (planned_of c.args.plan) o (refused (refusals.Exists view.name.at))) (sym named) refl)
 
 pub returns-in-None-clause-due : goal.returns-in-None-clause-due
@@ -22,5 +22,5 @@ returns-in-None-clause-due c =
     let limits = c.args.snapshot.now.limits in
     let l = log c.args.snapshot.now.history in
     let view = c.args.view.now in
-    let named = table_numbered-named view.name.text (tables l) ∙ ap (option_map (λ (n : Numbered). n.table)) c.in-None.ensures in
+    let named = table_numbered-named view.name.text (tables l) ∙ ap (option_map (λ (n : NumberedTable). n.table)) c.in-None.ensures in
     subst (λ (o : Option Table). Finds (IsNewDue limits l view c.args.number (planned_of c.args.plan) o) c.make.result) (sym named) c.make.ensures.due

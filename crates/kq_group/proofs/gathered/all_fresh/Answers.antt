@@ -1,6 +1,6 @@
 use Rattle.std.proofs.Common.{arith}
 use Rattle.std.proofs.lemmas.List.Elements.{All-push}
-use Rattle.kq_group.specs.Groups.{IsFresh}
+use Rattle.kq_group.specs.Groups.{HasNoRows}
 use Rattle.kq_group.proofs.Gathering.{shapes_more}
 use Rattle.kq_group.proofs.gathered.all_fresh.Goals as goal
 
@@ -10,5 +10,5 @@ loop-aggregate-preserved c =
     let s = c.in_ok-fresh_states.field-0 in
     rw c.in_ok-push.ensures.items record {
       shapes = shapes_more states s c.args.aggregates.now c.loop-aggregate.aggregate-index c.aggregate-item.result (omega arith) c.aggregate-item.is c.in_ok-fresh_states.ensures.shape c.loop-aggregate.invariant.shapes;
-      fresh = All-push (IsFresh c.args.count) states s c.loop-aggregate.invariant.fresh c.in_ok-fresh_states.ensures.fresh;
+      fresh = All-push (HasNoRows c.args.count) states s c.loop-aggregate.invariant.fresh c.in_ok-fresh_states.ensures.fresh;
     }

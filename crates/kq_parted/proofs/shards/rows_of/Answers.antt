@@ -4,7 +4,7 @@ use Rattle.std.specs.List.{All}
 use Rattle.std.proofs.lemmas.List.{get_or-map, length-map}
 use Rattle.std.proofs.lemmas.Result.{err_from_is_err_and}
 use Rattle.kq_computed.specs.Computed.{Answers, Is}
-use Rattle.kq_group.specs.Groups.{EndsWide, Grouping, IsWhole, rows_from}
+use Rattle.kq_group.specs.Groups.{EndsWide, Grouping, HasAllGroups, rows_from}
 use Rattle.kq_parted.specs.Shards.{nobody, shard_at}
 use Rattle.kq_parted.proofs.Ending.{IsEnding, IsEnding-fault, IsEnding-more, IsEnding-wide}
 use Rattle.kq_parted.proofs.shards.rows_of.Goals as goal
@@ -16,7 +16,7 @@ rows-requires-clause-whole c =
     let test = c.loop-shard-test.true in
     let there : i < length shards = let n = length-map c.args.shards.now arc_value in omega (arith, test, n) in
     let at : shard_at shards i ≡ c.deref.result.now = get_or-map arc_value c.args.shards.now i c.shard-item.result nobody test ∙ ap arc_value (sym c.shard-item.is) ∙ sym c.deref.ensures in
-    subst IsWhole at (c.requires.whole i nobody there)
+    subst HasAllGroups at (c.requires.whole i nobody there)
 
 pub rows-requires-clause-wide : goal.rows-requires-clause-wide
 rows-requires-clause-wide c =

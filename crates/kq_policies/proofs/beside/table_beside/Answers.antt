@@ -2,7 +2,7 @@ use Rattle.std.proofs.Common.{◌≡◌, All, List, length, map, take, sym, ◌�
 use Rattle.kq_computed.specs.Computed.{Is}
 use Rattle.kq_model.specs.Beside.{TableBeside}
 use Rattle.kq_model.specs.Derived.{Row}
-use Rattle.kq_model.specs.History.{Numbered, log, table_numbered, tables}
+use Rattle.kq_model.specs.History.{NumberedTable, log, table_numbered, tables}
 use Rattle.kq_model.specs.Records.{schema_of}
 use Rattle.kq_model.proofs.Tables.{table_numbered-at}
 use Rattle.kq_value.specs.declared.schema.Field.{Field}
@@ -28,7 +28,7 @@ returns-then-number-source c =
     let l = log c.args.snapshot.now.history in
     let columns = c.args.columns.now in
     let batch = c.args.batch.now.rows in
-    let found : Numbered = record { number = c.in-Some.number; table = c.in-Some.table.now } in
+    let found : NumberedTable = record { number = c.in-Some.number; table = c.in-Some.table.now } in
     let own : c.in-Some.number ≡ c.args.source = omega (arith, c.if-number-source.true) in
     of_given c.batch_cut.result (map (take (length columns)) batch) (λ (rs : List Row). TableBeside l c.args.source batch columns (table_numbered c.args.name.now (tables l)) (Is rs)) c.batch_cut.ensures
     (source_beside l c.args.source batch c.args.name.now columns found c.in-Some.ensures c.requires.first own c.requires.typed)

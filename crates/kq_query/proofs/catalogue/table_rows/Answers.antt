@@ -3,7 +3,7 @@ use Rattle.std.proofs.lemmas.List.Sorted.{length_permutation}
 use Rattle.kq_extent.specs.Seen.{held_records, row_of}
 use Rattle.kq_extent.specs.Wide.{wide_held}
 use Rattle.kq_lent.specs.Lent.{AreLent}
-use Rattle.kq_model.specs.History.{Numbered, log}
+use Rattle.kq_model.specs.History.{NumberedTable, log}
 use Rattle.kq_model.specs.Records.{records}
 use Rattle.kq_rows.proofs.Typed.{same_width-typed}
 use Rattle.kq_query.proofs.Reading.{copies_hold, copies_lent, given_held, typed_held, under_columns}
@@ -28,6 +28,6 @@ returns c =
     let extents = c.extents-extents in
     let held = held_records (wide_held fields extents.result.now) in
     let same = under_columns h c.args.number c.args.table.now extents.result.now c.requires extents.ensures.records in
-    let found : Numbered = record { number = c.args.number; table = c.args.table.now } in
+    let found : NumberedTable = record { number = c.args.number; table = c.args.table.now } in
     let is : c.lent.result ≡ map row_of held = c.lent.ensures ∙ copies_hold fields _ extents.result.now _ c.in_ok-clone_in.ensures c.in_ok-share.ensures in
     given_held {E = Unit {0}} h found held (Ok c.lent.result) same (extents.ensures.typed c.args.table.now c.requires) is

@@ -11,14 +11,14 @@ use Rattle.kq_model.specs.Policies.{noted_by, policies_with}
 use Rattle.kq_model.specs.Records.{extents_made}
 use Rattle.kq_model.proofs.Bounded.{few_made_by}
 use Rattle.kq_model.specs.Tagged.{is_tagged_by}
-use Rattle.kq_tagged.specs.Index.{Adds}
+use Rattle.kq_tagged.specs.Index.{AddsTags}
 use Rattle.kq_catalog.specs.Edits.{IsPlan, edits_by}
 use Rattle.kq_catalog.specs.Held.{tables_in}
 use Rattle.kq_catalog.specs.Intents.{commit_of, event_by, view_by}
 use Rattle.kq_catalog.specs.Policies.{SetsStanding}
 use Rattle.kq_catalog.specs.Seen.{CatalogView, Sound, hist}
 use Rattle.kq_catalog.specs.Views.{HeldView, names_held, with_new}
-use Rattle.kq_catalog.proofs.Standing.{bounded, changes_fit, count_policies, made_few, sets_standing, Holds-push}
+use Rattle.kq_catalog.proofs.Standing.{bounded, changes_fit, count_policies, made_few, sets_standing, HoldsHistory-push}
 use Rattle.kq_catalog.proofs.Viewing.{count_views, new_name}
 use Rattle.kq_catalog.proofs.state.State.with_event.Goals as goal
 
@@ -100,12 +100,12 @@ invariant_of-result c =
     ∙ ap (λ (w : CatalogView). hist w ++ event_by c.args.by c.args.intent ∷ []) (sym c.self.view_is) in
     let index = c.self.inside.tags in
     let tags = c.in_ok-tags.tags in
-    let adds : Adds index (λ t tag. is_tagged_by t tag commit) (c.self.inside.cursor + 1) tags =
-    subst (λ (k : Commit). Adds index (λ t tag. is_tagged_by t tag k) (c.self.inside.cursor + 1) tags) plan.is c.in_ok-tags.ensures in
+    let adds : AddsTags index (λ t tag. is_tagged_by t tag commit) (c.self.inside.cursor + 1) tags =
+    subst (λ (k : Commit). AddsTags index (λ t tag. is_tagged_by t tag k) (c.self.inside.cursor + 1) tags) plan.is c.in_ok-tags.ensures in
     let views : c.in_ok-views.views ≡ with_new v.views (view_by (cursor_of (hist v) + 1) c.args.intent) =
     c.in_ok-views.ensures ∙ ap (with_new v.views) plan.view ∙ ap (λ (w : CatalogView). with_new v.views (view_by (cursor_of (hist w) + 1) c.args.intent)) (sym c.self.view_is) in
     let policies : c.in_ok-policies.policies ≡ policies_with commit v.policies = c.in_ok-policies.ensures ∙ ap (λ (k : Commit). policies_with k v.policies) plan.is in
     let failures : c.in_ok-failures.failures ≡ v.failures ++ noted_by (cursor_of (hist v) + 1) commit =
     c.in_ok-failures.ensures ∙ ap (λ (k : Commit). v.failures ++ noted_by (c.self.inside.cursor + 1) k) plan.is ∙ ap (λ (n : ℕ). v.failures ++ noted_by (n + 1) commit) c.self.invariant.count in
     rw (journal, c.in_ok-tables.ensures, policies, views, failures)
-    (Holds-push v c.self.inside.cursor c.self.inside.made made.made (event_by c.args.by c.args.intent) c.args.intent cs index tags c.self.invariant lawful c.requires.begins refl edits plan.made adds)
+    (HoldsHistory-push v c.self.inside.cursor c.self.inside.made made.made (event_by c.args.by c.args.intent) c.args.intent cs index tags c.self.invariant lawful c.requires.begins refl edits plan.made adds)

@@ -2,7 +2,7 @@ use Rattle.std.proofs.Common.{◌≡◌, ◌<◌, ◌++◌, ◌∷◌, [], ap, s
 use Rattle.kq_model.specs.History.{view_cursor}
 use Rattle.kq_catalog.specs.Seen.{CatalogView, hist}
 use Rattle.kq_catalog.specs.Views.{WasFolded, fold_event}
-use Rattle.kq_catalog.proofs.Viewing.{Holds-fold, count_views, fold_stands}
+use Rattle.kq_catalog.proofs.Viewing.{HoldsHistory-fold, count_views, fold_stands}
 use Rattle.kq_catalog.proofs.state.State.with_fold.Goals as goal
 
 pub with_fold-requires : goal.with_fold-requires
@@ -20,4 +20,4 @@ invariant_of-result c =
     let journal : c.in_ok-journal.journal ≡ hist v ++ fold_event c.args.by c.args.view c.args.to ∷ [] =
     c.in_ok-journal.ensures ∙ ap (λ (w : CatalogView). hist w ++ fold_event c.args.by c.args.view c.args.to ∷ []) (sym c.self.view_is) in
     rw (journal, c.in_ok-tables.ensures, c.in_ok-policies.ensures, c.in_ok-views.ensures, c.in_ok-failures.ensures, c.in_ok-tags.ensures)
-    (Holds-fold v c.self.inside.cursor c.self.inside.made c.args.by c.args.view c.args.to c.args.part c.self.inside.tags c.self.invariant folded ahead)
+    (HoldsHistory-fold v c.self.inside.cursor c.self.inside.made c.args.by c.args.view c.args.to c.args.part c.self.inside.tags c.self.invariant folded ahead)

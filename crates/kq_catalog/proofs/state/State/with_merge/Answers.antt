@@ -8,7 +8,7 @@ use Rattle.kq_extent.specs.Seen.{ExtentView}
 use Rattle.kq_catalog.specs.Edits.{with_merged}
 use Rattle.kq_catalog.specs.Merges.{IsInFront, WasPicked, merge_event}
 use Rattle.kq_catalog.specs.Seen.{CatalogView, hist}
-use Rattle.kq_catalog.proofs.Merged.{Holds-merge, merged_now, table_stands}
+use Rattle.kq_catalog.proofs.Merged.{HoldsHistory-merge, merged_now, table_stands}
 use Rattle.kq_catalog.proofs.Standing.{count_held, made_few}
 use Rattle.kq_catalog.proofs.state.State.with_merge.Goals as goal
 
@@ -52,7 +52,7 @@ invariant_of-result-2 c =
     let tables : c.tables.inside.held ≡ changed (with_merged (length m.old) (e (1 + extents_made (hist v)))) m.table v.held =
     c.tables.view_is ∙ c.in_ok-tables.ensures ∙ ap (λ (n : ℕ). changed (with_merged n (arc_value c.in_ok-extent.extent)) m.table v.held) c.len.ensures
     ∙ ap (λ (x : ExtentView). changed (with_merged (length m.old) x) m.table v.held) extent in
-    rw (journal, tables, c.in_ok-share.ensures, c.in_ok-share-2.ensures, c.in_ok-share-3.ensures, c.in_ok-share-4.ensures) (Holds-merge v c.self.inside.cursor c.self.inside.made c.args.by m c.self.inside.tags c.self.invariant picked front)
+    rw (journal, tables, c.in_ok-share.ensures, c.in_ok-share-2.ensures, c.in_ok-share-3.ensures, c.in_ok-share-4.ensures) (HoldsHistory-merge v c.self.inside.cursor c.self.inside.made c.args.by m c.self.inside.tags c.self.invariant picked front)
 
 pub returns-clause-history : goal.returns-clause-history
 returns-clause-history c =

@@ -2,7 +2,7 @@ use Rattle.std.proofs.Common.{rules, ◌≡◌, ◌∙◌, ap, sym, subst, lengt
 use Rattle.std.proofs.lemmas.Iterator.Adapters.{YieldsList-from_vec}
 use Rattle.std.proofs.lemmas.Iterator.Consumers.{YieldsList-turn, YieldsList-so_far}
 use Rattle.std.proofs.lemmas.List.{map-id}
-use Rattle.kq_model.specs.Edits.{Fits}
+use Rattle.kq_model.specs.Edits.{FitsTables}
 use Rattle.kq_catalog.specs.Edits.{edit_of, put_in, put_all}
 use Rattle.kq_catalog.specs.Held.{HeldTable, tables_in}
 use Rattle.kq_catalog.proofs.Putting.{FitAll-at, put_all-push}
@@ -18,7 +18,7 @@ put-requires c =
     let turn = YieldsList-turn all done c.loop-change.change-iterator c.loop-change.yielded_by c.next.result c.next.new.self x c.in-Some.is c.next.ensures.steps in
     let before : done ≡ take (length done) cs = sym (map-id done) ∙ YieldsList-so_far all done c.loop-change.change-iterator c.loop-change.yielded_by in
     let is : put_all hs (take (length done) cs) ≡ c.loop-change.tables = ap (put_all hs) (sym before) ∙ sym c.loop-change.invariant in
-    subst (λ (ts : List HeldTable). Fits (tables_in ts) (edit_of x)) is (FitAll-at hs cs (length done) x turn.0 turn.1 c.requires)
+    subst (λ (ts : List HeldTable). FitsTables (tables_in ts) (edit_of x)) is (FitAll-at hs cs (length done) x turn.0 turn.1 c.requires)
 
 pub loop-change-preserved : goal.loop-change-preserved
 loop-change-preserved c =

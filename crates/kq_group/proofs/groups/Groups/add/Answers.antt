@@ -4,8 +4,8 @@ use Rattle.std.specs.Vec.{with_items}
 use Rattle.std.proofs.lemmas.List.{with_items_is}
 use Rattle.kq_agg.specs.Tables.{Numbered}
 use Rattle.kq_rows.specs.Chunks.{HasWidth}
-use Rattle.kq_group.specs.Groups.{Adds, Grouping, IsWhole}
-use Rattle.kq_group.proofs.Groupings.{Adds-piece, numbers_along, numbers_known}
+use Rattle.kq_group.specs.Groups.{AddsRows, Grouping, HasAllGroups}
+use Rattle.kq_group.proofs.Groupings.{AddsRows-piece, numbers_along, numbers_known}
 use Rattle.kq_group.proofs.groups.Groups.add.Goals as goal
 
 pub gather_all-requires-clause-along : goal.gather_all-requires-clause-along
@@ -24,9 +24,9 @@ returns c =
     let new : Grouping = record { width = c.numbers.new.self.width; keys = c.numbers.new.self.keys; states = c.gather_all.new.states } in
     let long : length c.gather_all.new.states ≡ length c.self.inside.states.items = c.gather_all.auto.states ∙ ap length c.as_mut_slice.ensures.value in
     let states : (with_items c.self.inside.states c.gather_all.new.states).items ≡ c.gather_all.new.states = with_items_is c.self.inside.states c.gather_all.new.states (long ∙ sym c.self.inside.states.ok.0) in
-    subst (λ (ss : List Numbered). Adds c.args.keys.now c.args.args.now c.args.self.now (record { width = c.numbers.new.self.width; keys = c.numbers.new.self.keys; states = ss })) (sym states)
-    (subst (λ (g : Grouping). Adds c.args.keys.now c.args.args.now g new) is
-    (Adds-piece seen new c.args.keys.now c.args.args.now c.in_ok-numbers.numbers.items (subst IsWhole (sym is) c.requires.whole) c.numbers.ensures.width long
+    subst (λ (ss : List Numbered). AddsRows c.args.keys.now c.args.args.now c.args.self.now (record { width = c.numbers.new.self.width; keys = c.numbers.new.self.keys; states = ss })) (sym states)
+    (subst (λ (g : Grouping). AddsRows c.args.keys.now c.args.args.now g new) is
+    (AddsRows-piece seen new c.args.keys.now c.args.args.now c.in_ok-numbers.numbers.items (subst HasAllGroups (sym is) c.requires.whole) c.numbers.ensures.width long
     (subst (λ (g : Grouping). length c.args.args.now ≡ length g.states) (sym is) c.requires.each) c.requires.along table.apart
     (subst (λ (w : ℕ). All (HasWidth w) c.numbers.new.self.keys) c.numbers.ensures.width table.wide) c.in_ok-numbers.ensures.numbers
     (rw (c.as_slice.ensures.value, c.len-count.ensures.count, c.as_mut_slice.ensures.value) at c.in_ok-gather_all.ensures)))

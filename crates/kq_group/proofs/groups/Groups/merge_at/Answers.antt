@@ -7,7 +7,7 @@ use Rattle.kq_agg.specs.Tables.{Numbered}
 use Rattle.kq_rows.specs.Chunks.{HasWidth, row_at}
 use Rattle.kq_value.specs.declared.value.Value.{Value}
 use Rattle.kq_value.specs.Same.{times}
-use Rattle.kq_group.specs.Groups.{Grouping, IsWhole, shape_of}
+use Rattle.kq_group.specs.Groups.{Grouping, HasAllGroups, shape_of}
 use Rattle.kq_group.specs.Merges.{AbsorbAll, Merges, picked}
 use Rattle.kq_group.proofs.Groupings.{numbers_along, numbers_known}
 use Rattle.kq_group.proofs.Merging.{Merges-piece}
@@ -41,7 +41,7 @@ returns c =
     subst (λ (ss : List Numbered). Merges (picked places c.args.other.now) c.args.self.now (record { width = c.numbers_at.new.self.width; keys = c.numbers_at.new.self.keys; states = ss })) (sym states)
     (subst (λ (g : Grouping). Merges (picked places c.args.other.now) g new) is
     (subst (λ (o : Grouping). Merges (picked places o) seen new) that
-    (Merges-piece other seen new ns places (subst IsWhole (sym is) c.requires.whole) c.numbers_at.ensures.width
+    (Merges-piece other seen new ns places (subst HasAllGroups (sym is) c.requires.whole) c.numbers_at.ensures.width
     (subst (λ (g : Grouping). other.width ≡ g.width) (sym is) (subst (λ (o : Grouping). o.width ≡ c.args.self.now.width) (sym that) c.requires.width)) long
     (subst (λ (g : Grouping). map shape_of other.states ≡ map shape_of g.states) (sym is) (subst (λ (o : Grouping). map shape_of o.states ≡ map shape_of c.args.self.now.states) (sym that) c.requires.shapes))
     table.apart (subst (λ (w : ℕ). All (HasWidth w) c.numbers_at.new.self.keys) c.numbers_at.ensures.width table.wide)

@@ -1,6 +1,6 @@
 use Rattle.std.proofs.Common.{List, map, sym, subst}
 use Rattle.std.specs.Arc.{arc_value}
-use Rattle.kq_group.specs.Grouped.{Aggregating}
+use Rattle.kq_group.specs.Grouped.{AggregateShape}
 use Rattle.kq_group.specs.Groups.{Grouping, Starts}
 use Rattle.kq_group.specs.Merges.{Lacks}
 use Rattle.kq_parted.specs.Shards.{AreShards, all_of}
@@ -13,8 +13,8 @@ invariant_of-result c =
     let aggregates = c.args.aggregates.items in
     let first = arc_value c.in_ok-first-2.first in
     let none = arc_value c.in_ok-none-2.none in
-    let starts : Starts width aggregates first = subst (Starts width aggregates) (sym c.in_ok-first-2.ensures.ok) (subst (λ (gs : List Aggregating). Starts width gs c.in_ok-first.first) c.as_slice.ensures.value c.in_ok-first.ensures) in
-    let lacks : Lacks width aggregates none = subst (Lacks width aggregates) (sym c.in_ok-none-2.ensures.ok) (subst (λ (gs : List Aggregating). Lacks width gs c.in_ok-none.none) c.as_slice-2.ensures.value c.in_ok-none.ensures) in
+    let starts : Starts width aggregates first = subst (Starts width aggregates) (sym c.in_ok-first-2.ensures.ok) (subst (λ (gs : List AggregateShape). Starts width gs c.in_ok-first.first) c.as_slice.ensures.value c.in_ok-first.ensures) in
+    let lacks : Lacks width aggregates none = subst (Lacks width aggregates) (sym c.in_ok-none-2.ensures.ok) (subst (λ (gs : List AggregateShape). Lacks width gs c.in_ok-none.none) c.as_slice-2.ensures.value c.in_ok-none.ensures) in
     rw (c.in_ok-aggregates.ensures.ok) (subst (AreShards width aggregates) (sym c.in_ok-shards.ensures) (AreShards-empty width aggregates first none starts lacks))
 
 pub returns : goal.returns
@@ -23,8 +23,8 @@ returns c =
     let aggregates = c.args.aggregates.items in
     let first = arc_value c.in_ok-first-2.first in
     let none = arc_value c.in_ok-none-2.none in
-    let starts : Starts width aggregates first = subst (Starts width aggregates) (sym c.in_ok-first-2.ensures.ok) (subst (λ (gs : List Aggregating). Starts width gs c.in_ok-first.first) c.as_slice.ensures.value c.in_ok-first.ensures) in
-    let lacks : Lacks width aggregates none = subst (Lacks width aggregates) (sym c.in_ok-none-2.ensures.ok) (subst (λ (gs : List Aggregating). Lacks width gs c.in_ok-none.none) c.as_slice-2.ensures.value c.in_ok-none.ensures) in
+    let starts : Starts width aggregates first = subst (Starts width aggregates) (sym c.in_ok-first-2.ensures.ok) (subst (λ (gs : List AggregateShape). Starts width gs c.in_ok-first.first) c.as_slice.ensures.value c.in_ok-first.ensures) in
+    let lacks : Lacks width aggregates none = subst (Lacks width aggregates) (sym c.in_ok-none-2.ensures.ok) (subst (λ (gs : List AggregateShape). Lacks width gs c.in_ok-none.none) c.as_slice-2.ensures.value c.in_ok-none.ensures) in
     let all : Starts width aggregates (all_of width (arc_value c.in_ok-aggregates.aggregates).items (map arc_value c.in_ok-shards.shards.items)) =
     rw (c.in_ok-aggregates.ensures.ok)
     (subst (λ (gs : List Grouping). Starts width aggregates (all_of width aggregates gs)) (sym c.in_ok-shards.ensures) (Starts-empty width aggregates first none starts lacks)) in

@@ -2,7 +2,7 @@ use Rattle.std.proofs.Common.{◌≡◌, map, sym, ap, ◌∙◌, subst}
 use Rattle.std.specs.Arc.{arc_value}
 use Rattle.std.specs.List.{All}
 use Rattle.kq_computed.specs.Computed.{Answers}
-use Rattle.kq_group.specs.Groups.{EndsWide, Grouping, IsWhole, rows_from, shape_of}
+use Rattle.kq_group.specs.Groups.{EndsWide, Grouping, HasAllGroups, rows_from, shape_of}
 use Rattle.kq_group.proofs.Finishing.{EndsWide-Stands, Grouped-Stands, IsGrouped-from}
 use Rattle.kq_parted.specs.Shards.{AreFinishable, all_of, rows_in}
 use Rattle.kq_parted.proofs.Ending.{AreFinishable-shards, rows_of_all}
@@ -15,7 +15,7 @@ rows_of-requires c =
     let aggregates = (arc_value c.self.inside.aggregates).items in
     let shards = map arc_value c.self.inside.shards.items in
     let seen : all_of width aggregates shards ≡ c.args.self.now = c.self.view_is in
-    let whole : IsWhole c.args.self.now = subst IsWhole seen (all_whole width aggregates shards c.self.invariant) in
+    let whole : HasAllGroups c.args.self.now = subst HasAllGroups seen (all_whole width aggregates shards c.self.invariant) in
     let ends : All EndsWide c.args.self.now.states = EndsWide-Stands c.requires.keys c.requires.args c.args.self.now c.requires.stands whole c.requires.fit in
     let finishable : AreFinishable shards = AreFinishable-shards width aggregates shards c.self.invariant (subst (λ (g : Grouping). All EndsWide g.states) (sym seen) ends) in
     rw (c.as_slice.ensures.value) finishable
