@@ -1,6 +1,5 @@
 //! The program: it serves a script from standard input, beside it each feed and each worker in a thread of its own, and
 //! ends with a status.
-//!
 //! Everything is left to the crates below it; here the feeds are opened, the catalogue is made, the sessions are served,
 //! the workers are started and stopped, and what comes of them is handed back.
 #![tactic(auto)]

@@ -1,5 +1,4 @@
 //! Groups of the rows that come through row operators: their keys, the arguments of aggregates over a piece of rows, and the groups that all pieces come to. What a view's body is, and when groups stand for it, is defined here.
-//!
 //! How rows come through operators is left to `kq_stretch` and `kq_lent`, what groups keep to `kq_group`, and what becomes of them to the crates above.
 #![tactic(auto)]
 

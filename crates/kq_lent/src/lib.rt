@@ -1,5 +1,4 @@
 //! The rows that a query reads: rows of its own, or the records of extents, which are lent as they stand. So a count makes no row, and what row operators make of lent records is made of those of their columns that an expression reads, a part of an extent at a time.
-//!
 //! What operators make of a part is left to `kq_stretch`, and which extents a query reads to the crates above.
 #![tactic(auto)]
 

@@ -1,5 +1,4 @@
 //! Replies: what a command is answered with, the numbers of the refusals, and the text that is printed.
-//!
 //! Which reply a command gets, and which answer a query, is left to the engine.
 #![tactic(auto)]
 

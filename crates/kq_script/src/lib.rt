@@ -1,5 +1,4 @@
 //! Scripts: the commands of a script's bytes, read piece by piece.
-//!
 //! It leaves to others what a command says and what is answered.
 #![tactic(auto)]
 

@@ -1,5 +1,4 @@
 //! Row operators one after another over a piece of rows: a condition chooses places and copies no cell, expressions make rows of those of the columns that they read, and an expansion makes a row for each part of a value. The failure of several is that of the first of them that overflows.
-//!
 //! What an expression gives of rows is left to `kq_piecewise`, where the rows stand to those who lend them, and what becomes of them to the crates above.
 #![tactic(auto)]
 

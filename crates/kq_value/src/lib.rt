@@ -1,5 +1,4 @@
 //! Values, rows, schemas, tags and what names a record: their types, their total order and their hashes.
-//!
 //! Contracts see a text as its bytes, a collection as its list and a dynamic as its tree, with no allocator, capacity or pointer in sight, so that two values which the order doesn't tell apart are equal.
 #![tactic(auto)]
 

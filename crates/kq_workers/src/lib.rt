@@ -1,5 +1,4 @@
 //! Workers: beside the sessions they bring views forward and merge small extents, in rounds, until they are told to stop.
-//!
 //! What there is to do, and how it is done, is the engine's; starting workers and stopping them is the program's.
 #![tactic(auto)]
 

@@ -1,5 +1,4 @@
 //! The outside of a session: where its bytes come from and go to, its clock, and the gate that a test holds it by.
-//!
 //! Nothing else meets a file, a stream or a clock. Each object tells contracts what was read from it, written to it or
 //! given by it. The sources in memory tell the bytes left too, which the real ones don't know.
 #![tactic(auto)]
