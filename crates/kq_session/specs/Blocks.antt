@@ -13,7 +13,7 @@ use Rattle.kq_reply.specs.declared.refusal.Refusal.{Refusal}
 use Rattle.kq_reply.specs.declared.refusal.Refusal.TheVariants as refusals
 use Rattle.kq_reply.specs.declared.reply.Reply.{Reply}
 use Rattle.kq_reply.specs.declared.reply.Reply.TheVariants as replies
-use Rattle.kq_reply.specs.Number.{kind_of}
+use Rattle.kq_reply.specs.Number.{kind_of, number_of}
 use Rattle.kq_script.specs.Script.{Block, command, too_long}
 use Rattle.kq_engine.specs.declared.work.Outcome.{Outcome}
 use Rattle.kq_engine.specs.Fits.{Fits}
@@ -56,9 +56,9 @@ abbrev pub FitsBlock : Limits → History → By → Block → ℤ → ℕ → B
 FitsBlock limits h request (command text) now place own reply = FitsText limits h request text now place own reply
 FitsBlock limits h request (too_long bytes) now place own reply = RefusesLength h place own reply bytes
 
--- the refusals of a text alone, and for want of memory: Memory, Syntax, Deep, TooLong, Unsupported and NotText
+-- the kinds of the refusals of a text alone, and for want of memory
 abbrev pub is_early : ℕ → Bool
-is_early kind = list_any (nat_eq kind) (1 ∷ 2 ∷ 3 ∷ 6 ∷ 12 ∷ 22 ∷ [])
+is_early kind = list_any (λ (r : Refusal). nat_eq kind (number_of r)) (refusals.Memory ∷ refusals.Syntax 0 ∷ refusals.Deep 0 ∷ refusals.TooLong 0 ∷ refusals.Unsupported 0 ∷ refusals.NotText 0 ∷ [])
 
 -- the takes for a reply of this kind at this place, two at most: such a refusal needs none, and else the place is at least
 -- the first
