@@ -2,11 +2,11 @@
 use Rattle.std.proofs.Common.{◌≡◌, ◌≤◌, ◌&&◌, Bool, true, false, ℕ, cond, List, length, nat_le, ◌∷◌, [], Option, Some, None, option_and_then, option_map, unwrap_or, refl, subst, arith}
 use Rattle.std.proofs.lemmas.Bool.Decides.{nat_tests}
 use Rattle.std.specs.Str.Parse.{digits_value}
-use Rattle.kq_words.specs.Words.{Asked, Said, Text, asked, asked_by, all_asked, are_distinct, feeds_given, is_number, read, number_given, number_in, texts_of}
+use Rattle.kq_words.specs.Words.{Asked, Said, WordText, asked, asked_by, all_asked, are_distinct, feeds_given, is_number, read, number_given, number_in, texts_of}
 use Rattle.kq_words.specs.Words.Kind.{workers, generate, feed}
 
 -- at most seven, no two equal
-pub record AreFeeds (feeds : List Text) : Type 0 where
+pub record AreFeeds (feeds : List WordText) : Type 0 where
   pub distinct : are_distinct feeds ≡ true
   pub few : length feeds ≤ 7
 
@@ -17,17 +17,17 @@ both_true false b e = absurd cc
 few_of : (n : ℕ) → nat_le n 7 ≡ true → n ≤ 7
 few_of n e = grind (arith, nat_tests, e)
 
-given_if : (b : Bool) (feeds fs : List Text) → (b ≡ true → AreFeeds feeds) → cond b (Some feeds) None ≡ Some fs → AreFeeds fs
+given_if : (b : Bool) (feeds fs : List WordText) → (b ≡ true → AreFeeds feeds) → cond b (Some feeds) None ≡ Some fs → AreFeeds fs
 given_if true feeds fs are e = let same : feeds ≡ fs = cc in subst AreFeeds same (are refl)
 given_if false feeds fs are e = absurd cc
 
-given : (feeds fs : List Text) → feeds_given feeds ≡ Some fs → AreFeeds fs
+given : (feeds fs : List WordText) → feeds_given feeds ≡ Some fs → AreFeeds fs
 given feeds fs e = given_if (nat_le (length feeds) 7 && are_distinct feeds) feeds fs both e
   where
     both : nat_le (length feeds) 7 && are_distinct feeds ≡ true → AreFeeds feeds
     both t = let parts = both_true (nat_le (length feeds) 7) (are_distinct feeds) t in record { distinct = parts.1; few = few_of (length feeds) parts.0 }
 
-all_given : (w : Option (Option ℕ)) (n : Option (Option ℕ)) (feeds : List Text) (f : Option (List Text)) (a : Asked) → feeds_given feeds ≡ f → all_asked w n f ≡ Some a → AreFeeds a.feeds
+all_given : (w : Option (Option ℕ)) (n : Option (Option ℕ)) (feeds : List WordText) (f : Option (List WordText)) (a : Asked) → feeds_given feeds ≡ f → all_asked w n f ≡ Some a → AreFeeds a.feeds
 all_given (Some w) (Some n) feeds (Some fs) a is e =
     let all : Asked = record { workers = unwrap_or w 0; generate = n; feeds = fs } in
     let same : all ≡ a = cc in
@@ -40,7 +40,7 @@ of_said : (said : Option (List Said)) (a : Asked) → option_and_then asked_by s
 of_said (Some said) a e = all_given (number_given 0 8 (texts_of workers said)) (number_given 1 1000000 (texts_of generate said)) (texts_of feed said) _ a refl e
 of_said None a e = absurd cc
 
-pub asked-feeds : (words : List Text) (a : Asked) → asked words ≡ Some a → AreFeeds a.feeds
+pub asked-feeds : (words : List WordText) (a : Asked) → asked words ≡ Some a → AreFeeds a.feeds
 asked-feeds words a e = of_said (read None words) a e
 
 -- ---- the numbers
@@ -54,7 +54,7 @@ some_if : (b : Bool) (high n w : ℕ) → (b ≡ true → n ≤ high) → cond b
 some_if true high n w few e = let same : n ≡ w = cc in subst (λ (k : ℕ). k ≤ high) same (few refl)
 some_if false high n w few e = absurd cc
 
-number_up_to : (low high : ℕ) (text : Text) (w : ℕ) → number_in low high text ≡ Some w → w ≤ high
+number_up_to : (low high : ℕ) (text : WordText) (w : ℕ) → number_in low high text ≡ Some w → w ≤ high
 number_up_to low high text w e = some_if (is_number text && (nat_le low n && nat_le n high)) high n w few e
   where
     n : ℕ
@@ -71,7 +71,7 @@ of_one high None w few e = absurd cc
 of_one high (Some n) None few e = tt
 of_one high (Some n) (Some w) few e = let same : n ≡ w = cc in subst (λ (k : ℕ). k ≤ high) same (few n refl)
 
-given_up_to : (low high : ℕ) (texts : List Text) (w : Option ℕ) → number_given low high texts ≡ Some w → IsUpTo high w
+given_up_to : (low high : ℕ) (texts : List WordText) (w : Option ℕ) → number_given low high texts ≡ Some w → IsUpTo high w
 given_up_to low high [] None e = tt
 given_up_to low high [] (Some w) e = absurd cc
 given_up_to low high (text ∷ []) w e = of_one high (number_in low high text) w (number_up_to low high text) e
@@ -85,7 +85,7 @@ or_none : (w : Option ℕ) → IsUpTo 8 w → unwrap_or w 0 ≤ 8
 or_none None few = omega arith
 or_none (Some w) few = few
 
-all_up_to : (w n : Option (Option ℕ)) (f : Option (List Text)) (a : Asked) → ((k : Option ℕ) → w ≡ Some k → IsUpTo 8 k) → ((k : Option ℕ) → n ≡ Some k → IsUpTo 1000000 k) → all_asked w n f ≡ Some a → AreUpTo a
+all_up_to : (w n : Option (Option ℕ)) (f : Option (List WordText)) (a : Asked) → ((k : Option ℕ) → w ≡ Some k → IsUpTo 8 k) → ((k : Option ℕ) → n ≡ Some k → IsUpTo 1000000 k) → all_asked w n f ≡ Some a → AreUpTo a
 unfolding AreUpTo
 all_up_to (Some w) (Some n) (Some fs) a few rows e =
     let all : Asked = record { workers = unwrap_or w 0; generate = n; feeds = fs } in
@@ -100,10 +100,10 @@ up_to_said (Some said) a e =
     all_up_to (number_given 0 8 (texts_of workers said)) (number_given 1 1000000 (texts_of generate said)) _ a (given_up_to 0 8 (texts_of workers said)) (given_up_to 1 1000000 (texts_of generate said)) e
 up_to_said None a e = absurd cc
 
-pub asked-workers : (words : List Text) (a : Asked) → asked words ≡ Some a → a.workers ≤ 8
+pub asked-workers : (words : List WordText) (a : Asked) → asked words ≡ Some a → a.workers ≤ 8
 unfolding AreUpTo
 asked-workers words a e = (up_to_said (read None words) a e).0
 
-pub asked-rows : (words : List Text) (a : Asked) → asked words ≡ Some a → IsUpTo 1000000 a.generate
+pub asked-rows : (words : List WordText) (a : Asked) → asked words ≡ Some a → IsUpTo 1000000 a.generate
 unfolding AreUpTo
 asked-rows words a e = (up_to_said (read None words) a e).1

@@ -5,7 +5,7 @@ use Rattle.std.proofs.lemmas.Bool.Decides.{nat_tests}
 use Rattle.kq_script.specs.Script.{Block, Script, script_blocks, block_of, is_blank}
 use Rattle.kq_script.specs.Item.{IsItemOf}
 use Rattle.kq_script.specs.Open.{IsOpen, AreItem, open_run, open_line}
-use Rattle.kq_script.specs.Reading.{IsPrefix, IsReading, IsUnclosed, Outcome, ReadsItem}
+use Rattle.kq_script.specs.Reading.{IsPrefix, IsReading, IsUnclosed, ItemOutcome, ReadsItem}
 use Rattle.kq_script.specs.State.{IsAt, unread, HasLooked, HasEnded, GivesLast, IsDrained, IsAtEnd}
 use Rattle.kq_world.specs.Told.{Loses, IsEmpty}
 use Rattle.kq_world.specs.Outside.{SourceView, Delivers, DeliversFront}
@@ -124,7 +124,7 @@ not_due phases.Reading command input reader first source taken given block full 
 not_due phases.Ended command input reader first source taken given block full all h = let below = h.below in omega arith
 not_due phases.Closed command input reader first source taken given block full all h = h
 
-pub due : (command input : ℕ) (result : Result Item ScriptFault) (reader : ScriptReader) (first source : SourceView) (taken : List ℕ) (given : List Block) → Outcome command input result reader first source taken given
+pub due : (command input : ℕ) (result : Result Item ScriptFault) (reader : ScriptReader) (first source : SourceView) (taken : List ℕ) (given : List Block) → ItemOutcome command input result reader first source taken given
     → length taken ≡ input → given ≡ script_blocks command taken false → result ≡ Err InputLimit
 due command input (Ok Finished) reader first source taken given h full all = let below = h.2 in absurd (omega arith)
 due command input (Ok (Command bytes)) reader first source taken given h full all = absurd (not_due reader.phase command input reader first source taken given h.0 full all h.2.state)
@@ -133,7 +133,7 @@ due command input (Ok Lost) reader first source taken given h full all = absurd 
 due command input (Err ReadFault) reader first source taken given h full all = let below = h.1 in absurd (omega arith)
 due command input (Err InputLimit) reader first source taken given h full all = refl
 
-pub outcome_item : (command input : ℕ) (item : Item) (reader : ScriptReader) (first source : SourceView) (taken : List ℕ) (given : List Block) (block : Block) → IsItemOf command item block → IsReading command input reader first source taken (given ++ block ∷ []) → Outcome command input (Ok item) reader first source taken given
+pub outcome_item : (command input : ℕ) (item : Item) (reader : ScriptReader) (first source : SourceView) (taken : List ℕ) (given : List Block) (block : Block) → IsItemOf command item block → IsReading command input reader first source taken (given ++ block ∷ []) → ItemOutcome command input (Ok item) reader first source taken given
 outcome_item command input (Command bytes) reader first source taken given block is h = (block, is, h)
 outcome_item command input (TooLong bytes) reader first source taken given block is h = (block, is, h)
 outcome_item command input Lost reader first source taken given block is h = (block, is, h)
@@ -247,7 +247,7 @@ at_end command input reader first source taken given limit max count below gives
 }
 
 outcome_last : (command input : ℕ) (item : Item) (reader : ScriptReader) (first source : SourceView) (taken : List ℕ) (given : List Block) → reader.block.limit ≡ command → reader.input ≡ input → reader.taken ≡ length taken → length taken < input → Delivers first source taken → IsAtEnd first source
-    → GivesLast command item reader.phase taken given → Outcome command input (Ok item) reader first source taken given
+    → GivesLast command item reader.phase taken given → ItemOutcome command input (Ok item) reader first source taken given
 outcome_last command input Finished reader first source taken given limit max count below gives ended h = (h.1, ended, below)
 outcome_last command input (Command bytes) reader first source taken given limit max count below gives ended h =
     (h.1, h.2, at_end command input reader first source taken (given ++ h.1 ∷ []) limit max count below gives ended h.0 h.3)
@@ -299,7 +299,7 @@ ReadsItem-fault command input old new first source source' source'' taken given 
     let bytes = h.goes.before ++ h.goes.last in
     let below : length (taken ++ bytes) < input = omega (arith, r.counted, r.input_limit) in
     let closed : Script command (taken ++ bytes) false given = h.looked.given_all ∙ ap (λ bs. script_blocks command bs false) h.all in
-    let outcome : Outcome command input (Err ReadFault) new first source'' (taken ++ bytes) given = (closed, below, ap (λ (s : SourceView). s.ended) same ∙ h.unmet) in
+    let outcome : ItemOutcome command input (Err ReadFault) new first source'' (taken ++ bytes) given = (closed, below, ap (λ (s : SourceView). s.ended) same ∙ h.unmet) in
     record {
       before = h.goes.before;
       last = h.goes.last;
@@ -323,7 +323,7 @@ pub ReadsItem-again : (command input : ℕ) (old new : ScriptReader) (first sour
 ReadsItem-again command input old new first source taken given phase h =
     let ended : HasEnded command input first source taken given = subst (λ p. IsAt p command input old first source taken given) phase h.state in
     let all = sym (append-nil taken) in
-    let outcome : Outcome command input (Ok Finished) new first source (taken ++ []) given = subst (λ bs. Outcome command input (Ok Finished) new first source bs given) all (ended.given_all, ended.at_end, ended.below) in
+    let outcome : ItemOutcome command input (Ok Finished) new first source (taken ++ []) given = subst (λ bs. ItemOutcome command input (Ok Finished) new first source bs given) all (ended.given_all, ended.at_end, ended.below) in
     record { before = []; last = []; gives = Delivers-none source; piece = omega arith; needed = inl refl; outcome = outcome; at_limit = due command input (Ok Finished) new first source (taken ++ []) given outcome }
 
 -- all bytes taken are those that the source gave from the first
@@ -331,12 +331,12 @@ pub ReadsItem-gives : (command input : ℕ) (result : Result Item ScriptFault) (
 ReadsItem-gives command input result old new first source source' taken given r h = Delivers-trans first source source' taken (h.before ++ h.last) r.gives h.gives
 
 -- what an item other than the end was: the next block
-pub Outcome-block : (command input : ℕ) (item : Item) (reader : ScriptReader) (first source : SourceView) (taken : List ℕ) (given : List Block) → (item ≡ Finished → ⊥) → Outcome command input (Ok item) reader first source taken given
+pub ItemOutcome-block : (command input : ℕ) (item : Item) (reader : ScriptReader) (first source : SourceView) (taken : List ℕ) (given : List Block) → (item ≡ Finished → ⊥) → ItemOutcome command input (Ok item) reader first source taken given
     → (block : Block) × IsItemOf command item block × IsReading command input reader first source taken (given ++ block ∷ [])
-Outcome-block command input (Command bytes) reader first source taken given more h = h
-Outcome-block command input (TooLong bytes) reader first source taken given more h = h
-Outcome-block command input Lost reader first source taken given more h = h
-Outcome-block command input Finished reader first source taken given more h = absurd (more refl)
+ItemOutcome-block command input (Command bytes) reader first source taken given more h = h
+ItemOutcome-block command input (TooLong bytes) reader first source taken given more h = h
+ItemOutcome-block command input Lost reader first source taken given more h = h
+ItemOutcome-block command input Finished reader first source taken given more h = absurd (more refl)
 
 -- a reader that has taken and given may be called again
 pub IsUnclosed-reading : (command input : ℕ) (reader : ScriptReader) (first source : SourceView) (taken : List ℕ) (given : List Block) → IsReading command input reader first source taken given → IsUnclosed reader

@@ -31,11 +31,11 @@ pub record IsReading (command input : ℕ) (reader : ScriptReader) (first source
   pub state : IsAt reader.phase command input reader first source taken given
 
 -- what came of a call, with these bytes taken by then
-abbrev pub Outcome : ℕ → ℕ → Result Item ScriptFault → ScriptReader → SourceView → SourceView → List ℕ → List Block → Type 0
-Outcome command input (Ok Finished) reader first source taken given = Script command taken true given × IsAtEnd first source × (length taken < input)
-Outcome command input (Ok item) reader first source taken given = (block : Block) × IsItemOf command item block × IsReading command input reader first source taken (given ++ block ∷ [])
-Outcome command input (Err ReadFault) reader first source taken given = Script command taken false given × (length taken < input) × (source.ended ≡ first.ended)
-Outcome command input (Err InputLimit) reader first source taken given = Script command taken false given × (length taken ≡ input) × (source.ended ≡ first.ended)
+abbrev pub ItemOutcome : ℕ → ℕ → Result Item ScriptFault → ScriptReader → SourceView → SourceView → List ℕ → List Block → Type 0
+ItemOutcome command input (Ok Finished) reader first source taken given = Script command taken true given × IsAtEnd first source × (length taken < input)
+ItemOutcome command input (Ok item) reader first source taken given = (block : Block) × IsItemOf command item block × IsReading command input reader first source taken (given ++ block ∷ [])
+ItemOutcome command input (Err ReadFault) reader first source taken given = Script command taken false given × (length taken < input) × (source.ended ≡ first.ended)
+ItemOutcome command input (Err InputLimit) reader first source taken given = Script command taken false given × (length taken ≡ input) × (source.ended ≡ first.ended)
 
 -- one call: the bytes that the source gave are those taken. The last piece of them was taken only because the bytes
 -- before it left no closed block, and the fault at the limit comes wherever it is due
@@ -45,7 +45,7 @@ pub record ReadsItem (command input : ℕ) (result : Result Item ScriptFault) (r
   pub gives : Delivers source source' (before ++ last)
   pub piece : length last ≤ 4096
   pub needed : (before ++ last ≡ []) ⊎ Script command (taken ++ before) false given
-  pub outcome : Outcome command input result reader first source' (taken ++ (before ++ last)) given
+  pub outcome : ItemOutcome command input result reader first source' (taken ++ (before ++ last)) given
   pub at_limit : length (taken ++ (before ++ last)) ≡ input → Script command (taken ++ (before ++ last)) false given → result ≡ Err InputLimit
 
 -- the count of faults rises exactly at a read fault

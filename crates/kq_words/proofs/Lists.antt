@@ -9,16 +9,16 @@ use Rattle.std.specs.Str.{bytes_eq}
 use Rattle.std.specs.Str.Parse.{digits_value, ParsesUnsigned}
 use Rattle.std.proofs.lemmas.Bool.Decides.{leb_tells}
 use Rattle.std.proofs.lemmas.Str.Parse.{IsNumeralModel, numerals_by_value, parse_digits}
-use Rattle.kq_words.specs.Words.{Text, all_asked, are_distinct, feeds_given, is_number, number_in}
+use Rattle.kq_words.specs.Words.{WordText, all_asked, are_distinct, feeds_given, is_number, number_in}
 
-abbrev pub now_of : List (Bor Text) → List Text
+abbrev pub now_of : List (Bor WordText) → List WordText
 now_of = map (λ n. n.now)
 
-any_now : (t : Text) (ns : List (Bor Text)) → list_any (λ u. bytes_eq u t) (now_of ns) ≡ list_any (λ (n : Bor Text). bytes_eq n.now t) ns
+any_now : (t : WordText) (ns : List (Bor WordText)) → list_any (λ u. bytes_eq u t) (now_of ns) ≡ list_any (λ (n : Bor WordText). bytes_eq n.now t) ns
 any_now t [] = refl
 any_now t (n ∷ ns) = ap (λ b. bytes_eq n.now t || b) (any_now t ns)
 
-pub are_distinct-cons : (n : Bor Text) (ns all : List (Bor Text)) (b : Bool) → all ≡ n ∷ ns → b ≡ list_any (λ (m : Bor Text). bytes_eq m.now n.now) ns → are_distinct (now_of all) ≡ (not b && are_distinct (now_of ns))
+pub are_distinct-cons : (n : Bor WordText) (ns all : List (Bor WordText)) (b : Bool) → all ≡ n ∷ ns → b ≡ list_any (λ (m : Bor WordText). bytes_eq m.now n.now) ns → are_distinct (now_of all) ≡ (not b && are_distinct (now_of ns))
 are_distinct-cons n ns all b whole e = ap (λ l. are_distinct (now_of l)) whole ∙ ap (λ c. not c && are_distinct (now_of ns)) (any_now n.now ns ∙ sym e)
 
 own : IsNumeralModel (λ ds. list_all is_ascii_digit ds ≡ true) (digits_value 10)
@@ -41,7 +41,7 @@ leb_true a b h = grind (arith, leb_tells)
 leb_is : (a b : ℕ) → a ≤ b → nat_le a b ≡ true
 leb_is a b h = grind (arith, leb_tells)
 
-pub feeds_given-some : (feeds : List Text) → length feeds ≤ 7 → are_distinct feeds ≡ true → feeds_given feeds ≡ Some feeds
+pub feeds_given-some : (feeds : List WordText) → length feeds ≤ 7 → are_distinct feeds ≡ true → feeds_given feeds ≡ Some feeds
 feeds_given-some feeds few distinct = rw (leb_is (length feeds) 7 few, distinct) refl
 
 and_none : (a b : Bool) → (a && (b && false)) ≡ false
@@ -49,7 +49,7 @@ and_none true true = refl
 and_none true false = refl
 and_none false b = refl
 
-number_in-too_large : {E : Type 0} (least most : ℕ) (t : Text) (e : E) → most < 2 ^ 32 → is_number t ≡ true → ParsesUnsigned 32 10 t (Err e) → number_in least most t ≡ None
+number_in-too_large : {E : Type 0} (least most : ℕ) (t : WordText) (e : E) → most < 2 ^ 32 → is_number t ≡ true → ParsesUnsigned 32 10 t (Err e) → number_in least most t ≡ None
 number_in-too_large least most t e fits number parses =
     let digits = and_right (nat_le 1 (length t) && nat_le (length t) 7) (list_all is_ascii_digit t) number in
     let some = leb_true 1 (length t) (and_left (nat_le 1 (length t)) (nat_le (length t) 7) (and_left (nat_le 1 (length t) && nat_le (length t) 7) (list_all is_ascii_digit t) number)) in
@@ -58,10 +58,10 @@ number_in-too_large least most t e fits number parses =
     ap (λ b. cond (is_number t && (nat_le least (digits_value 10 t) && b)) (Some (digits_value 10 t)) None) (leb_false (digits_value 10 t) most large)
     ∙ ap (λ b. cond b (Some (digits_value 10 t)) None) (and_none (is_number t) (nat_le least (digits_value 10 t)))
 
-pub number_in-unparsed : {E : Type 0} (least most : ℕ) (t : Text) (r : Result ℕ E) → None ≡ result_ok r → most < 2 ^ 32 → is_number t ≡ true → ParsesUnsigned 32 10 t r → number_in least most t ≡ None
+pub number_in-unparsed : {E : Type 0} (least most : ℕ) (t : WordText) (r : Result ℕ E) → None ≡ result_ok r → most < 2 ^ 32 → is_number t ≡ true → ParsesUnsigned 32 10 t r → number_in least most t ≡ None
 number_in-unparsed least most t (Ok n) none fits number parses = absurd (cc)
 number_in-unparsed least most t (Err e) none fits number parses = number_in-too_large least most t e fits number parses
 
-pub no_generate : (w : Option (Option ℕ)) (fs : Option (List Text)) → all_asked w None fs ≡ None
+pub no_generate : (w : Option (Option ℕ)) (fs : Option (List WordText)) → all_asked w None fs ≡ None
 no_generate None fs = refl
 no_generate (Some w) fs = refl

@@ -12,17 +12,17 @@ use Rattle.clap.specs.Words.{matches_of}
 use Rattle.clap.specs.declared.parser.matches.ValueSource.TheVariants.{CommandLine}
 use Rattle.clap.specs.declared.builder.value_parser.Reading.{Reading}
 use Rattle.kq_words.specs.Command.{console_app, given_to, asked_in}
-use Rattle.kq_words.specs.Words.{Text, Kind, workers, generate, feed, Said, is_same, texts_of, read, asked, all_asked, feeds_given, asked_by, number_given}
+use Rattle.kq_words.specs.Words.{WordText, Kind, workers, generate, feed, Said, is_same, texts_of, read, asked, all_asked, feeds_given, asked_by, number_given}
 use Rattle.kq_words.proofs.Lists.{no_generate}
 use Rattle.kq_words.proofs.Walking.{id_of, rule_for, rules, shape, Fails, uses_fault, uses_rows, fails_first, or_else-nil, rest_fault, rest_rows, walked_all, Agrees, all_read}
 
 -- ---- rows
 
-abbrev pub some_of : List Text → Option (List Text)
+abbrev pub some_of : List WordText → Option (List WordText)
 some_of [] = None
 some_of (t ∷ ts) = Some (t ∷ ts)
 
-has_row-is : (id : Text) (rows : List Row) → has_row id rows ≡ is_some (all_of id rows)
+has_row-is : (id : WordText) (rows : List Row) → has_row id rows ≡ is_some (all_of id rows)
 has_row-is id [] = refl
 has_row-is id (r ∷ rs) = go (bytes_eq r.id id) refl (has_row-is id rs)
   where
@@ -30,7 +30,7 @@ has_row-is id (r ∷ rs) = go (bytes_eq r.id id) refl (has_row-is id rs)
     go true e later = rw e refl
     go false e later = rw e later
 
-without-none : (id : Text) (rows : List Row) → all_of id rows ≡ None → without id rows ≡ rows
+without-none : (id : WordText) (rows : List Row) → all_of id rows ≡ None → without id rows ≡ rows
 without-none id [] h = refl
 without-none id (r ∷ rs) h = go (bytes_eq r.id id) refl (without-none id rs)
   where
@@ -38,7 +38,7 @@ without-none id (r ∷ rs) h = go (bytes_eq r.id id) refl (without-none id rs)
     go true e later = let bad = rw e at h in absurd (cc)
     go false e later = let rest = rw e at h in rw e (ap (λ l. r ∷ l) (later rest))
 
-all_of-same : (id : Text) (how : Reading) (values : List Text) (rows : List Row) → bytes_eq id id ≡ true → all_of id (with_values id how CommandLine values rows) ≡ Some (unwrap_or (all_of id rows) [] ++ values)
+all_of-same : (id : WordText) (how : Reading) (values : List WordText) (rows : List Row) → bytes_eq id id ≡ true → all_of id (with_values id how CommandLine values rows) ≡ Some (unwrap_or (all_of id rows) [] ++ values)
 all_of-same id how values [] self = rw self refl
 all_of-same id how values (r ∷ rs) self = go (bytes_eq r.id id) refl (all_of-same id how values rs self)
   where
@@ -46,7 +46,7 @@ all_of-same id how values (r ∷ rs) self = go (bytes_eq r.id id) refl (all_of-s
     go true e later = rw (e, e) refl
     go false e later = rw (e, e) later
 
-all_of-other : (id other : Text) (how : Reading) (values : List Text) (rows : List Row) → ((t : Text) → bytes_eq t id ≡ true → bytes_eq t other ≡ false) → bytes_eq id id ≡ true
+all_of-other : (id other : WordText) (how : Reading) (values : List WordText) (rows : List Row) → ((t : WordText) → bytes_eq t id ≡ true → bytes_eq t other ≡ false) → bytes_eq id id ≡ true
     → all_of other (with_values id how CommandLine values rows) ≡ all_of other rows
 all_of-other id other how values [] apart self = let e = apart id self in rw e refl
 all_of-other id other how values (r ∷ rs) apart self = go (bytes_eq r.id id) (bytes_eq r.id other) refl refl (all_of-other id other how values rs apart self)
@@ -59,7 +59,7 @@ all_of-other id other how values (r ∷ rs) apart self = go (bytes_eq r.id id) (
 -- ---- one more that is said
 
 abbrev pub Given : Type 0
-Given = Kind → List Text
+Given = Kind → List WordText
 
 abbrev pub Holds : List Row → Given → Type 0
 Holds rows given = (k : Kind) → all_of (id_of k) rows ≡ some_of (given k)
@@ -100,7 +100,7 @@ read_as_is k = reading_by (rule_for k)
 abbrev put_row : Said → List Row → List Row
 put_row s rows = with_values (id_of s.kind) (read_as_is s.kind) CommandLine (s.text ∷ []) rows
 
-pushed_values : (given : List Text) (text : Text) → Some (unwrap_or (some_of given) [] ++ text ∷ []) ≡ some_of (given ++ text ∷ [])
+pushed_values : (given : List WordText) (text : WordText) → Some (unwrap_or (some_of given) [] ++ text ∷ []) ≡ some_of (given ++ text ∷ [])
 pushed_values [] text = refl
 pushed_values (t ∷ ts) text = refl
 
@@ -115,27 +115,27 @@ put_holds s rows given holds k = go (is_same s.kind k) refl
     go false e =
         rw (e, append-nil)
         (all_of-other (id_of s.kind) (id_of k) (read_as_is s.kind) (s.text ∷ []) rows
-        (λ t h. subst (λ (u : Text). bytes_eq u (id_of k) ≡ false) (sym ((bytes_eq-Decides t (id_of s.kind)).0 h)) (ids_apart s.kind k e)) (self_id s.kind) ∙ holds k)
+        (λ t h. subst (λ (u : WordText). bytes_eq u (id_of k) ≡ false) (sym ((bytes_eq-Decides t (id_of s.kind)).0 h)) (ids_apart s.kind k e)) (self_id s.kind) ∙ holds k)
 
 -- an option is put where it wasn't yet
 abbrev IsFresh : Kind → List Row → Type 0
 IsFresh kind rows = (kind ≡ feed) ⊎ (all_of (id_of kind) rows ≡ None)
 
-put-is : (kind : Kind) (text : Text) (rows : List Row) → IsFresh kind rows → used (rule_for kind) (text ∷ []) rows ≡ put_row (record { kind = kind; text = text }) rows
+put-is : (kind : Kind) (text : WordText) (rows : List Row) → IsFresh kind rows → used (rule_for kind) (text ∷ []) rows ≡ put_row (record { kind = kind; text = text }) rows
 put-is feed text rows fresh = refl
 put-is workers text rows (inl e) = absurd (cc)
 put-is workers text rows (inr e) = ap (with_values (id_of workers) (read_as_is workers) CommandLine (text ∷ [])) (without-none (id_of workers) rows e)
 put-is generate text rows (inl e) = absurd (cc)
 put-is generate text rows (inr e) = ap (with_values (id_of generate) (read_as_is generate) CommandLine (text ∷ [])) (without-none (id_of generate) rows e)
 
-fresh_fault : (kind : Kind) (text : Text) (rows : List Row) → IsFresh kind rows → use_fault false (rule_for kind) (text ∷ []) rows ≡ []
+fresh_fault : (kind : Kind) (text : WordText) (rows : List Row) → IsFresh kind rows → use_fault false (rule_for kind) (text ∷ []) rows ≡ []
 fresh_fault feed text rows fresh = refl
 fresh_fault workers text rows (inl e) = absurd (cc)
 fresh_fault workers text rows (inr e) = rw (has_row-is (id_of workers) rows ∙ ap is_some e) refl
 fresh_fault generate text rows (inl e) = absurd (cc)
 fresh_fault generate text rows (inr e) = rw (has_row-is (id_of generate) rows ∙ ap is_some e) refl
 
-again_fails : (kind : Kind) (text : Text) (rows : List Row) → is_same kind feed ≡ false → is_some (all_of (id_of kind) rows) ≡ true → Fails (use_fault false (rule_for kind) (text ∷ []) rows)
+again_fails : (kind : Kind) (text : WordText) (rows : List Row) → is_same kind feed ≡ false → is_some (all_of (id_of kind) rows) ≡ true → Fails (use_fault false (rule_for kind) (text ∷ []) rows)
 again_fails feed text rows not_feed h = absurd (cc)
 again_fails workers text rows not_feed h = rw (has_row-is (id_of workers) rows ∙ h) refl
 again_fails generate text rows not_feed h = rw (has_row-is (id_of generate) rows ∙ h) refl
@@ -182,26 +182,26 @@ fresh_step rows given s said fresh later =
       | inr twice ↦ inr (record {
         fails = subst Fails (sym fault) twice.fails;
         again = elim twice.again [
-          | inl h ↦ inl (subst (λ (l : List Text). 2 ≤ length l) (given-cons given s said workers) h)
-          | inr h ↦ inr (subst (λ (l : List Text). 2 ≤ length l) (given-cons given s said generate) h)
+          | inl h ↦ inl (subst (λ (l : List WordText). 2 ≤ length l) (given-cons given s said workers) h)
+          | inr h ↦ inr (subst (λ (l : List WordText). 2 ≤ length l) (given-cons given s said generate) h)
         ];
       })
     ]
 
 -- one that is given already
-two_given : (ts : List Text) (t : Text) (more : List Text) → 0 < length ts → 2 ≤ length (ts ++ t ∷ more)
+two_given : (ts : List WordText) (t : WordText) (more : List WordText) → 0 < length ts → 2 ≤ length (ts ++ t ∷ more)
 two_given ts t more some = simp length-append (omega arith)
 
 abbrev Later : List Said → Type 0
 Later said = (rows : List Row) (given : Given) → Holds rows given → Outcome rows given said
 
-given_already : (rows : List Row) (given : Given) (k : Kind) (t : Text) (ts : List Text) → Holds rows given → given k ≡ t ∷ ts → is_some (all_of (id_of k) rows) ≡ true
+given_already : (rows : List Row) (given : Given) (k : Kind) (t : WordText) (ts : List WordText) → Holds rows given → given k ≡ t ∷ ts → is_some (all_of (id_of k) rows) ≡ true
 given_already rows given k t ts holds e = ap is_some (holds k ∙ ap some_of e)
 
-some_given : (ts : List Text) (t : Text) (more : List Text) → ts ≡ t ∷ more → 0 < length ts
-some_given ts t more e = subst (λ (l : List Text). 0 < length l) (sym e) (omega arith)
+some_given : (ts : List WordText) (t : WordText) (more : List WordText) → ts ≡ t ∷ more → 0 < length ts
+some_given ts t more e = subst (λ (l : List WordText). 0 < length l) (sym e) (omega arith)
 
-outcome_step : (kind : Kind) (text : Text) (said : List Said) (rows : List Row) (given : Given) (ws gs : List Text) → given workers ≡ ws → given generate ≡ gs → Holds rows given → Later said
+outcome_step : (kind : Kind) (text : WordText) (said : List Said) (rows : List Row) (given : Given) (ws gs : List WordText) → given workers ≡ ws → given generate ≡ gs → Holds rows given → Later said
     → Outcome rows given (record { kind = kind; text = text } ∷ said)
 outcome_step feed text said rows given ws gs e f holds later =
     let s : Said = record { kind = feed; text = text } in
@@ -227,11 +227,11 @@ once_or_twice (s ∷ said) rows given holds = outcome_step s.kind s.text said ro
 
 -- ---- the parse
 
-no_entered : (stop : Option (Text × List Text)) → entered (built console_app) stop ≡ None
+no_entered : (stop : Option (WordText × List WordText)) → entered (built console_app) stop ≡ None
 no_entered None = refl
 no_entered (Some p) = refl
 
-no_entered_fault : (stop : Option (Text × List Text)) → entered_fault (built console_app) stop ≡ []
+no_entered_fault : (stop : Option (WordText × List WordText)) → entered_fault (built console_app) stop ≡ []
 no_entered_fault None = refl
 no_entered_fault (Some p) = refl
 
@@ -261,7 +261,7 @@ no_defaults rows = ap₂ or_else (no_default workers rows) (ap₂ or_else (no_de
 all_finished : (rows : List Row) → fold with_default rows rules ≡ rows
 all_finished rows = ap (λ r. with_default (with_default r (rule_for generate)) (rule_for feed)) (as_it_is workers rows) ∙ ap (λ r. with_default r (rule_for feed)) (as_it_is generate rows) ∙ as_it_is feed rows
 
-pub fault_of-is : (words : List Text) → fault_of console_app words ≡ rest_fault (walk_from nothing_held) words
+pub fault_of-is : (words : List WordText) → fault_of console_app words ≡ rest_fault (walk_from nothing_held) words
 fault_of-is words =
     let end = walked_all (walk_from nothing_held) words in
     let rows = rest_rows (walk_from nothing_held) words in
@@ -271,24 +271,24 @@ fault_of-is words =
     ∙ ap (λ d. or_else walk_part (or_else settle_part (or_else d []))) (no_defaults rows)
     ∙ ap (λ k. or_else walk_part k) (or_else-nil settle_part)
 
-pub matches_of-is : (words : List Text) → matches_of console_app words ≡ rest_rows (walk_from nothing_held) words
+pub matches_of-is : (words : List WordText) → matches_of console_app words ≡ rest_rows (walk_from nothing_held) words
 matches_of-is words = all_finished (rest_rows (walk_from nothing_held) words)
 
 -- ---- what the words come to
 
 -- they are taken, and each row holds what was said
-record Taken (words : List Text) : Type 0 where
+record Taken (words : List WordText) : Type 0 where
   said : List Said
   is_read : read None words ≡ Some said
   fault : fault_of console_app words ≡ []
   rows : (k : Kind) → all_of (id_of k) (matches_of console_app words) ≡ some_of (texts_of k said)
 
 -- they are refused, and ask for nothing
-record Refused (words : List Text) : Type 0 where
+record Refused (words : List WordText) : Type 0 where
   fails : Fails (fault_of console_app words)
   nothing : asked words ≡ None
 
-none_given : (least most : ℕ) (ts : List Text) → 2 ≤ length ts → number_given least most ts ≡ None
+none_given : (least most : ℕ) (ts : List WordText) → 2 ≤ length ts → number_given least most ts ≡ None
 none_given least most [] h = absurd (omega arith)
 none_given least most (t ∷ []) h = absurd (omega arith)
 none_given least most (t ∷ u ∷ ts) h = refl
@@ -299,7 +299,7 @@ none_asked said again = elim again [
   | inr h ↦ ap (λ g. all_asked (number_given 0 8 (texts_of workers said)) g (feeds_given (texts_of feed said))) (none_given 1 1000000 (texts_of generate said) h) ∙ no_generate (number_given 0 8 (texts_of workers said)) (feeds_given (texts_of feed said))
 ]
 
-outcome_of : (words : List Text) (r : Option (List Said)) → read None words ≡ r → Agrees (walk_from nothing_held) words r [] [] → Taken words ⊎ Refused words
+outcome_of : (words : List WordText) (r : Option (List Said)) → read None words ≡ r → Agrees (walk_from nothing_held) words r [] [] → Taken words ⊎ Refused words
 outcome_of words None e h = inr (record {
   fails = subst Fails (sym (fault_of-is words)) h;
   nothing = ap (option_and_then asked_by) e;
@@ -317,19 +317,19 @@ outcome_of words (Some said) e h = elim (once_or_twice said [] (λ k. []) (λ k.
   })
 ]
 
-taken_or_refused : (words : List Text) → All IsUtf8 words → Taken words ⊎ Refused words
+taken_or_refused : (words : List WordText) → All IsUtf8 words → Taken words ⊎ Refused words
 taken_or_refused words texts = outcome_of words (read None words) refl ((all_read words texts).start false [] None)
 
 not_both : (kinds : Kinds) → kinds ≡ [] → Fails kinds → ⊥
 not_both [] none fails = absurd (cc)
 not_both (k ∷ ks) none fails = absurd (cc)
 
-some_back : (ts : List Text) → unwrap_or (some_of ts) [] ≡ ts
+some_back : (ts : List WordText) → unwrap_or (some_of ts) [] ≡ ts
 some_back [] = refl
 some_back (t ∷ ts) = refl
 
 -- words that are taken ask for what their rows hold
-asked-taken : (words : List Text) → All IsUtf8 words → fault_of console_app words ≡ [] → asked words ≡ asked_in (matches_of console_app words)
+asked-taken : (words : List WordText) → All IsUtf8 words → fault_of console_app words ≡ [] → asked words ≡ asked_in (matches_of console_app words)
 asked-taken words texts none = elim (taken_or_refused words texts) [
   | inl taken ↦
       let held : (k : Kind) → texts_of k taken.said ≡ given_to (id_of k) (matches_of console_app words) = λ k. sym (ap (λ o. unwrap_or o []) (taken.rows k) ∙ some_back (texts_of k taken.said)) in
@@ -340,16 +340,16 @@ asked-taken words texts none = elim (taken_or_refused words texts) [
 ]
 
 -- words that are refused ask for nothing
-asked-refused : (words : List Text) → All IsUtf8 words → fault_of console_app words ≢ [] → asked words ≡ None
+asked-refused : (words : List WordText) → All IsUtf8 words → fault_of console_app words ≢ [] → asked words ≡ None
 asked-refused words texts some = elim (taken_or_refused words texts) [
   | inl taken ↦ absurd (some taken.fault)
   | inr refused ↦ refused.nothing
 ]
 
 -- what a parse of words that are these gave
-pub asked-parsed : (words given : List Text) (rows : List Row) → given ≡ words → All IsUtf8 words → fault_of console_app given ≡ [] → rows ≡ matches_of console_app given → asked words ≡ asked_in rows
+pub asked-parsed : (words given : List WordText) (rows : List Row) → given ≡ words → All IsUtf8 words → fault_of console_app given ≡ [] → rows ≡ matches_of console_app given → asked words ≡ asked_in rows
 asked-parsed words given rows same texts fault is =
-    asked-taken words texts (subst (λ (ws : List Text). fault_of console_app ws ≡ []) same fault) ∙ sym (ap asked_in (is ∙ ap (matches_of console_app) same))
+    asked-taken words texts (subst (λ (ws : List WordText). fault_of console_app ws ≡ []) same fault) ∙ sym (ap asked_in (is ∙ ap (matches_of console_app) same))
 
-pub asked-unparsed : (words given : List Text) → given ≡ words → All IsUtf8 words → fault_of console_app given ≢ [] → asked words ≡ None
-asked-unparsed words given same texts some = asked-refused words texts (subst (λ (ws : List Text). fault_of console_app ws ≢ []) same some)
+pub asked-unparsed : (words given : List WordText) → given ≡ words → All IsUtf8 words → fault_of console_app given ≢ [] → asked words ≡ None
+asked-unparsed words given same texts some = asked-refused words texts (subst (λ (ws : List WordText). fault_of console_app ws ≢ []) same some)
