@@ -34,11 +34,6 @@ pub Contains-at : {T : Type 0} (front : List (ℕ × T)) (slot : ℕ) (value : T
 Contains-at [] slot value back = (0, omega arith, refl)
 Contains-at (f ∷ fs) slot value back = let more = Contains-at fs slot value back in (suc more.0, omega (arith, more.1), more.2)
 
--- the first slot, if any, is in the list
-pub Contains-first : {T : Type 0} (entries : List (ℕ × T)) (slot : ℕ) → first_slot entries ≡ Some slot → Contains (slots_of entries) slot
-Contains-first [] slot is = absurd (let e : None ≡ Some slot = is in cc)
-Contains-first (e ∷ es) slot is = (0, omega arith, (let same : Some e.0 ≡ Some slot = is in cc))
-
 -- these entries were visited, and the walk goes on here
 pub record IsVisiting {T : Type 0} (entries : List (ℕ × T)) (values : List T) (at : Option ℕ) : Type 0 where
   pub front : List (ℕ × T)

@@ -5,7 +5,7 @@ use Rattle.std.proofs.lemmas.Bool.Decides.{nat_tests}
 use Rattle.kq_script.specs.Script.{Block, Script, script_blocks, block_of, is_blank}
 use Rattle.kq_script.specs.Item.{IsItemOf}
 use Rattle.kq_script.specs.Open.{IsOpen, AreItem, open_run, open_line}
-use Rattle.kq_script.specs.Reading.{IsPrefix, IsReading, IsUnclosed, ItemOutcome, ReadsItem}
+use Rattle.kq_script.specs.Reading.{IsPrefix, IsReading, ItemOutcome, ReadsItem}
 use Rattle.kq_script.specs.State.{IsAt, unread, HasLooked, HasEnded, GivesLast, IsDrained, IsAtEnd}
 use Rattle.kq_world.specs.Told.{Loses, IsEmpty}
 use Rattle.kq_world.specs.Outside.{SourceView, Delivers, DeliversFront}
@@ -59,16 +59,6 @@ pub record Goes (command input : ℕ) (reader : ScriptReader) (first source sour
   pub piece : length last ≤ 4096
   pub needed : (before ++ last ≡ []) ⊎ Script command (taken ++ before) false given
   pub reading : IsReading command input reader first source' (taken ++ (before ++ last)) given
-
-pub Goes-start : (command input : ℕ) (reader : ScriptReader) (first source : SourceView) (taken : List ℕ) (given : List Block) → IsReading command input reader first source taken given → Goes command input reader first source source taken given
-Goes-start command input reader first source taken given h = record {
-  before = [];
-  last = [];
-  gives = Delivers-none source;
-  piece = omega arith;
-  needed = inl refl;
-  reading = subst (λ bs. IsReading command input reader first source bs given) (sym (append-nil taken)) h;
-}
 
 -- what a step that only looks leaves as it was, and what it gives
 abbrev pub Same : ScriptReader → ScriptReader → Type 0
@@ -325,19 +315,3 @@ ReadsItem-again command input old new first source taken given phase h =
     let all = sym (append-nil taken) in
     let outcome : ItemOutcome command input (Ok Finished) new first source (taken ++ []) given = subst (λ bs. ItemOutcome command input (Ok Finished) new first source bs given) all (ended.given_all, ended.at_end, ended.below) in
     record { before = []; last = []; gives = Delivers-none source; piece = omega arith; needed = inl refl; outcome = outcome; at_limit = due command input (Ok Finished) new first source (taken ++ []) given outcome }
-
--- all bytes taken are those that the source gave from the first
-pub ReadsItem-gives : (command input : ℕ) (result : Result Item ScriptFault) (old new : ScriptReader) (first source source' : SourceView) (taken : List ℕ) (given : List Block) → IsReading command input old first source taken given → (h : ReadsItem command input result new first source source' taken given) → Delivers first source' (taken ++ (h.before ++ h.last))
-ReadsItem-gives command input result old new first source source' taken given r h = Delivers-trans first source source' taken (h.before ++ h.last) r.gives h.gives
-
--- what an item other than the end was: the next block
-pub ItemOutcome-block : (command input : ℕ) (item : Item) (reader : ScriptReader) (first source : SourceView) (taken : List ℕ) (given : List Block) → (item ≡ Finished → ⊥) → ItemOutcome command input (Ok item) reader first source taken given
-    → (block : Block) × IsItemOf command item block × IsReading command input reader first source taken (given ++ block ∷ [])
-ItemOutcome-block command input (Command bytes) reader first source taken given more h = h
-ItemOutcome-block command input (TooLong bytes) reader first source taken given more h = h
-ItemOutcome-block command input Lost reader first source taken given more h = h
-ItemOutcome-block command input Finished reader first source taken given more h = absurd (more refl)
-
--- a reader that has taken and given may be called again
-pub IsUnclosed-reading : (command input : ℕ) (reader : ScriptReader) (first source : SourceView) (taken : List ℕ) (given : List Block) → IsReading command input reader first source taken given → IsUnclosed reader
-IsUnclosed-reading command input reader first source taken given h = λ closed. subst (λ p. IsAt p command input reader first source taken given) closed h.state

@@ -9,7 +9,7 @@ use Rattle.std.specs.Str.{bytes_eq}
 use Rattle.std.specs.Str.Parse.{digits_value, ParsesUnsigned}
 use Rattle.std.proofs.lemmas.Bool.Decides.{leb_tells}
 use Rattle.std.proofs.lemmas.Str.Parse.{IsNumeralModel, numerals_by_value, parse_digits}
-use Rattle.kq_words.specs.Words.{WordText, all_asked, are_distinct, feeds_given, is_number, number_in}
+use Rattle.kq_words.specs.Words.{WordText, all_asked, are_distinct, is_number, number_in}
 
 abbrev pub now_of : List (Bor WordText) → List WordText
 now_of = map (λ n. n.now)
@@ -37,12 +37,6 @@ leb_false a b h = grind (arith, leb_tells)
 
 leb_true : (a b : ℕ) → nat_le a b ≡ true → a ≤ b
 leb_true a b h = grind (arith, leb_tells)
-
-leb_is : (a b : ℕ) → a ≤ b → nat_le a b ≡ true
-leb_is a b h = grind (arith, leb_tells)
-
-pub feeds_given-some : (feeds : List WordText) → length feeds ≤ 7 → are_distinct feeds ≡ true → feeds_given feeds ≡ Some feeds
-feeds_given-some feeds few distinct = rw (leb_is (length feeds) 7 few, distinct) refl
 
 and_none : (a b : Bool) → (a && (b && false)) ≡ false
 and_none true true = refl

@@ -6,9 +6,6 @@ use Rattle.clap.specs.declared.builder.command.Command.TheOpen.{Command-F}
 use Rattle.clap.specs.Simple.{App, app_of, app_of_fields, new_app, on_top}
 use Rattle.kq_words.specs.Command.{plain_app}
 
-abbrev named : Command-F Command → Command-F Command
-named f = record f { no_binary_name = true }
-
 abbrev helped : Command-F Command → Command-F Command
 helped f = record f { disable_help_flag = true }
 

@@ -124,12 +124,10 @@ fn reply_of(alloc: Global, index: usize) -> Result<(Reply, &'static str), Memory
     })
 }
 
-// The reply has no refusal's number, and it and its copy print this.
+// The reply has no refusal's number, and it prints this.
 fn is_printed(alloc: Global, reply: &Reply, want: &str) -> Result<bool, Fail> {
-    let copy = reply.clone_in()?;
-    let copied = prints(alloc, &copy, want)?;
     let printed = prints(alloc, reply, want)?;
-    Ok(reply.kind() == 0 && printed && copied)
+    Ok(reply.kind() == 0 && printed)
 }
 
 #[test]
@@ -146,10 +144,8 @@ fn replies_print_their_lines(rt: HostRuntime) -> Result<(), Fail> {
 fn names_are_escaped(rt: HostRuntime) -> Result<(), Fail> {
     let want = "refused Cycle a\\\\b\\tc\\nd\\re f\n\n";
     let cycle = Reply::Refused(cycle(rt.alloc(), "a\\b\tc\nd\re f")?);
-    let copy = cycle.clone_in()?;
     let printed = prints(rt.alloc(), &cycle, want)?;
-    let copied = prints(rt.alloc(), &copy, want)?;
-    assert!(rt; printed && copied);
+    assert!(rt; printed);
     Ok(())
 }
 
