@@ -13,6 +13,9 @@ use kq_model::{Cause, Why};
 use kq_value::Text;
 use kq_world::{Failed, Sink, put_all};
 
+// How many bytes of a name go out at once. With its escapes such a part is short.
+const PART: usize = 2048;
+
 /// Writes the whole printed form, or a beginning of it and then a fault. A short one is handed out whole, so that it can
 /// leave in one write. Takes no memory.
 pub fn write_reply<K: Sink>(reply: &Reply, sink: &mut K) -> Result<(), Failed>
@@ -178,7 +181,33 @@ fn put_named<K: Sink>(sink: &mut K, words: &[u8], name: &Text) -> Result<(), Fai
     put_escaped(sink, name.as_str().as_bytes())
 }
 
+// The name goes in parts, of which each leaves in one write.
 fn put_escaped<K: Sink>(sink: &mut K, name: &[u8]) -> Result<(), Failed>
+    ensures puts { PutsAll (K.accepted sink.old) (K.accepted sink.new) result (escaped name.now) }
+    ensures cause { HasCause (K.faults sink.old) (K.faults sink.new) result }
+{
+    let mut rest = name;
+    while !rest.is_empty() {
+        let (part, behind) = rest.split_at(rest.len().min(PART));
+        put_part(sink, part)?;
+        rest = behind;
+    }
+    Ok(())
+}
+
+// A part of a name. A short one is handed out whole.
+fn put_part<K: Sink>(sink: &mut K, part: &[u8]) -> Result<(), Failed>
+    ensures puts { PutsAll (K.accepted sink.old) (K.accepted sink.new) result (escaped part.now) }
+    ensures cause { HasCause (K.faults sink.old) (K.faults sink.new) result }
+{
+    let mut text = ShortText::new();
+    match put_signs(&mut text, part) {
+        Ok(()) => put_all(sink, text.bytes()),
+        Err(Failed) => put_signs(sink, part),
+    }
+}
+
+fn put_signs<K: Sink>(sink: &mut K, name: &[u8]) -> Result<(), Failed>
     ensures puts { PutsAll (K.accepted sink.old) (K.accepted sink.new) result (escaped name.now) }
     ensures cause { HasCause (K.faults sink.old) (K.faults sink.new) result }
 {

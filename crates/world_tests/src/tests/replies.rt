@@ -193,7 +193,7 @@ fn a_fault_at_any_call_is_answered_and_leaves_a_beginning(rt: HostRuntime) -> Re
 // A short reply leaves in one write, and an answer that is longer than that in its own and its last line's.
 #[test]
 fn a_short_reply_leaves_in_one_write(rt: HostRuntime) -> Result<(), Fail> {
-    for (len, calls) in [(1, 1), (1022, 1), (2000, 2)] {
+    for (len, calls) in [(1, 1), (4095, 1), (4096, 2)] {
         let text = Bytes::from_vec(vec![in rt.alloc(); b'a'; len]?);
         let held = is_out(rt.alloc(), &Reply::Rows { text }, calls)?;
         assert!(rt; held, "at {len}");
