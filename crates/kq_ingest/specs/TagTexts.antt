@@ -1,19 +1,14 @@
 -- The tags that a text gives.
-use Rattle.std.specs.Prelude.{ℕ, not, List, [], ◌∷◌, filter, Option, Some, option_map, option_and_then}
-use Rattle.std.specs.Str.{bytes_eq}
+use Rattle.std.specs.Prelude.{ℕ, List, [], ◌∷◌, Option, Some, option_map, option_and_then}
 use Rattle.serde_json.specs.Data.{Items, no_items, item}
 use Rattle.serde_json.specs.Find.{as_array, as_str}
 use Rattle.serde_json.specs.Read.{read}
+use Rattle.kq_distinct.specs.EachOnce.{each_once}
 
 -- the items of an array, where each is a string
 abbrev pub strings_of : Items → Option (List (List ℕ))
 strings_of no_items = Some []
 strings_of (item first rest) = option_and_then (λ text. option_map (λ texts. text ∷ texts) (strings_of rest)) (as_str first)
-
--- each text once, in the order of first appearance
-abbrev pub each_once : List (List ℕ) → List (List ℕ)
-each_once [] = []
-each_once (text ∷ texts) = text ∷ filter (λ other. not (bytes_eq text other)) (each_once texts)
 
 -- the strings of a text that is a JSON array of strings, each once
 abbrev pub tags_of : List ℕ → Option (List (List ℕ))

@@ -1,10 +1,11 @@
 // The tags of an ingestion's properties.
-ghost use Rattle.std.specs.Prelude.{◌≡◌, IfOk, map, option_map, option_and_then};
+ghost use Rattle.std.specs.Prelude.{◌≡◌, IfOk, option_map, option_and_then};
 ghost use Rattle.serde_json.specs.Find.{as_array};
 ghost use Rattle.serde_json.specs.View.{view, items_view};
-ghost use Rattle.kq_ingest.specs.TagTexts.{each_once, strings_of, tags_of};
+ghost use Rattle.kq_distinct.specs.EachOnce.{each_once};
+ghost use Rattle.kq_ingest.specs.TagTexts.{strings_of, tags_of};
 
-use indexmap::IndexSet;
+use kq_distinct::distinct;
 use kq_value::{Memory, Tags, Text};
 use serde_json::Value;
 use std::alloc::{AllocError, Global};
@@ -27,32 +28,30 @@ fn tags_in(alloc: Global, value: &Value) -> Result<Option<Tags>, Memory>
     ensures { IfOk result (λ o. o ≡ option_map each_once (option_and_then strings_of (as_array (view value.now)))) }
 {
     match value.as_array() {
-        Some(items) => distinct(alloc, items.as_slice()),
+        Some(items) => distinct_strings(alloc, items.as_slice()),
         None => Ok(None),
     }
 }
 
-fn distinct(alloc: Global, items: &[Value]) -> Result<Option<Tags>, Memory>
+fn distinct_strings(alloc: Global, items: &[Value]) -> Result<Option<Tags>, Memory>
     ensures { IfOk result (λ o. o ≡ option_map each_once (strings_of (items_view items.now))) }
 {
-    let mut seen = IndexSet::new(alloc);
+    match strings(alloc, items)? {
+        Some(texts) => Ok(Some(distinct(alloc, texts.as_slice())?)),
+        None => Ok(None),
+    }
+}
+
+// The strings, or none where an item is no string.
+fn strings(alloc: Global, items: &[Value]) -> Result<Option<Tags>, Memory>
+    ensures { IfOk result (λ o. o ≡ strings_of (items_view items.now)) }
+{
+    let mut texts = Tags::new(alloc);
     for item in items {
         match item.as_str() {
-            Some(text) => {
-                seen.insert(text)?;
-            }
+            Some(text) => texts.push(Text::from_str(alloc, text)?)?,
             None => return Ok(None),
         }
     }
-    Ok(Some(owned(alloc, seen.as_slice())?))
-}
-
-fn owned(alloc: Global, texts: &[&str]) -> Result<Tags, Memory>
-    ensures { IfOk result (λ tags. tags ≡ map (λ text. text.now) texts.now) }
-{
-    let mut tags = Vec::with_capacity(alloc, texts.len())?;
-    for text in texts {
-        tags.push(Text::from_str(alloc, text)?)?;
-    }
-    Ok(Tags::from_vec(tags))
+    Ok(Some(texts))
 }
