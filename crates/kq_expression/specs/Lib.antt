@@ -1,3 +1,4 @@
+pub mod Arguments
 pub mod BehindOperands
 pub mod Nests
 pub mod Reading

@@ -48,25 +48,29 @@ impl<'a, O: Operand> Part for NextLink<'a, O> {
     }
 }
 
-// Operands with the operators of the level, which are of the class, between them.
-pub(crate) fn chained<O: Operand>(
-    alloc: Global,
-    turns: usize,
-    class: Class,
-    level: Level,
-    operand: &O,
-    cursor: &mut Cursor<'_>,
-) -> Result<Expression, Stop>
-    requires { O.callable operand.now }
-    ensures { IsOutcome tree_of (spec.chained (class_of class) (precedence_of level) (O.tree operand.now) turns cursor.old) result cursor.new }
-{
-    let first = operand.read(cursor)?;
-    let links = more(
-        turns,
-        class,
-        &NextLink { class, operand },
-        cursor,
-        Vec::new(alloc),
-    )?;
-    Ok(chain(alloc, level, first, links)?)
+// Operands with the operators of the level, which are of the class, between them. They are an operand of the level above.
+#[derive(Drop)]
+pub(crate) struct Chained<O> {
+    pub(crate) alloc: Global,
+    // No chain has more links than this.
+    pub(crate) turns: usize,
+    pub(crate) class: Class,
+    pub(crate) level: Level,
+    pub(crate) operand: O,
+}
+
+impl<O: Operand> Operand for Chained<O> {
+    ghost tree = { λ c. spec.chained (class_of c.class) (precedence_of c.level) (O.tree c.operand) c.turns };
+
+    ghost callable = { λ c. O.callable c.operand };
+
+    fn read(&self, cursor: &mut Cursor<'_>) -> Result<Expression, Stop> {
+        let first = self.operand.read(cursor)?;
+        let next = NextLink {
+            class: self.class,
+            operand: &self.operand,
+        };
+        let links = more(self.turns, self.class, &next, cursor, Vec::new(self.alloc))?;
+        Ok(chain(self.alloc, self.level, first, links)?)
+    }
 }

@@ -8,7 +8,6 @@ mod operands;
 mod paths;
 mod primaries;
 mod relations;
-mod sums;
 
 pub use names::{AName, read_name};
 pub use operands::{AnExpression, read_expression};

@@ -1,16 +1,32 @@
-// Expressions, whole.
+// Expressions, whole: operands, and the chains of chains that they stand in.
 ghost use Rattle.std.specs.Prelude.{◌≡◌};
 ghost use Rattle.kq_expression.specs.Nests.{Nests};
 ghost use Rattle.kq_expression.specs.Reading as spec;
 ghost use Rattle.kq_grammar.specs.Views.{tree_of};
 ghost use Rattle.kq_syntax.specs.Outcomes.{IsOutcome};
 
-use crate::chains::{Operand, chained};
+use crate::chains::{Chained, Operand};
 use crate::nesting::Reader;
 use kq_grammar::{Expression, Level};
 use kq_syntax::{Class, Cursor, Part, ReservedWord, Stop};
 use std::alloc::Global;
 
+// What products have between their operators.
+#[derive(Drop)]
+struct Signed<'a, F>(&'a Reader<F>);
+
+impl<'a, F: Fn(Global, &mut Cursor<'_>, usize) -> Result<Expression, Stop>> Operand
+    for Signed<'a, F> {
+    ghost tree = { λ n. spec.signed (spec.expression n.0.now.budget) n.0.now.turns };
+
+    ghost callable = { λ n. Nests n.0.now.budget (F.pre n.0.now.expression) (F.post n.0.now.expression) };
+
+    fn read(&self, cursor: &mut Cursor<'_>) -> Result<Expression, Stop> {
+        self.0.signed(cursor)
+    }
+}
+
+// What conjunctions have between their operators.
 #[derive(Drop)]
 struct Comparison<'a, F>(&'a Reader<F>);
 
@@ -25,51 +41,49 @@ impl<'a, F: Fn(Global, &mut Cursor<'_>, usize) -> Result<Expression, Stop>> Oper
     }
 }
 
-#[derive(Drop)]
-struct Conjunction<'a, F>(&'a Reader<F>);
-
-impl<'a, F: Fn(Global, &mut Cursor<'_>, usize) -> Result<Expression, Stop>> Operand
-    for Conjunction<'a, F> {
-    ghost tree = { λ n. spec.conjunction (spec.expression n.0.now.budget) n.0.now.turns };
-
-    ghost callable = { λ n. Nests n.0.now.budget (F.pre n.0.now.expression) (F.post n.0.now.expression) };
-
-    fn read(&self, cursor: &mut Cursor<'_>) -> Result<Expression, Stop> {
-        self.0.conjunction(cursor)
-    }
-}
-
 impl<F: Fn(Global, &mut Cursor<'_>, usize) -> Result<Expression, Stop>> Reader<F> {
-    #[tactic(auto, unfolding(crate::specs::Reading::conjunction))]
-    fn conjunction(&self, cursor: &mut Cursor<'_>) -> Result<Expression, Stop>
+    #[tactic(auto, unfolding(crate::specs::Reading::sum, crate::specs::Reading::product))]
+    pub(crate) fn sum(&self, cursor: &mut Cursor<'_>) -> Result<Expression, Stop>
         requires { Nests self.now.budget (F.pre self.now.expression) (F.post self.now.expression) }
-        ensures { IsOutcome tree_of (spec.conjunction (spec.expression self.now.budget) self.now.turns cursor.old) result cursor.new }
+        ensures { IsOutcome tree_of (spec.sum (spec.expression self.now.budget) self.now.turns cursor.old) result cursor.new }
     {
-        let and = Class::Reserved(ReservedWord::And);
-        chained(
-            self.alloc,
-            self.turns,
-            and,
-            Level::Conjunction,
-            &Comparison(self),
-            cursor,
-        )
+        let product = Chained {
+            alloc: self.alloc,
+            turns: self.turns,
+            class: Class::Multiplicative,
+            level: Level::Product,
+            operand: Signed(self),
+        };
+        Chained {
+            alloc: self.alloc,
+            turns: self.turns,
+            class: Class::Additive,
+            level: Level::Sum,
+            operand: product,
+        }
+        .read(cursor)
     }
 
-    #[tactic(auto, unfolding(crate::specs::Reading::disjunction))]
+    #[tactic(auto, unfolding(crate::specs::Reading::disjunction, crate::specs::Reading::conjunction))]
     fn disjunction(&self, cursor: &mut Cursor<'_>) -> Result<Expression, Stop>
         requires { Nests self.now.budget (F.pre self.now.expression) (F.post self.now.expression) }
         ensures { IsOutcome tree_of (spec.disjunction (spec.expression self.now.budget) self.now.turns cursor.old) result cursor.new }
     {
-        let or = Class::Reserved(ReservedWord::Or);
-        chained(
-            self.alloc,
-            self.turns,
-            or,
-            Level::Disjunction,
-            &Conjunction(self),
-            cursor,
-        )
+        let conjunction = Chained {
+            alloc: self.alloc,
+            turns: self.turns,
+            class: Class::Reserved(ReservedWord::And),
+            level: Level::Conjunction,
+            operand: Comparison(self),
+        };
+        Chained {
+            alloc: self.alloc,
+            turns: self.turns,
+            class: Class::Reserved(ReservedWord::Or),
+            level: Level::Disjunction,
+            operand: conjunction,
+        }
+        .read(cursor)
     }
 }
 

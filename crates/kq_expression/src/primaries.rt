@@ -1,10 +1,11 @@
 // What binds most tightly: names, literals, calls and parentheses.
-ghost use Rattle.std.specs.Prelude.{◌≡◌, map};
+ghost use Rattle.std.specs.Prelude.{◌≡◌};
 ghost use Rattle.std.specs.Option.{option_map};
+ghost use Rattle.kq_expression.specs.Arguments.{arguments_in};
 ghost use Rattle.kq_expression.specs.Nests.{Nests};
 ghost use Rattle.kq_expression.specs.Reading as spec;
 ghost use Rattle.kq_grammar.specs.Trees.{Tree};
-ghost use Rattle.kq_grammar.specs.Views.{tree_of, trees_of};
+ghost use Rattle.kq_grammar.specs.Views.{tree_of};
 ghost use Rattle.kq_syntax.specs.Outcomes.{IsOutcome};
 
 use crate::names::bracketed_name;
@@ -23,7 +24,7 @@ fn stands_alone(kind: Kind) -> bool
 
 // A word with its arguments, or alone.
 fn worded_of(word: Symbol, arguments: Option<Vec<Expression>>) -> Expression
-    ensures { tree_of result ≡ spec.worded_of word (option_map (λ es. trees_of (map tree_of es.items)) arguments) }
+    ensures { tree_of result ≡ spec.worded_of word (option_map arguments_in arguments) }
 {
     match arguments {
         Some(arguments) => call(word, arguments),
@@ -47,7 +48,7 @@ impl<F: Fn(Global, &mut Cursor<'_>, usize) -> Result<Expression, Stop>> Reader<F
     #[tactic(auto, unfolding(crate::specs::Reading::arguments))]
     fn arguments(&self, cursor: &mut Cursor<'_>) -> Result<Vec<Expression>, Stop>
         requires { Nests self.now.budget (F.pre self.now.expression) (F.post self.now.expression) }
-        ensures { IsOutcome (λ es. trees_of (map tree_of es.items)) (spec.arguments (spec.expression self.now.budget) self.now.turns cursor.old) result cursor.new }
+        ensures { IsOutcome arguments_in (spec.arguments (spec.expression self.now.budget) self.now.turns cursor.old) result cursor.new }
     {
         let mut found = Vec::new(self.alloc);
         if !cursor.sees(Class::ExpressionStart) {
@@ -66,7 +67,7 @@ impl<F: Fn(Global, &mut Cursor<'_>, usize) -> Result<Expression, Stop>> Reader<F
     #[tactic(auto, unfolding(crate::specs::Reading::in_parentheses))]
     fn in_parentheses(&self, cursor: &mut Cursor<'_>) -> Result<Vec<Expression>, Stop>
         requires { Nests self.now.budget (F.pre self.now.expression) (F.post self.now.expression) }
-        ensures { IsOutcome (λ es. trees_of (map tree_of es.items)) (spec.in_parentheses (spec.expression self.now.budget) self.now.turns cursor.old) result cursor.new }
+        ensures { IsOutcome arguments_in (spec.in_parentheses (spec.expression self.now.budget) self.now.turns cursor.old) result cursor.new }
     {
         cursor.expect(Class::Sign(Punctuation::OpenParenthesis))?;
         let arguments = self.arguments(cursor)?;
@@ -81,7 +82,7 @@ impl<F: Fn(Global, &mut Cursor<'_>, usize) -> Result<Expression, Stop>> Reader<F
         cursor: &mut Cursor<'_>,
     ) -> Result<Option<Vec<Expression>>, Stop>
         requires { Nests self.now.budget (F.pre self.now.expression) (F.post self.now.expression) }
-        ensures { IsOutcome (option_map (λ es. trees_of (map tree_of es.items))) (spec.arguments_of (spec.expression self.now.budget) self.now.turns alone cursor.old) result cursor.new }
+        ensures { IsOutcome (option_map arguments_in) (spec.arguments_of (spec.expression self.now.budget) self.now.turns alone cursor.old) result cursor.new }
     {
         if alone && !cursor.sees(Class::Sign(Punctuation::OpenParenthesis)) {
             return Ok(None);

@@ -222,7 +222,7 @@ starts_alike is (x ∷ f) r s h = refl
 abbrev pub Leads : {T A : Type 0} → (T → Bool) → Bool → (A → List T → Type 0) → (T → Bool) → Type 0
 Leads {T = T} {A = A} is b form more = (y : A) (u z : List T) → form y u → Stops more z → starts is (u ++ z) ≡ b
 
-module _ {T A : Type 0} (is : T → Bool) (left right form : A → List T → Type 0) (more : T → Bool) (from_left : (y : A) (u : List T) → left y u → form y u) (from_right : (y : A) (u : List T) → right y u → form y u) (cases : (y : A) (u : List T) → form y u → left y u ⊎ right y u) (leads : Leads is true left more) (others : Leads is false right more) where
+module _ {T A : Type 0} (is : T → Bool) (left right form : A → List T → Type 0) (more : T → Bool) (from_left : (y : A) (u : List T) → left y u → form y u) (from_right : (y : A) (u : List T) → right y u → form y u) (cases : (y : A) (u : List T) → form y u → left y u ⊎ (right y u × ((z : List T) → Stops more z → starts is (u ++ z) ≡ false))) (leads : Leads is true left more) where
   clash : (b c : Bool) (ts front rest u z ahead : List T) → ts ≡ front ++ rest → Alike rest ahead → u ++ z ≡ front ++ ahead → starts is ts ≡ b → starts is (u ++ z) ≡ c → c ≡ b
   clash b c ts front rest u z ahead split alike e at_ts at_u = sym at_u ∙ ap (starts is) e ∙ starts_alike is front rest ahead alike ∙ ap (starts is) (sym split) ∙ at_ts
 
@@ -233,7 +233,7 @@ module _ {T A : Type 0} (is : T → Bool) (left right form : A → List T → Ty
     spelled = from_left p.0 a.front a.spelled;
     only = λ y u z ahead s stops alike e. elim (cases y u s) [
       | inl l ↦ a.only y u z ahead l stops alike e
-      | inr r ↦ let no = clash true false ts a.front p.1 u z ahead a.split alike e h (others y u z r stops) in cc
+      | inr r ↦ let no = clash true false ts a.front p.1 u z ahead a.split alike e h (r.1 z stops) in cc
     ];
   }
   choose_left ts h (Err rest) a = record {
@@ -244,7 +244,7 @@ module _ {T A : Type 0} (is : T → Bool) (left right form : A → List T → Ty
     completed = from_left a.value (a.front ++ a.missing) a.completed;
     never = λ y u z ahead s stops alike e. elim (cases y u s) [
       | inl l ↦ a.never y u z ahead l stops alike e
-      | inr r ↦ let no = clash true false ts a.front rest u z ahead a.split alike e h (others y u z r stops) in cc
+      | inr r ↦ let no = clash true false ts a.front rest u z ahead a.split alike e h (r.1 z stops) in cc
     ];
   }
 
@@ -255,7 +255,7 @@ module _ {T A : Type 0} (is : T → Bool) (left right form : A → List T → Ty
     spelled = from_right p.0 a.front a.spelled;
     only = λ y u z ahead s stops alike e. elim (cases y u s) [
       | inl l ↦ let no = clash false true ts a.front p.1 u z ahead a.split alike e h (leads y u z l stops) in cc
-      | inr r ↦ a.only y u z ahead r stops alike e
+      | inr r ↦ a.only y u z ahead r.0 stops alike e
     ];
   }
   choose_right ts h (Err rest) a = record {
@@ -266,7 +266,7 @@ module _ {T A : Type 0} (is : T → Bool) (left right form : A → List T → Ty
     completed = from_right a.value (a.front ++ a.missing) a.completed;
     never = λ y u z ahead s stops alike e. elim (cases y u s) [
       | inl l ↦ let no = clash false true ts a.front rest u z ahead a.split alike e h (leads y u z l stops) in cc
-      | inr r ↦ a.never y u z ahead r stops alike e
+      | inr r ↦ a.never y u z ahead r.0 stops alike e
     ];
   }
 
@@ -274,8 +274,16 @@ module _ {T A : Type 0} (is : T → Bool) (left right form : A → List T → Ty
   choose_meets p q ts true h a b = choose_left ts h (p ts) a
   choose_meets p q ts false h a b = choose_right ts h (q ts) b
 
+  -- the second reader may be exact for more than it is asked for
+  pub choose_first_exact : (n : ℕ) (p q : Parser T A) → Exact left more p n → Exact right more q n → Exact form more (choose is p q) n
+  choose_first_exact n p q a b = record { meets = λ ts l. choose_meets p q ts (starts is ts) refl (a.meets ts l) (b.meets ts l) }
+
+module _ {T A : Type 0} (is : T → Bool) (left right form : A → List T → Type 0) (more : T → Bool) (from_left : (y : A) (u : List T) → left y u → form y u) (from_right : (y : A) (u : List T) → right y u → form y u) (cases : (y : A) (u : List T) → form y u → left y u ⊎ right y u) (leads : Leads is true left more) (others : Leads is false right more) where
+  pub apart_cases : (y : A) (u : List T) → form y u → left y u ⊎ (right y u × ((z : List T) → Stops more z → starts is (u ++ z) ≡ false))
+  apart_cases y u s = elim (cases y u s) [ inl l ↦ inl l | inr r ↦ inr (r, λ z stops. others y u z r stops) ]
+
   pub choose_exact : (n : ℕ) (p q : Parser T A) → Exact left more p n → Exact right more q n → Exact form more (choose is p q) n
-  choose_exact n p q a b = record { meets = λ ts l. choose_meets p q ts (starts is ts) refl (a.meets ts l) (b.meets ts l) }
+  choose_exact = choose_first_exact is left right form more from_left from_right apart_cases leads
 
 -- ---- many
 

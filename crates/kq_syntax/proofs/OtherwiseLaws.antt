@@ -1,7 +1,7 @@
 -- A choice whose second form may have texts that begin as the first one's do: those are read as the first.
 use Rattle.std.proofs.Common.{◌≡◌, ℕ, Bool, true, false, if◌then◌else◌, List, [], ◌∷◌, ◌++◌, ◌⊎◌, Ok, Err, refl, sym, ◌∙◌, ap}
 use Rattle.kq_syntax.specs.Forms.{Stops, Alike, Stuck, Outcome, Parser, Meets, starts, choose}
-use Rattle.kq_syntax.proofs.Laws.{Exact, Example, Leads, choose_left, choose_right, starts_stops}
+use Rattle.kq_syntax.proofs.Laws.{Exact, Example, Leads, apart_cases, choose_left, choose_right, starts_stops}
 
 module _ {T A : Type 0} (is : T → Bool) (form : A → List T → Type 0) (more : T → Bool) where
   -- the texts of the form that begin with no token of the class
@@ -44,9 +44,12 @@ module _ {T A : Type 0} (is : T → Bool) (left second form : A → List T → T
   others_lead y [] z s stops = starts_stops is more stops_at z stops
   others_lead y (t ∷ u) z s stops = s.1
 
+  parted : (y : A) (u : List T) → form y u → left y u ⊎ (otherwise is second more y u × ((z : List T) → Stops more z → starts is (u ++ z) ≡ false))
+  parted = apart_cases is left (otherwise is second more) form more from_left from_right cases leads others_lead
+
   meets_at : (p q : Parser T A) (ts : List T) (b : Bool) → starts is ts ≡ b → Meets left more ts (p ts) → Meets second more ts (q ts) → Example (otherwise is second more) → Meets form more ts (if b then p ts else q ts)
-  meets_at p q ts true h a b x = choose_left is left (otherwise is second more) form more from_left from_right cases leads others_lead ts h (p ts) a
-  meets_at p q ts false h a b x = choose_right is left (otherwise is second more) form more from_left from_right cases leads others_lead ts h (q ts) (otherwise_meets is second more x ts (q ts) h b)
+  meets_at p q ts true h a b x = choose_left is left (otherwise is second more) form more from_left from_right parted leads ts h (p ts) a
+  meets_at p q ts false h a b x = choose_right is left (otherwise is second more) form more from_left from_right parted leads ts h (q ts) (otherwise_meets is second more x ts (q ts) h b)
 
   pub choose_otherwise : (n : ℕ) (p q : Parser T A) → Exact left more p n → Exact second more q n → Example (otherwise is second more) → Exact form more (choose is p q) n
   choose_otherwise n p q a b x = record { meets = λ ts l. meets_at p q ts (starts is ts) refl (a.meets ts l) (b.meets ts l) x }
