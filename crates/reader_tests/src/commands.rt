@@ -13,10 +13,15 @@ fn put_identifier(page: &mut Page<'_>, name: &Identifier) {
     page.put_place(name.text.as_str(), name.at);
 }
 
+// The word, and what it is said of.
+fn put_on(page: &mut Page<'_>, word: &str, name: &Identifier) {
+    page.put(word);
+    put_identifier(page, name);
+}
+
 fn put_columns(page: &mut Page<'_>, columns: &[Column]) {
     for column in columns {
-        page.put(" ");
-        put_identifier(page, &column.name);
+        put_on(page, " ", &column.name);
         page.put_rank(column.ty.rank());
     }
 }
@@ -45,10 +50,8 @@ fn put_ingestion(page: &mut Page<'_>, ingestion: &Ingestion) {
 
 // The view and its table, what is given, and the query as its text in braces and as its tree.
 fn put_view(page: &mut Page<'_>, view: &NewView) {
-    page.put("view ");
-    put_identifier(page, &view.name);
-    page.put(" on ");
-    put_identifier(page, &view.table);
+    put_on(page, "view ", &view.name);
+    put_on(page, " on ", &view.table);
     if view.unless_there {
         page.put(" unless there");
     }
@@ -66,8 +69,7 @@ fn put_view(page: &mut Page<'_>, view: &NewView) {
 
 // The table, and the policy in brackets, so that blanks at its ends show.
 fn put_policy(page: &mut Page<'_>, target: &Identifier, policy: &str) {
-    page.put("policy ");
-    put_identifier(page, target);
+    put_on(page, "policy ", target);
     page.put(" <");
     page.put(policy);
     page.put(">");
@@ -81,15 +83,9 @@ pub fn put_command(page: &mut Page<'_>, command: &Command) {
             page.put("query ");
             put_query(page, &query.tree);
         }
-        Command::Show(Show::View(view)) => {
-            page.put("shown ");
-            put_identifier(page, view);
-        }
+        Command::Show(Show::View(view)) => put_on(page, "shown ", view),
         Command::Show(Show::Failures) => page.put("failures"),
-        Command::Show(Show::Extents(table)) => {
-            page.put("extents ");
-            put_identifier(page, table);
-        }
+        Command::Show(Show::Extents(table)) => put_on(page, "extents ", table),
         Command::Show(Show::Journal) => page.put("journal"),
         Command::Change(Change::Ingest(ingestion)) => put_ingestion(page, ingestion),
         Command::Change(Change::CreateView(view)) => put_view(page, view),
@@ -103,18 +99,11 @@ pub fn put_command(page: &mut Page<'_>, command: &Command) {
             put_columns(page, columns.as_slice());
         }
         Command::Change(Change::AlterMerge { name, columns }) => {
-            page.put("wider ");
-            put_identifier(page, name);
+            put_on(page, "wider ", name);
             put_columns(page, columns.as_slice());
         }
-        Command::Merge(table) => {
-            page.put("merge ");
-            put_identifier(page, table);
-        }
-        Command::Fold(view) => {
-            page.put("fold ");
-            put_identifier(page, view);
-        }
+        Command::Merge(table) => put_on(page, "merge ", table),
+        Command::Fold(view) => put_on(page, "fold ", view),
     }
 }
 
