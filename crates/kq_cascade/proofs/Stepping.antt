@@ -68,6 +68,3 @@ IsLaid-resumed dues s g frames laid below =
     let own = laid.own in
     let few = laid.noted in
     record { own = omega (arith, lower, own); noted = omega (arith, fewer, few); below = piled.1 }
-
-pub within_below : (dues : List Due) (s : State) (g : Frame) (frames : List Frame) → IsLaid dues s → s.below ≡ g ∷ frames → g.at < length dues
-within_below dues s g frames laid below = let piled = subst (λ (zs : List Frame). ArePiled dues zs s.top.own s.top.noted) below laid.below in piled.0.within

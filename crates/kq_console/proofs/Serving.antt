@@ -35,10 +35,6 @@ AreServed-push limits h n (p ∷ os) (x ∷ ss) o s served last =
     let same : n + length (p ∷ os) ≡ n + 1 + length os = omega arith in
     (served.0, AreServed-push limits h (n + 1) os ss o s served.1 (subst (λ (k : ℕ). IsServed limits h k o s) same last))
 
--- session 0 alone
-pub ServedAll-first : (limits : Limits) (old new : PassView) (o : OpenedView) (s : EndedView) → ServedOne limits old new 0 o s → ServedAll limits old new (o ∷ []) (s ∷ [])
-ServedAll-first limits old new o s one = record { passed = one.passed; served = (one.served, tt) }
-
 -- one session more, beside the others
 pub ServedAll-push : (limits : Limits) (of : TurnId) (old rest mine rest' mine' joined : PassView) (os : List OpenedView) (ss : List EndedView) (o : OpenedView) (s : EndedView) (actor : ℕ)
     → old.of ≡ of → 2 ≤ old.worth → rest ≡ record old { worth = old.worth - 1 } → mine ≡ record old { worth = 1; made = 0; taken = [] }

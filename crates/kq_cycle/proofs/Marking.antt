@@ -42,25 +42,12 @@ set-count (false ∷ bs) (suc t) is = let rest = set-count bs t is in omega (ari
 HasSource-more : (es : List Entry) (e : Entry) (s : ℕ) → HasSource es s → HasSource (es ++ e ∷ []) s
 HasSource-more es e s has = record { entry = has.entry; stands = Contains-append_left es (e ∷ []) has.entry has.stands; names = has.names }
 
-HasSource-last : (es : List Entry) (e : Entry) → HasSource (es ++ e ∷ []) e.source
-HasSource-last es e = record { entry = e; stands = Contains-push es e; names = refl }
-
 HasSource-cases : (es : List Entry) (e : Entry) (s : ℕ) → HasSource (es ++ e ∷ []) s → HasSource es s ⊎ (e.source ≡ s)
 HasSource-cases es e s has = by_case (Contains-push_cases es e has.entry has.stands)
   where
     by_case : Contains es has.entry ⊎ (e ≡ has.entry) → HasSource es s ⊎ (e.source ≡ s)
     by_case (inl before) = inl (record { entry = has.entry; stands = before; names = has.names })
     by_case (inr same) = inr (ap (λ (x : Entry). x.source) same ∙ has.names)
-
-pub AddsSources-none : (target : ℕ) (marked : List Bool) (open_ones : List ℕ) → AddsSources [] target marked open_ones marked open_ones
-AddsSources-none target marked open_ones = record {
-  count = refl;
-  kept = λ t is. is;
-  stay = λ t is. is;
-  fresh = λ t is. inl is;
-  came = λ t is. inl is;
-  all = λ s has. let within = has.stands.1 in absurd (omega (arith, within));
-}
 
 -- one source more, which isn't the target
 pub AddsSources-more : (es : List Entry) (e : Entry) (target : ℕ) (a b : List Bool) (o p : List ℕ) → (e.source ≡ target → ⊥) → AddsSources es target a o b p

@@ -1,22 +1,17 @@
 -- What a call on the catalogue does.
-use Rattle.std.proofs.Common.{◌≡◌, ◌≤◌, ◌+◌, ℕ, Bool, true, false, inl, inr, [], ◌∷◌, ◌++◌, length, take, refl, ap, sym, ◌∙◌, subst, arith}
-use Rattle.std.proofs.lemmas.List.{take_all}
+use Rattle.std.proofs.Common.{◌≡◌, ◌≤◌, ◌+◌, ℕ, Bool, true, false, inl, inr, [], ◌∷◌, ◌++◌, length, take, refl, sym, subst}
 use Rattle.kq_model.specs.declared.event.Commit.{Commit}
 use Rattle.kq_model.specs.declared.event.Operation.TheVariants as operation
 use Rattle.kq_model.specs.declared.limits.Limits.{Limits}
 use Rattle.kq_model.specs.History.{History, cursor, log}
-use Rattle.kq_reply.specs.declared.refusal.Refusal.TheVariants as refusals
 use Rattle.kq_reply.specs.declared.reply.Reply.{Reply}
-use Rattle.kq_reply.specs.declared.reply.Reply.TheVariants as replies
-use Rattle.kq_reply.specs.Number.{kind_of}
 use Rattle.kq_engine.specs.declared.work.Outcome.{Outcome}
 use Rattle.kq_engine.specs.declared.work.Work.{Work}
 use Rattle.kq_engine.specs.Due.{reply_to}
 use Rattle.kq_engine.specs.Fits.{Acts, AnswersCommand, Did, Makes}
 use Rattle.kq_engine.specs.Found.{IsCommitDue}
 use Rattle.kq_engine.specs.Merges.{IsSettled}
-use Rattle.kq_engine.proofs.Accepting.{Accept-commit}
-use Rattle.kq_engine.proofs.Telling.{NamesAll-since, cursor_earlier, cursor_take, refused_still, settled_less}
+use Rattle.kq_engine.proofs.Telling.{NamesAll-since, cursor_earlier, cursor_take, settled_less}
 
 -- the commit that is due was appended
 pub Acts-commit : (limits : Limits) (old new : History) (work : Work) (began : ℕ) (c : Commit) (place : ℕ) (reply : Reply) → IsCommitDue limits (log old) work.command c → new ≡ old ++ record { by = work.by; operation = operation.Commit c } ∷ [] → place ≡ length new → reply ≡ reply_to c (cursor old + 1)
@@ -27,10 +22,6 @@ Acts-commit limits old new work began c place reply due added at is = (at, (c, a
 pub Acts-answer : (limits : Limits) (h : History) (work : Work) (began : ℕ) (place : ℕ) (reply : Reply) → place ≡ length h → AnswersCommand limits h work.now work.command reply → IsSettled (cursor h) reply → Acts limits h h work began (record { place = place; own = false; reply = reply })
 Acts-answer limits h work began place reply at answers settled = (at, inl (refl, answers, settled_less (cursor (take began h)) (cursor h) reply (cursor_take began h) settled))
 
--- memory was wanting
-pub Acts-refused : (limits : Limits) (old new : History) (work : Work) (began : ℕ) → new ≡ old → Acts limits old new work began (record { place = length new; own = false; reply = replies.Refused refusals.Memory })
-Acts-refused limits old new work began stays = (refl, inl (stays, inl refl, inl (refused_still refusals.Memory)))
-
 did_since : (limits : Limits) (old new : History) (work : Work) (began later : ℕ) (own : Bool) (reply : Reply) → began ≤ later → Did limits old new work later own reply → Did limits old new work began own reply
 did_since limits old new work began later true reply before did = did
 did_since limits old new work began later false reply before (inl stays) = inl (stays.0, stays.1, settled_less (cursor (take began old)) (cursor (take later old)) reply (cursor_earlier began later old before) stays.2)
@@ -39,16 +30,3 @@ did_since limits old new work began later false reply before (inr t) = inr (reco
 -- what was picked later was picked since the work began
 pub Acts-since : (limits : Limits) (old new : History) (work : Work) (began later : ℕ) (outcome : Outcome) → began ≤ later → Acts limits old new work later outcome → Acts limits old new work began outcome
 Acts-since limits old new work began later outcome before acts = (acts.0, did_since limits old new work began later outcome.own outcome.reply before acts.1)
-
--- a commit's reply isn't want of memory
-no_want : (reply : Reply) → kind_of reply ≡ 0 → reply ≡ replies.Refused refusals.Memory → ⊥
-no_want reply granted wants = let e : 0 ≡ 1 = sym granted ∙ ap kind_of wants in absurd (omega (arith, e))
-
-did_memory : (limits : Limits) (old new : History) (work : Work) (began : ℕ) (own : Bool) (reply : Reply) → Did limits old new work began own reply → reply ≡ replies.Refused refusals.Memory → new ≡ old
-did_memory limits old new work began true reply did wants = absurd (no_want reply (Accept-commit limits (log old) work.command reply did.0 did.2) wants)
-did_memory limits old new work began false reply (inl stays) wants = stays.0
-did_memory limits old new work began false reply (inr tended) wants = absurd (tended.granted refusals.Memory wants)
-
--- where memory was wanting nothing was appended, and the place is the end
-pub Acts-memory : (limits : Limits) (old new : History) (work : Work) (began : ℕ) (outcome : Outcome) → Acts limits old new work began outcome → outcome.reply ≡ replies.Refused refusals.Memory → take outcome.place new ≡ old
-Acts-memory limits old new work began outcome acts wants = take_all outcome.place new (omega (arith, acts.0)) ∙ did_memory limits old new work began outcome.own outcome.reply acts.1 wants

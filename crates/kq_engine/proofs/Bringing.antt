@@ -8,7 +8,6 @@ use Rattle.kq_catalog.specs.Views.{IsPart, WasFolded, fold_event}
 use Rattle.kq_command.specs.declared.columns.Identifier.{Identifier}
 use Rattle.kq_command.specs.declared.command.Command.{Command}
 use Rattle.kq_command.specs.declared.command.Command.TheVariants as commands
-use Rattle.kq_model.specs.declared.event.By.{By}
 use Rattle.kq_model.specs.declared.event.Operation.TheVariants as operation
 use Rattle.kq_model.specs.declared.limits.Limits.{Limits}
 use Rattle.kq_model.specs.History.{History, Log, Viewed, cursor, log, view_cursor, names_of_views, view_count, views, views_from}
@@ -18,7 +17,6 @@ use Rattle.kq_model.proofs.Views.{view_cursor-push, no_fewer_views}
 use Rattle.kq_names.proofs.Places.{place_of-go_on}
 use Rattle.kq_names.specs.Places.{place_of}
 use Rattle.kq_plan.specs.Plans.{planned_of}
-use Rattle.kq_reply.specs.declared.refusal.Refusal.TheVariants as refusals
 use Rattle.kq_reply.specs.declared.reply.Reply.TheVariants as replies
 use Rattle.kq_engine.specs.declared.work.Folding.{Folding}
 use Rattle.kq_engine.specs.declared.work.Outcome.{Outcome}
@@ -146,12 +144,3 @@ Acts-fold limits old new work at f outcome within is puts = by_puts puts
     by_puts (inl forward) = subst (Acts limits old new work at) (sym forward.is) (refl, inr (tended forward))
     by_puts (inr leaves) = subst (Acts limits old new work at) (sym leaves.is)
         (sym (ap length leaves.stays), inl (leaves.stays, inr (due old (view_cursor old f.view) named refl), inr (view_cursor old f.view, refl, let to = folding.to in let ahead = leaves.ahead in omega (arith, to, ahead))))
-
--- the cursor of a fold is no refusal
-apart : (at : ℕ) → replies.Folded at ≡ replies.Refused refusals.Memory → ⊥
-apart at same = cc
-
--- a fold that was put in, or passed over, isn't told as want of memory
-pub told_fold : (old new : History) (by : By) (f : Folding) (outcome : Outcome) → PutsFold old new by f outcome → outcome.reply ≡ replies.Refused refusals.Memory → ⊥
-told_fold old new by f outcome (inl forward) wants = apart f.to (sym (ap (λ (o : Outcome). o.reply) forward.is) ∙ wants)
-told_fold old new by f outcome (inr stays) wants = apart (view_cursor old f.view) (sym (ap (λ (o : Outcome). o.reply) stays.is) ∙ wants)

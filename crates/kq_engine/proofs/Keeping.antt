@@ -1,11 +1,9 @@
 -- What comes of a batch by itself, and what is kept of an offer.
-use Rattle.std.proofs.Common.{◌≡◌, ◌⊎◌, ◌&&◌, ◌||◌, not, ℕ, Bool, true, false, cond, List, [], ◌∷◌, ◌++◌, length, nat_eq, Option, Some, None, Result, Ok, Err, IfOk, inl, inr, refl, ap, sym, ◌∙◌, subst}
+use Rattle.std.proofs.Common.{◌≡◌, ◌&&◌, ◌||◌, not, ℕ, Bool, true, false, cond, List, [], ◌∷◌, ◌++◌, length, nat_eq, Option, Some, None, Result, Ok, Err, IfOk, inl, inr, refl, ap, sym, ◌∙◌, subst}
 use Rattle.std.specs.List.{filter, slice_get}
 use Rattle.std.proofs.lemmas.Bool.{and_parts}
-use Rattle.kq_cascade.specs.declared.running.CascadeFault.{CascadeFault}
-use Rattle.kq_cascade.specs.declared.running.CascadeFault.TheVariants as cascades
 use Rattle.kq_cascade.specs.declared.running.Derived.{Derived}
-use Rattle.kq_cascade.specs.Makes.{Makes, RefusesBy, among}
+use Rattle.kq_cascade.specs.Makes.{Makes, among}
 use Rattle.kq_cascade.proofs.Listing.{left-enabled}
 use Rattle.kq_catalog.specs.Intents.{commit_of}
 use Rattle.kq_model.specs.declared.batch.Batch.{Batch}
@@ -35,7 +33,7 @@ use Rattle.kq_engine.specs.declared.work.Found.TheVariants as founds
 use Rattle.kq_engine.specs.declared.work.Offer.{Offer}
 use Rattle.kq_engine.specs.Due.{Due, Commits, IsBatchDue, IsBodyDue, IsCascadeDue, IsRowsDue, IsTaggedDue, IsValuesDue, barring_tags, counted, own_batch, refused, unless_tagged}
 use Rattle.kq_engine.specs.Labels.{AreLabels}
-use Rattle.kq_engine.specs.Found.{Finds, IsKept, IsOfferOf, OffersCommit, OffersRows, barred_at, batch_read, is_alone, is_source, is_widened_at, offer_due, refusal_by_cascade, stands_alone}
+use Rattle.kq_engine.specs.Found.{Finds, IsKept, IsOfferOf, OffersCommit, OffersRows, barred_at, batch_read, is_alone, is_source, is_widened_at, offer_due, stands_alone}
 
 -- ---- batches that come alone
 
@@ -95,13 +93,6 @@ made_due limits l own d due makes is = record {
   };
   due_so = is;
 }
-
--- so is its fault, or memory was wanting
-pub fault_due : (limits : Limits) (l : Log) (own : Batch) (fault : CascadeFault) → RefusesBy limits.cascade (rules l) (DueGives l) own fault
-    → (refusal_by_cascade l fault ≡ refusals.Memory) ⊎ IsCascadeDue limits l own (refused (refusal_by_cascade l fault))
-fault_due limits l own (cascades.PolicyFailed target cause) by = inr (record { cascade = Failed target cause; derived = by; due_so = refl })
-fault_due limits l own (cascades.Full limit) by = inr (record { cascade = TooMany; derived = by.1; due_so = ap (λ (n : ℕ). refused (refusals.Full n)) by.0 })
-fault_due limits l own cascades.Memory by = inl refl
 
 -- what is found in one way is found in each that follows from it
 pub Finds-weaker : (P Q : Due → Type 0) (result : Result Found Refusal) → ((due : Due) → P due → Q due) → Finds P result → Finds Q result

@@ -1,9 +1,8 @@
 -- What was found stays due, or is skipped, as the log grows.
-use Rattle.std.proofs.Common.{◌≡◌, ◌||◌, ℕ, ℤ, Bool, true, false, cond, List, ◌++◌, length, take, drop, nat_lt, Option, Some, None, Result, Ok, Err, IfOk, inl, refl, ap, sym, ◌∙◌, subst}
+use Rattle.std.proofs.Common.{◌≡◌, ◌||◌, ℕ, ℤ, Bool, true, false, List, ◌++◌, take, drop, Option, Some, None, Result, Ok, Err, IfOk, inl, refl, ap, sym, ◌∙◌, subst}
 use Rattle.std.specs.List.{slice_get}
 use Rattle.std.proofs.lemmas.Bool.{eqb-true, false≢true}
 use Rattle.std.proofs.lemmas.List.{take-append-drop}
-use Rattle.kq_model.specs.declared.event.Commit.{Commit}
 use Rattle.kq_model.specs.declared.limits.Limits.{Limits}
 use Rattle.kq_model.specs.declared.table.Table.{Table}
 use Rattle.kq_model.specs.History.{History, Log, NumberedTable, log, tables, table_numbered}
@@ -13,23 +12,19 @@ use Rattle.kq_catalog.specs.Intents.{commit_of}
 use Rattle.kq_command.specs.declared.command.Change.{Change as Changing}
 use Rattle.kq_command.specs.declared.command.Change.TheVariants.{CreateTable, AlterMerge, Ingest, CreateView, SetPolicy}
 use Rattle.kq_command.specs.declared.command.Command.{Command}
-use Rattle.kq_command.specs.declared.command.Command.TheVariants.{Query, Show, Change, Merge, Unbuilt, Fold}
-use Rattle.kq_command.specs.declared.columns.Identifier.{Identifier}
+use Rattle.kq_command.specs.declared.command.Command.TheVariants.{Change}
 use Rattle.kq_command.specs.declared.ingestion.Ingestion.{Ingestion}
 use Rattle.kq_reply.specs.declared.refusal.Refusal.{Refusal}
 use Rattle.kq_reply.specs.declared.refusal.Refusal.TheVariants as refusals
-use Rattle.kq_reply.specs.declared.reply.Reply.{Reply}
-use Rattle.kq_reply.specs.declared.reply.Reply.TheVariants as replies
 use Rattle.kq_policies.specs.Quiet.{is_quiet}
 use Rattle.kq_policies.proofs.Lasting.{tables-quiet}
 use Rattle.kq_engine.specs.declared.work.Barring.{Barring}
 use Rattle.kq_engine.specs.declared.work.Found.{Found}
 use Rattle.kq_engine.specs.declared.work.Found.TheVariants as founds
 use Rattle.kq_engine.specs.declared.work.Offer.{Offer}
-use Rattle.kq_engine.specs.Due.{Due, Says, Commits, IsChangeDue, IsDueByLog, IsDueByText, IsIngestDue, IsRowsDue, counted, refused, text_refusal, unless_tagged}
-use Rattle.kq_engine.specs.Fits.{IsDue}
-use Rattle.kq_engine.specs.Found.{Finds, FindsFold, FindsMerge, IsCommitDue, IsDueTo, IsFound, IsGoodText, IsKept, IsOffered, OffersChange, OffersInto, barred_at, is_as_read, is_prepared_outside, is_widened_at, offer_due, stands_alone}
-use Rattle.kq_engine.proofs.Dues.{Due-is_good, ingest-no_view, table-no_view}
+use Rattle.kq_engine.specs.Due.{Due, Says, Commits, IsChangeDue, IsDueByLog, IsDueByText, IsIngestDue, IsRowsDue, text_refusal}
+use Rattle.kq_engine.specs.Found.{Finds, IsDueTo, IsFound, IsKept, IsOffered, OffersChange, OffersInto, is_as_read, is_prepared_outside, is_widened_at, offer_due, stands_alone}
+use Rattle.kq_engine.proofs.Dues.{ingest-no_view, table-no_view}
 use Rattle.kq_engine.proofs.Gaining.{widening-no_view}
 use Rattle.kq_engine.proofs.Entering.{policy-no_view}
 use Rattle.kq_engine.proofs.Fit.{BeginsEmpty-offered, no_commit}
@@ -77,14 +72,6 @@ rows_later limits l since i offer (Some table) named due offers still =
     let kept = offers table named in
     still_or_alone limits l since i table offer named kept (stands_alone (l ++ log since) kept.barring) refl (ap (is_as_read since (l ++ log since)) (sym kept.barred) ∙ still)
 
-commit_good : (limits : Limits) (l : Log) (command : Command) (c : Commit) → IsCommitDue limits l command c → IsGoodText command
-commit_good limits l (Query query) c due = absurd due
-commit_good limits l (Show show) c due = absurd due
-commit_good limits l (Change change) c due = (Due-is_good limits l change c due.0).0
-commit_good limits l (Merge table) c due = absurd due
-commit_good limits l (Fold view) c due = absurd due
-commit_good limits l Unbuilt c due = absurd due
-
 -- a commit that was found for a change
 pub Offered-change : (limits : Limits) (l : Log) (change : Changing) (offer : Offer) → text_refusal change ≡ None → IsDueByLog limits l change (Commits (commit_of offer.intent)) → OffersChange limits l change (founds.Commits offer) → IsOffered limits l (Change change) offer
 Offered-change limits l (CreateTable name columns) offer good due offers = record {
@@ -121,21 +108,6 @@ Found-change limits h now change (Ok (founds.Merges merging)) good due offers = 
 Found-change limits h now change (Ok (founds.Folds folding)) good due offers = absurd due
 Found-change limits h now change (Err r) good due offers = offers
 
--- what was found for a merge, and for a fold
-pub Found-merge : (limits : Limits) (h : History) (now : ℤ) (table : Identifier) (result : Result Found Refusal) → IfOk result (FindsMerge h table) → IfOk result (IsFound limits h now (Merge table))
-Found-merge limits h now table (Ok (founds.Says reply)) finds = finds
-Found-merge limits h now table (Ok (founds.Commits offer)) finds = absurd finds
-Found-merge limits h now table (Ok (founds.Merges merging)) finds = finds
-Found-merge limits h now table (Ok (founds.Folds folding)) finds = absurd finds
-Found-merge limits h now table (Err r) finds = finds
-
-pub Found-fold : (limits : Limits) (h : History) (now : ℤ) (view : Identifier) (result : Result Found Refusal) → IfOk result (FindsFold h view) → IfOk result (IsFound limits h now (Fold view))
-Found-fold limits h now view (Ok (founds.Says reply)) finds = finds
-Found-fold limits h now view (Ok (founds.Commits offer)) finds = absurd finds
-Found-fold limits h now view (Ok (founds.Merges merging)) finds = absurd finds
-Found-fold limits h now view (Ok (founds.Folds folding)) finds = finds
-Found-fold limits h now view (Err r) finds = finds
-
 -- what the offer that was found at a place comes to is due
 pub Offered-still : (limits : Limits) (h : History) (place : ℕ) (command : Command) (offer : Offer) → is_prepared_outside command ≡ true → IsOffered limits (log (take place h)) command offer → is_as_read (drop place h) (log h) offer.unless ≡ true
     → IsDueTo limits (log h) command (offer_due limits (log h) offer)
@@ -143,44 +115,3 @@ Offered-still limits h place command offer outside offered still =
     let since = drop place h in
     let whole : log (take place h) ++ log since ≡ log h = sym (log-append (take place h) since) ∙ ap log (take-append-drop place h) in
     subst (λ (l : Log). IsDueTo limits l command (offer_due limits l offer)) whole (offered.later outside since (subst (λ (l : Log). is_as_read since l offer.unless ≡ true) (sym whole) still))
-
--- an offer is made of a good text
-pub Offered-good : (limits : Limits) (l : Log) (command : Command) (offer : Offer) → IsOffered limits l command offer → IsGoodText command
-Offered-good limits l command offer offered = commit_good limits l command (commit_of offer.intent) offered.due
-
--- ---- what is due
-
-pub says_due : (limits : Limits) (h : History) (now : ℤ) (command : Command) (reply : Reply) → IsDueTo limits (log h) command (Says reply) → IsDue limits h now command reply
-says_due limits h now (Query query) reply due = absurd due
-says_due limits h now (Show show) reply due = absurd due
-says_due limits h now (Change change) reply due = due
-says_due limits h now (Merge table) reply due = absurd due
-says_due limits h now (Fold view) reply due = absurd due
-says_due limits h now Unbuilt reply due = absurd due
-
-commits_due : (limits : Limits) (l : Log) (command : Command) (c : Commit) → IsDueTo limits l command (Commits c) → IsCommitDue limits l command c
-commits_due limits l (Query query) c due = absurd due
-commits_due limits l (Show show) c due = absurd due
-commits_due limits l (Change change) c due = (due, refl)
-commits_due limits l (Merge table) c due = absurd due
-commits_due limits l (Fold view) c due = absurd due
-commits_due limits l Unbuilt c due = absurd due
-
--- a tag bars it
-pub offer-skipped : (limits : Limits) (h : History) (now : ℤ) (command : Command) (offer : Offer) (cursor : ℕ) → barred_at (log h) offer.unless ≡ Some cursor → IsDueTo limits (log h) command (offer_due limits (log h) offer) → IsDue limits h now command (replies.Skipped cursor)
-offer-skipped limits h now command offer cursor barred due =
-    says_due limits h now command (replies.Skipped cursor)
-    (subst (IsDueTo limits (log h) command) (ap (λ (o : Option ℕ). unless_tagged o (counted limits (log h) (commit_of offer.intent))) barred) due)
-
--- no tag bars it, and so much is due
-counted-offer : (limits : Limits) (l : Log) (command : Command) (offer : Offer) (room : Bool) → barred_at l offer.unless ≡ None → nat_lt (length l) limits.commits ≡ room → IsDueTo limits l command (offer_due limits l offer)
-    → IsDueTo limits l command (cond room (Commits (commit_of offer.intent)) (refused (refusals.Full limits.commits)))
-counted-offer limits l command offer room free is due =
-    let c = commit_of offer.intent in
-    subst (IsDueTo limits l command) (ap (λ (o : Option ℕ). unless_tagged o (counted limits l c)) free ∙ ap (λ (b : Bool). cond b (Commits c) (refused (refusals.Full limits.commits))) is) due
-
-pub offer-full : (limits : Limits) (h : History) (now : ℤ) (command : Command) (offer : Offer) → barred_at (log h) offer.unless ≡ None → nat_lt (length (log h)) limits.commits ≡ false → IsDueTo limits (log h) command (offer_due limits (log h) offer) → IsDue limits h now command (replies.Refused (refusals.Full limits.commits))
-offer-full limits h now command offer free full due = says_due limits h now command (replies.Refused (refusals.Full limits.commits)) (counted-offer limits (log h) command offer false free full due)
-
-pub offer-put : (limits : Limits) (l : Log) (command : Command) (offer : Offer) → barred_at l offer.unless ≡ None → nat_lt (length l) limits.commits ≡ true → IsDueTo limits l command (offer_due limits l offer) → IsCommitDue limits l command (commit_of offer.intent)
-offer-put limits l command offer free room due = commits_due limits l command (commit_of offer.intent) (counted-offer limits l command offer true free room due)

@@ -3,7 +3,7 @@ use Rattle.std.proofs.Common.{◌≡◌, ◌<◌, ◌≤◌, ◌+◌, ℕ, Bool,
 use Rattle.std.specs.List.{flat_map, slice_get}
 use Rattle.std.specs.List.Sorted.{IsPermutation}
 use Rattle.std.specs.Option.{option_map, unwrap_or}
-use Rattle.std.proofs.lemmas.Bool.{ltb-true, ltb-false}
+use Rattle.std.proofs.lemmas.Bool.{ltb-false}
 use Rattle.std.proofs.lemmas.List.{length-map, length-take, map_push, take-map, take_all, take_more}
 use Rattle.std.proofs.lemmas.List.Elements.{All-cons, All-contains, All-head, All-map, All-nil, All-tail, All-weaker}
 use Rattle.kq_value.specs.declared.record.Record.{Record}
@@ -66,14 +66,6 @@ some_picked small es is = by_test (nat_lt (length small) 2) refl is
     by_test : (b : Bool) → nat_lt (length small) 2 ≡ b → Some es ≡ cond b None (Some (take 64 small)) → ArePicked small es
     by_test true few e = cc
     by_test false few e = record { are = cc; some = ltb-false (length small) 2 few }
-
--- fewer than two are small
-pub few_picked : (h : History) (t : ℕ) (held : HeldExtents) → AreItems (extents h t) held → None ≡ picked_of held.small → length (picked h t) < 2
-few_picked h t held are is = by_test (nat_lt (length held.small) 2) refl is
-  where
-    by_test : (b : Bool) → nat_lt (length held.small) 2 ≡ b → None ≡ cond b None (Some (take 64 held.small)) → length (picked h t) < 2
-    by_test true few e = let less = ltb-true (length held.small) 2 few in omega (arith, less, long_picked h t held are)
-    by_test false few e = cc
 
 -- ---- the rows
 

@@ -9,7 +9,7 @@ use Rattle.kq_model.specs.declared.event.Operation.{Operation}
 use Rattle.kq_model.specs.declared.limits.Limits.{Limits}
 use Rattle.kq_model.specs.History.{History, commits_at}
 use Rattle.kq_model.specs.Requests.{same_by}
-use Rattle.kq_catalog.specs.Seen.{CatalogView, Sound}
+use Rattle.kq_catalog.specs.Seen.{CatalogView}
 use Rattle.kq_engine.specs.declared.run.Step.{Step}
 use Rattle.kq_engine.specs.declared.run.Step.TheVariants.{Begin, Finish}
 use Rattle.kq_engine.specs.declared.run.Told.{Told}
@@ -29,7 +29,7 @@ use Rattle.kq_command.specs.declared.command.Command.{Command}
 use Rattle.kq_reply.specs.declared.refusal.Refusal.{Refusal}
 use Rattle.kq_reply.specs.declared.refusal.Refusal.TheVariants as refusals
 use Rattle.kq_reply.specs.declared.reply.Reply.TheVariants as replies
-use Rattle.kq_engine.specs.Steps.{work_of, place_of, is_finished, request_of, opens, tells, commits_told, Moment, start, IsBare, Tells, Accounts, ByStep, Leads, Runs, IsOpen, IsRun, IsTrace, IsAt, one_if_some, AreWaiting}
+use Rattle.kq_engine.specs.Steps.{work_of, place_of, is_finished, request_of, opens, tells, commits_told, Moment, start, IsBare, Tells, Accounts, ByStep, Leads, Runs, IsOpen, IsRun, IsAt, one_if_some}
 use Rattle.kq_engine.proofs.Bringing.{folding_finds, folding_outside}
 use Rattle.kq_engine.proofs.Advancing.{Fits-append, Fits-end}
 use Rattle.kq_engine.proofs.Stepping.{same_by-true, same_by-itself, work_of-append, work_of-new, place_of-append, place_of-new, one-begin, one-finish, is_finished-begin, is_finished-finish, is_finished-begun, is_finished-append, is_finished-now}
@@ -282,10 +282,6 @@ finish_open limits xs c old new open_ones outcomes i p outcome is_at value kept 
     (λ b. ap (λ (n : ℕ). count_by (opens b) (remove open_ones i) + n) (sum_by_push (λ (x : Told). cond (tells b x) 1 0) outcomes t) ∙ moved (same_by c b) (count_by (opens b) open_ones) (count_by (opens b) (remove open_ones i)) (count_by (tells b) outcomes) _ (of b) (run.once b) ∙ sym (one-finish b c xs))
     (λ b f. moved_gone (same_by c b) (count_by (opens b) open_ones) (count_by (opens b) (remove open_ones i)) (count_by (tells b) outcomes) (one_if_some (work_of b xs)) (of b) (run.once b) (elim (is_finished-finish b c xs f) [ inl q ↦ inl (run.gone b q) | inr q ↦ inr q ]))
 
--- work that is open may be finished
-pub AreWaiting-from_run : (limits : Limits) (xs : List Step) (catalog : CatalogView) (open_ones : List Prepared) (outcomes : List Told) → IsRun limits xs catalog open_ones outcomes → AreWaiting catalog open_ones
-AreWaiting-from_run limits xs catalog open_ones outcomes run = All-weaker _ _ (λ (p : Prepared) (o : IsOpen limits (moment xs run.found catalog.history outcomes) p). subst (λ (l : Limits). IsPrepared l (take p.place catalog.history) p) (sym run.same_limits) o.prepared) open_ones run.waiting
-
 one_at_least : {X : Type 0} (test : X → Bool) (xs : List X) (i : ℕ) (d : X) → IsAt test xs i → 0 < count_by test xs
 one_at_least {X} test xs i d is_at =
     let e = sum_by-remove (λ (x : X). cond (test x) 1 0) xs i d is_at.0 in
@@ -313,13 +309,4 @@ IsRun-start limits catalog open_ones outcomes same empty none_open none_told = r
   commits = ap commits_at empty ∙ ap commits_told (sym none_told);
   once = λ b. ap (λ (ps : List Prepared). count_by (opens b) ps + count_by (tells b) outcomes) none_open ∙ ap (λ (os : List Told). 0 + count_by (tells b) os) none_told;
   gone = λ b f. ap (λ (ps : List Prepared). count_by (opens b) ps) none_open;
-}
-
--- what a whole run comes to
-pub IsTrace-from_run : (limits : Limits) (xs : List Step) (catalog : CatalogView) (open_ones : List Prepared) (outcomes : List Told) → Sound catalog → IsRun limits xs catalog open_ones outcomes → IsTrace limits xs catalog outcomes
-IsTrace-from_run limits xs catalog open_ones outcomes sound run = record {
-  same_limits = run.same_limits;
-  sound = sound;
-  found = run.found;
-  runs = run.runs;
 }

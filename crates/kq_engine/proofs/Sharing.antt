@@ -9,17 +9,15 @@ use Rattle.kq_model.specs.declared.limits.Limits.{Limits}
 use Rattle.kq_model.specs.History.{History, cursor}
 use Rattle.kq_engine.specs.declared.work.Outcome.{Outcome}
 use Rattle.kq_engine.specs.declared.work.Work.{Work}
-use Rattle.kq_engine.specs.Fits.{Advances, AnswersCommand, event_by}
+use Rattle.kq_engine.specs.Fits.{Advances, event_by}
 use Rattle.kq_engine.specs.Found.{IsReady}
-use Rattle.kq_reply.specs.declared.refusal.Refusal.{Refusal}
 use Rattle.kq_reply.specs.declared.reply.Reply.{Reply}
-use Rattle.kq_reply.specs.declared.reply.Reply.TheVariants as replies
 use Rattle.kq_engine.specs.declared.work.Ready.TheVariants as readies
 use Rattle.kq_engine.specs.Shared.{PassView, Applies, Finishes, IsJustTaken, Concludes, commit_count}
 use Rattle.kq_engine.proofs.Advancing.{Appends-none, Fits-end}
 use Rattle.kq_engine.proofs.Counting.{cursor-gained}
 use Rattle.kq_engine.specs.Merges.{NamesAll}
-use Rattle.kq_engine.proofs.Telling.{NamesAll-since, cursor_take, refused_still, settled_requested, settled_names, still_requested, still_names}
+use Rattle.kq_engine.proofs.Telling.{NamesAll-since, cursor_take, settled_requested, settled_names}
 
 -- a step that began on what was seen
 pub Finishes-step : (limits : Limits) (of : TurnId) (seen old new : History) (worth made : ℕ) (taken : List ℕ) (work : Work) (began : ℕ) (outcome : Outcome) → began ≡ length seen → IsPrefix seen old → Advances limits old new work began outcome
@@ -90,20 +88,3 @@ Applies-concluded limits old mid new work outcome begins took concludes =
       since = omega (arith, low, concludes.since);
       names_all = NamesAll-since (take outcome.place new.seen) (length old.seen) (length mid.seen) outcome.reply low concludes.names_all;
     }
-
--- what was refused on what one take found
-pub Applies-refused : (limits : Limits) (old new : PassView) (work : Work) (r : Refusal) → IsPrefix old.seen new.seen → new ≡ record old { seen = new.seen; taken = old.taken ++ length new.seen ∷ [] }
-    → AnswersCommand limits new.seen work.now work.command (replies.Refused r) → Applies limits old new work (record { place = length new.seen; own = false; reply = replies.Refused r })
-Applies-refused limits old new work r begins took fits = Applies-concluded limits old new new work (record { place = length new.seen; own = false; reply = replies.Refused r }) begins took (record {
-  of = refl;
-  worth = refl;
-  seen = ([], append-nil new.seen);
-  more = [];
-  few = omega arith;
-  taken = sym (append-nil new.taken);
-  last = record { found = new.seen; begins = IsPrefix-refl new.seen; before = old.taken; last = ap (λ (p : PassView). p.taken) took; appends = Appends-none limits new.seen work.by work.command (length new.seen) (replies.Refused r) };
-  made = omega arith;
-  fits = Fits-end limits new.seen work.by work.command work.now (length new.seen) false (replies.Refused r) refl fits (still_requested new.seen work.by (replies.Refused r) (refused_still r));
-  since = omega arith;
-  names_all = still_names (take (length new.seen) new.seen) (length new.seen) (replies.Refused r) (refused_still r);
-})

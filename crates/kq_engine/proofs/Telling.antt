@@ -19,29 +19,24 @@ use Rattle.kq_command.specs.declared.command.Change.TheVariants.{CreateTable, Al
 use Rattle.kq_command.specs.declared.command.Command.{Command}
 use Rattle.kq_command.specs.declared.command.Command.TheVariants as commands
 use Rattle.kq_command.specs.declared.command.Show.{Show}
-use Rattle.kq_command.specs.declared.command.Show.TheVariants.{View, Failures, Extents, Journal}
 use Rattle.kq_command.specs.declared.ingestion.Ingestion.{Ingestion}
 use Rattle.kq_command.specs.Columns.{schema_of}
 use Rattle.kq_command.specs.Widening.{first_clash, new_columns}
 use Rattle.kq_ingest.specs.declared.fault.IngestFault.{IngestFault}
 use Rattle.kq_ingest.specs.Ingestion.{first_fault}
-use Rattle.kq_model.specs.declared.answer.Answer.{Answer}
 use Rattle.kq_model.specs.declared.batch.Batch.{Batch}
 use Rattle.kq_bind_expression.specs.Verdicts.{Verdict}
 use Rattle.kq_command.specs.declared.definition.NewView.{NewView}
 use Rattle.kq_model.proofs.Histories.{log-append}
 use Rattle.kq_plan.specs.Plans.{Planned}
 use Rattle.kq_query.specs.Answers.{refusal_by}
-use Rattle.kq_query.specs.Printed.{PrintsAnswer}
 use Rattle.kq_reply.specs.declared.refusal.Refusal.{Refusal}
 use Rattle.kq_reply.specs.declared.refusal.Refusal.TheVariants as refusals
 use Rattle.kq_reply.specs.declared.reply.Reply.{Reply}
 use Rattle.kq_reply.specs.declared.reply.Reply.TheVariants as replies
 use Rattle.kq_engine.specs.Due.{Due, Says, Commits, IsBoundDue, IsWithinViews, IsDueByLog, IsNewDue, IsPlannedDue, IsViewDue, MakesView, stood_due, view_named, bad_tags, barring_tags, IsBodyDue, IsIngestDue, IsTaggedDue, IsValuesDue, clash_due, counted, derived_due, lacking_due, made_due, named_due, own_batch, refused, refusal_of, reply_to, table_due, widening_due, IsEntriesDue, IsPolicyDue}
 use Rattle.kq_engine.specs.Fits.{Makes}
-use Rattle.kq_engine.specs.Folds.{view_number}
 use Rattle.kq_engine.specs.Merges.{IsMergedBy, IsSettled, IsStill, NamesAll}
-use Rattle.kq_engine.specs.Shows.{AnswersShow, ShowsExtents, ShowsView}
 use Rattle.kq_show.specs.JournalRows.{name_of}
 
 -- ---- a reply that tells of none
@@ -54,9 +49,6 @@ refused_still r = record { no_merge = λ extents e. cc; no_fold = λ at e. cc }
 
 pub skipped_still : (cursor : ℕ) → IsStill (replies.Skipped cursor)
 skipped_still cursor = record { no_merge = λ extents e. cc; no_fold = λ at e. cc }
-
-rows_still : (text : List ℕ) → IsStill (replies.Rows text)
-rows_still text = record { no_merge = λ extents e. cc; no_fold = λ at e. cc }
 
 kept_still : (cursor : ℕ) → IsStill (replies.Kept cursor)
 kept_still cursor = record { no_merge = λ extents e. cc; no_fold = λ at e. cc }
@@ -126,25 +118,6 @@ NamesAll-since h from later reply before names = record {
       record { before = m.before; by = m.by; table = m.table; old = m.old; new = m.new; last = m.last; at = m.at; since = omega (arith, before, m.since); within = m.within; all = m.all };
   folded = λ at e. let past = names.folded at e in let fewer = cursor_earlier from later h before in omega (arith, past, fewer);
 }
-
--- ---- shows
-
-pub printed_still : (IsSo : Answer → Type 0) (reply : Reply) → PrintsAnswer IsSo reply → IsStill reply
-printed_still IsSo reply printed = still_by reply (replies.Rows printed.text) printed.is (rows_still printed.text)
-
-extents_still : (h : History) (table : Identifier) (found : Option NumberedTable) (reply : Reply) → ShowsExtents h table found reply → IsStill reply
-extents_still h table None reply is = still_by reply (replies.Refused (refusals.Unknown table.at)) is (refused_still (refusals.Unknown table.at))
-extents_still h table (Some found) reply printed = printed_still _ reply printed
-
-view_still : (h : History) (view : Identifier) (found : Option ℕ) (reply : Reply) → ShowsView h view found reply → IsStill reply
-view_still h view None reply is = still_by reply (replies.Refused (refusals.Unknown view.at)) is (refused_still (refusals.Unknown view.at))
-view_still h view (Some number) reply printed = printed_still _ reply printed
-
-pub show_still : (h : History) (show : Show) (reply : Reply) → AnswersShow h show reply → IsStill reply
-show_still h (View view) reply answers = view_still h view (view_number h view) reply answers
-show_still h Failures reply answers = printed_still _ reply answers
-show_still h (Extents table) reply answers = extents_still h table (table_numbered table.text (tables (log h))) reply answers
-show_still h Journal reply answers = printed_still _ reply answers
 
 -- ---- changes
 

@@ -21,7 +21,6 @@ use Rattle.kq_reply.specs.declared.reply.Reply.TheVariants as replies
 use Rattle.kq_engine.specs.declared.work.Outcome.{Outcome}
 use Rattle.kq_engine.specs.declared.work.Work.{Work}
 use Rattle.kq_engine.specs.Fits.{Acts, IsDue, Tended}
-use Rattle.kq_engine.specs.Found.{IsGoodText}
 use Rattle.kq_engine.specs.Merges.{IsMergingFor, IsMergingIn, IsMergingOf, MergesNamed, PutsMerge, TendsMerge}
 
 -- ---- what is merged
@@ -39,9 +38,6 @@ merges_of h (commands.Change change) m is = absurd is
 merges_of h (commands.Merge table) m is = record { name = table; is = refl; of = is }
 merges_of h (commands.Fold view) m is = absurd is
 merges_of h commands.Unbuilt m is = absurd is
-
-pub merging_good : (h : History) (command : Command) (m : Merging) → IsMergingFor h command m → IsGoodText command
-merging_good h command m is = let merges = merges_of h command m is in subst IsGoodText (sym merges.is) tt
 
 -- it was picked at some place of the history
 pub merging_picked : (h : History) (place : ℕ) (command : Command) (m : Merging) → IsMergingFor (take place h) command m → WasPicked h m

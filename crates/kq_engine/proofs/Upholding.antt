@@ -25,8 +25,6 @@ use Rattle.kq_model.proofs.Growing.{tables-stay}
 use Rattle.kq_model.proofs.Histories.{log-append}
 use Rattle.kq_model.proofs.Views.{view_cursor-push, no_fewer_views}
 use Rattle.kq_plan.specs.Plans.{planned_of}
-use Rattle.kq_query.specs.Answers.{RefusesBy}
-use Rattle.kq_reply.specs.declared.refusal.Refusal.{Refusal}
 use Rattle.kq_reply.specs.declared.refusal.Refusal.TheVariants as refusals
 use Rattle.kq_reply.specs.declared.reply.Reply.{Reply}
 use Rattle.kq_reply.specs.declared.reply.Reply.TheVariants as replies
@@ -37,12 +35,12 @@ use Rattle.kq_engine.specs.declared.upkeep.Upkeep.TheVariants as upkeeps
 use Rattle.kq_engine.specs.declared.work.Folding.{Folding}
 use Rattle.kq_engine.specs.declared.work.Outcome.{Outcome}
 use Rattle.kq_engine.specs.Fits.{Fits, IsDue, event_by}
-use Rattle.kq_engine.specs.Folds.{BringsForward, FoldsNamed, FoldsView, IsFoldingIn, PutsFold}
-use Rattle.kq_engine.specs.Merges.{IsMergedBy, IsMergingIn, IsSettled, IsStill, MergesNamed, MergesTable, PutsMerge}
+use Rattle.kq_engine.specs.Folds.{BringsForward, FoldsNamed, IsFoldingIn, PutsFold}
+use Rattle.kq_engine.specs.Merges.{IsMergedBy, IsMergingIn, IsSettled, MergesNamed, MergesTable, PutsMerge}
 use Rattle.kq_engine.specs.Shared.{PassView}
 use Rattle.kq_engine.specs.Upkeeps.{AnswersUpkeep, AsksFor, FinishesUpkeep, FitsEach, IsChore, IsThere, IsToldAt, IsWanted, KeepsUp, MakesOwn, PutsChore, TellsUpkeep, Upholds, WasChore, WasFound}
 use Rattle.kq_engine.proofs.Advancing.{Fits-end}
-use Rattle.kq_engine.proofs.Telling.{NamesAll-since, cursor_take, refused_still, settled_names}
+use Rattle.kq_engine.proofs.Telling.{NamesAll-since, cursor_take, settled_names}
 
 -- ---- what stands goes on to stand
 
@@ -105,37 +103,6 @@ Upholds-told h by upkeep began reply answers settled = record {
   names_all = settled_names (cursor h) h began reply (cursor_take began h) settled;
 }
 
--- memory was wanting
-pub Upholds-wanting : (old new : History) (by : By) (upkeep : Upkeep) (began : ℕ) → new ≡ old → Upholds old new by upkeep began (record { place = length new; own = false; reply = replies.Refused refusals.Memory })
-Upholds-wanting old new by upkeep began stays =
-    subst (λ (h : History). Upholds h new by upkeep began (record { place = length new; own = false; reply = replies.Refused refusals.Memory })) stays
-    (Upholds-told new by upkeep began (replies.Refused refusals.Memory) (inl refl) (inl (refused_still refusals.Memory)))
-
-nothing_still : IsStill replies.Nothing
-nothing_still = record { no_merge = λ extents e. cc; no_fold = λ at e. cc }
-
--- ---- what is told with no event
-
--- memory was wanting, and something was to be done
-pub wanting_told : (h : History) (upkeep : Upkeep) → IsWanted h upkeep → IsToldAt h upkeep (replies.Refused refusals.Memory)
-wanting_told h upkeep wanted = record { answers = inl refl; settled = inl (refused_still refusals.Memory); memory = λ e. wanted }
-
-refused_answers : (h : History) (view : ℕ) (r : Refusal) → RefusesBy (FoldsView h view) r → AnswersUpkeep h (upkeeps.Fold view) (replies.Refused r)
-refused_answers h view r (inl wanting) = inl (ap (λ (x : Refusal). replies.Refused x) wanting)
-refused_answers h view r (inr refuses) = inr refuses
-
--- the fold was refused
-pub refused_told : (h : History) (view : ℕ) (r : Refusal) → IsWanted h (upkeeps.Fold view) → RefusesBy (FoldsView h view) r → IsToldAt h (upkeeps.Fold view) (replies.Refused r)
-refused_told h view r wanted refuses = record { answers = refused_answers h view r refuses; settled = inl (refused_still r); memory = λ e. wanted }
-
--- the view is up to the cursor
-pub folded_told : (h : History) (view at : ℕ) → at ≡ cursor h → view_cursor h view ≡ cursor h → IsToldAt h (upkeeps.Fold view) (replies.Folded at)
-folded_told h view at here idle = record { answers = inr (here ∙ sym idle); settled = inr (at, refl, omega (arith, here)); memory = λ e. absurd (cc) }
-
--- there is nothing to merge
-pub nothing_told : (h : History) (table : ℕ) → length (picked h table) < 2 → IsToldAt h (upkeeps.Merge table) replies.Nothing
-nothing_told h table few = record { answers = inr few; settled = inl nothing_still; memory = λ e. absurd (cc) }
-
 -- what a pass has seen was found in what it then takes
 pub seen_chore : (seen old : History) (upkeep : Upkeep) (chore : Chore) → IsPrefix seen old → IsThere (log seen) upkeep → IsChore seen upkeep chore → WasChore old upkeep (length seen) chore
 seen_chore seen old upkeep chore begins there is = record {
@@ -143,10 +110,6 @@ seen_chore seen old upkeep chore begins there is = record {
   there = subst (λ (h : History). IsThere (log h) upkeep) (sym (take-IsPrefix seen old begins)) there;
   is = subst (λ (h : History). IsChore h upkeep chore) (sym (take-IsPrefix seen old begins)) is;
 }
-
--- there was nothing to merge
-pub Upholds-nothing : (h : History) (by : By) (table began : ℕ) → length (picked h table) < 2 → Upholds h h by (upkeeps.Merge table) began (record { place = length h; own = false; reply = replies.Nothing })
-Upholds-nothing h by table began few = Upholds-told h by (upkeeps.Merge table) began replies.Nothing (inr few) (inl nothing_still)
 
 -- what was picked later was picked since the work began
 pub Upholds-since : (old new : History) (by : By) (upkeep : Upkeep) (began later : ℕ) (outcome : Outcome) → began ≤ later → Upholds old new by upkeep later outcome → Upholds old new by upkeep began outcome

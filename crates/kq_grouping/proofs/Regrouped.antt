@@ -8,7 +8,7 @@ use Rattle.kq_computed.specs.declared.fault.EvalFault.{EvalFault}
 use Rattle.kq_computed.specs.declared.fault.EvalFault.TheVariants as fault
 use Rattle.kq_expr.specs.Terms.{Term}
 use Rattle.kq_group.specs.Grouped.{AggregateShape as Aggregated, FitArgs, Grouped}
-use Rattle.kq_group.specs.Groups.{AddsRows, EndsWide, Grouping, HasAllGroups, Stands, Starts, args_at, beside, rows_from, shape_of}
+use Rattle.kq_group.specs.Groups.{EndsWide, Grouping, HasAllGroups, Stands, Starts, args_at, beside, rows_from, shape_of}
 use Rattle.kq_group.proofs.Finishing.{EndsWide-Stands, Grouped-Stands}
 use Rattle.kq_piecewise.proofs.Laws.{each_append}
 use Rattle.kq_piecewise.specs.Operators.{Row, values_at}
@@ -126,11 +126,6 @@ comes_lost {B} (Is x) (Is y) these e = absurd cc
 pub summarized_lost : (es : List Term) (gs : List Aggregating) (cs : List Field) (s : Surroundings) (rows : List Row) → keyed es gs s rows ≡ Overflow → Summarized es gs cs s rows Overflow
 summarized_lost es gs cs s rows e = comes_lost (each (values_at es s) rows) (each (arguments_over s rows) gs) (λ keys args. Grouped (length es) (under gs (map ty_of (drop (length es) cs))) keys args) e
 
--- what comes to groups
-pub come_to : (es : List Term) (gs : List Aggregating) (s : Surroundings) (rows keys : List Row) (args those : Args) (old new : Grouping) (done : Unit {0}) → each (values_at es s) rows ≡ Is keys → each (arguments_over s rows) gs ≡ Is args
-    → those ≡ args → AddsRows keys those old new → ComeTo es gs s rows old new (Ok done)
-come_to es gs s rows keys args those old new done a b same adds = (keys, args, keyed_is es gs s rows keys args a b, subst (λ (as_given : Args). AddsRows keys as_given old new) same adds)
-
 pub keys_lost : (es : List Term) (gs : List Aggregating) (s : Surroundings) (rows : List Row) (old new : Grouping) (met : EvalFault) → Answers (each (values_at es s) rows) (Err met) → ComeTo es gs s rows old new (Err met)
 keys_lost es gs s rows old new fault.Overflow over = ap (λ (c : Computed (List Row)). and_then c (λ x. and_then (each (arguments_over s rows) gs) (λ y. Is (x, y)))) over
 keys_lost es gs s rows old new fault.Memory over = tt
@@ -234,9 +229,6 @@ reached_more es gs ts s whole old new n piece g h done at yields is come = recor
 
 pub reached_along : (es : List Term) (gs : List Aggregating) (ts : List Ty) (s : Surroundings) (whole left : Ran) (g : Grouping) → Reached es gs ts s whole left g → length g.states ≡ length gs
 reached_along es gs ts s whole left g at = states_along es gs ts s at.rows g at.groups
-
-pub reached_wide : (es : List Term) (gs : List Aggregating) (ts : List Ty) (s : Surroundings) (whole left : Ran) (g : Grouping) → length ts ≡ all_made gs → Reached es gs ts s whole left g → All EndsWide g.states
-reached_wide es gs ts s whole left g long at = groups_wide es gs ts s at.rows g long at.groups
 
 -- at the end
 ends_so : (es : List Term) (gs : List Aggregating) (cs : List Field) (s : Surroundings) (whole : Ran) (rows : List Row) (g : Grouping) → whole ≡ came rows → GroupsOf es gs (map ty_of (drop (length es) cs)) s rows g

@@ -9,7 +9,7 @@ use Rattle.kq_cascade.specs.Queried.{AnswersEntry}
 use Rattle.kq_model.specs.declared.limits.Limits.{Limits}
 use Rattle.kq_model.specs.declared.policy.Due.{Due}
 use Rattle.kq_model.specs.declared.policy.Entry.{Entry}
-use Rattle.kq_model.specs.Beside.{DueGives, EntryGives, TellsCause, beside}
+use Rattle.kq_model.specs.Beside.{DueGives, EntryGives, beside}
 use Rattle.kq_model.specs.Derived.{Row}
 use Rattle.kq_model.specs.Force.{IsStanding, policy_at}
 use Rattle.kq_model.specs.History.{History, Log, log, tables}
@@ -88,12 +88,7 @@ module _ (limits : Limits) (h : History) (lawful : AreLawful limits h) (t place 
 
 -- ---- what they give
 
-pub entry_answers : (l : Log) (e : Entry) (rows : List Row) (o : Outcome) (r : Result (List Row) QueryFault) → Gives (planned_of e.plan) (beside l e.source rows) (pos 0) o → AnswersEntry (TellsCause o) r → AnswersEntry (EntryGives l e rows) r
-entry_answers l e rows o (Ok given) gives told = record { outcome = o; gives = gives; told = told }
-entry_answers l e rows o (Err (Fails cause)) gives told = record { outcome = o; gives = gives; told = told }
-entry_answers l e rows o (Err Memory) gives told = tt
-
-pub due_answers : (l : Log) (d : Due) (e : Entry) (rows : List Row) (r : Result (List Row) QueryFault) → slice_get (policy_at (policies l) d.target) d.place ≡ Some e → AnswersEntry (EntryGives l e rows) r → AnswersEntry (DueGives l d rows) r
+pub due_answers : (l : Log) (d : Due) (e : Entry) (rows : List Row) (r : Result (List Row) QueryFault) → slice_get (policy_at (policies l) d.target) d.place ≡ Some e → Answers (EntryGives l e rows) r → Answers (DueGives l d rows) r
 due_answers l d e rows (Ok given) at gives = record { entry = e; stands = at; gives = gives }
 due_answers l d e rows (Err (Fails cause)) at gives = record { entry = e; stands = at; gives = gives }
 due_answers l d e rows (Err Memory) at gives = tt

@@ -198,13 +198,6 @@ first_found l said n cs (Some f) at is =
     let same : take n f.table.schema ≡ cs = ap columns_known is in
     record { found = f; finds = at; first = sym same ∙ first_of n f.table.schema ∙ ap (λ (fs : List Field). take (length fs) f.table.schema) same }
 
-no_view : (n : ℕ) (cs : List Field) (found : Option NumberedTable) → option_map (known_first n) found ≡ as_view cs → ⊥
-no_view n cs None is = cc
-no_view n cs (Some f) is = no_table cs (take n f.table.schema) (sym is)
-
 -- it is a table's
 pub first_read : (l : Log) (p : Planned) (said : List ℕ) (cs : List Field) → FitsLeaf kind.Table (known_as_read l p said) cs → IsFirstOf l said cs
 first_read l p said cs fits = first_found l said (width_read said p.steps) cs (table_numbered said (tables l)) refl fits
-
-pub view_read : (l : Log) (p : Planned) (said : List ℕ) (cs : List Field) → known_as_read l p said ≡ Some (name.View, cs) → ⊥
-view_read l p said cs fits = no_view (width_read said p.steps) cs (table_numbered said (tables l)) fits

@@ -1,7 +1,6 @@
 -- Where a name stands twice, by the names before each place.
-use Rattle.std.proofs.Common.{◌≡◌, ℕ, suc, ◌||◌, ◌+◌, ◌<◌, ◌≤◌, Bool, true, false, not, cond, List, [], ◌∷◌, ◌++◌, length, map, take, drop, get_or, nat_eq, Option, Some, None, refl, sym, ap, ◌∙◌, arith, drop-cons}
-use Rattle.std.specs.List.{list_any}
-use Rattle.std.proofs.lemmas.List.{take_more, length-take-le, map-append, length-map, drop_all}
+use Rattle.std.proofs.Common.{◌≡◌, ℕ, suc, ◌||◌, ◌+◌, ◌<◌, ◌≤◌, Bool, true, false, not, cond, List, [], ◌∷◌, ◌++◌, length, map, take, drop, get_or, nat_eq, Option, Some, refl, sym, ap, ◌∙◌, arith, drop-cons}
+use Rattle.std.proofs.lemmas.List.{take_more, length-take-le, map-append, length-map}
 use Rattle.std.proofs.lemmas.List.Folds.{list_any-append}
 use Rattle.std.proofs.lemmas.Map.Text.{is_eq-slice_cmp}
 use Rattle.std.specs.BTreeSet.{BTreeSet, Updates, contains_by}
@@ -55,14 +54,6 @@ repeat-more name_of items i x within is new =
     ap (λ l. repeat_after before (map name_of l)) (drop-next items i x within is)
     ∙ if-false (is_among (name_of x) before) (Some (length before)) (repeat_after (before ++ name_of x ∷ []) (map name_of (drop (i + 1) items))) new
     ∙ ap (λ l. repeat_after l (map name_of (drop (i + 1) items))) (sym (names-next name_of items i x within is))
-
--- all were looked through
-pub repeat-none : {A : Type 0} (name_of : A → List ℕ) (items : List A) (i : ℕ) → length items ≤ i → repeat_from name_of items i ≡ None
-repeat-none name_of items i all = ap (λ l. repeat_after (map name_of (take i items)) (map name_of l)) (drop_all i items all)
-
-pub among-named : {A : Type 0} (name_of : A → List ℕ) (name : List ℕ) (items : List A) → list_any (λ (item : A). pointwise nat_eq (name_of item) name) items ≡ is_among name (map name_of items)
-among-named name_of name [] = refl
-among-named name_of name (item ∷ items) = ap (λ b. pointwise nat_eq (name_of item) name || b) (among-named name_of name items)
 
 either : (p q : Bool) → cond p true q ≡ (q || p)
 either true true = refl

@@ -1,5 +1,5 @@
 -- What fits a block goes on to fit.
-use Rattle.std.proofs.Common.{◌≡◌, ℕ, ℤ, Bool, ◌++◌, ◌∷◌, List, length, take, [], true, false, refl, inl, inr, subst, sym, arith, length-append, append-nil, add-zero, Result, Ok, Err}
+use Rattle.std.proofs.Common.{◌≡◌, ℕ, ℤ, Bool, ◌++◌, List, length, take, [], true, false, refl, inl, inr, subst, sym, arith, length-append, append-nil, add-zero, Result, Ok, Err}
 use Rattle.kq_turn.proofs.Beginnings.{IsPrefix-refl}
 use Rattle.kq_model.specs.declared.event.By.{By}
 use Rattle.kq_model.specs.declared.limits.Limits.{Limits}
@@ -14,8 +14,7 @@ use Rattle.kq_reply.specs.declared.refusal.Refusal.TheVariants as refusals
 use Rattle.kq_reply.specs.declared.reply.Reply.{Reply}
 use Rattle.kq_reply.specs.declared.reply.Reply.TheVariants as replies
 use Rattle.kq_engine.specs.declared.work.Outcome.{Outcome}
-use Rattle.kq_engine.specs.declared.work.Work.{Work}
-use Rattle.kq_engine.specs.Shared.{PassView, Applies}
+use Rattle.kq_engine.specs.Shared.{PassView}
 use Rattle.kq_script.specs.Script.{Block, command, too_long}
 use Rattle.kq_engine.proofs.Advancing.{Fits-append}
 use Rattle.kq_engine.proofs.Telling.{refused_still, still_names}
@@ -87,19 +86,3 @@ AnswersBlock-memory limits p by text now outcome is = AnswersBlock-refused limit
   reads = tt;
   fits = record { within = omega arith; not_own = refl; reason = inr refl };
 })
-
--- the engine answered the command that the text reads as
-pub AnswersBlock-applied : (limits : Limits) (old new : PassView) (work : Work) (text : List ℕ) (outcome : Outcome) → ReadsAs text (Ok work.command) → Applies limits old new work outcome → AnswersBlock limits old new work.by (command text) work.now outcome
-AnswersBlock-applied limits old new work text outcome reads applies = record {
-  of = applies.of;
-  worth = applies.worth;
-  seen = applies.seen;
-  made = applies.made;
-  takes = applies.takes.first ∷ applies.takes.more;
-  taken = applies.takes.gains;
-  enough = (applies.takes.since, applies.takes.few);
-  fits = record { read = Ok work.command; reads = reads; fits = applies.fits };
-  since = applies.since;
-  names_all = applies.names_all;
-  within = applies.fits.within;
-}

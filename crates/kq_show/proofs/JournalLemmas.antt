@@ -1,6 +1,6 @@
 -- The rows of events.
-use Rattle.std.proofs.Common.{◌≡◌, ◌<◌, ◌≤◌, ℕ, suc, ◌+◌, List, [], ◌∷◌, ◌++◌, length, map, get_or, drop, drop-cons, refl, ap, sym, ◌∙◌, arith, append_assoc, append-nil, length-append}
-use Rattle.std.proofs.lemmas.List.{drop_all, get_or-map, length-map}
+use Rattle.std.proofs.Common.{◌≡◌, ◌<◌, ℕ, suc, ◌+◌, List, [], ◌∷◌, ◌++◌, length, map, get_or, drop, drop-cons, refl, ap, sym, ◌∙◌, arith, append_assoc, length-append}
+use Rattle.std.proofs.lemmas.List.{get_or-map, length-map}
 use Rattle.kq_value.specs.Typed.{HasTypes}
 use Rattle.kq_value.specs.declared.value.Value.{Value}
 use Rattle.kq_model.specs.declared.event.Event.{Event}
@@ -45,10 +45,6 @@ count-next cursor after total e before left b a h =
     let n = length-append (commits_of e.operation) (log left) in
     let all : cursor + length (log (e ∷ left)) ≡ total = rw b at h in
     omega (arith, n, a, all)
-
--- none is left
-pub rows-done : (l : Log) (place cursor i : ℕ) (rows whole : List (List Value)) (h : History) → length h ≤ i → rows ++ rows_behind l place cursor (drop i h) ≡ whole → rows ≡ whole
-rows-done l place cursor i rows whole h all e = sym (append-nil rows) ∙ rw (drop_all i h all) at e
 
 -- ---- some events more
 

@@ -3,11 +3,10 @@ use Rattle.std.proofs.Common.{◌≡◌, ◌||◌, Bool, true, false, ℕ, List,
 use mathlib.Core.List.{IsPrefix}
 use Rattle.kq_turn.proofs.Beginnings.{IsPrefix-refl, IsPrefix-trans}
 use Rattle.kq_model.specs.declared.limits.Limits.{Limits}
-use Rattle.kq_model.specs.History.{History}
 use Rattle.kq_engine.specs.declared.upkeep.Upkeep.{Upkeep}
 use Rattle.kq_engine.specs.Shared.{PassView}
 use Rattle.kq_workers.specs.declared.worker.Worker.{Worker}
-use Rattle.kq_workers.specs.Rounds.{SeenGoesOn, GoesRound, GoesRounds, HasRound, HasRounds, HasChores, Looks, TakesOne, TakesChore, TakesChores, Chore, Works, begun, wants_memory}
+use Rattle.kq_workers.specs.Rounds.{GoesRound, GoesRounds, HasRound, HasRounds, HasChores, Looks, TakesOne, TakesChore, TakesChores, Chore, Works, begun, wants_memory}
 
 -- ---- short
 
@@ -99,16 +98,9 @@ HasChores-carries limits actor old new has = chores_carry limits actor has.chore
 round_carries : (limits : Limits) (actor : ℕ) (chores : List Chore) (old new : Worker) → GoesRound limits actor chores old new → Carries old.pass new.pass
 round_carries limits actor chores old new round = Carries-trans old.pass round.looked.pass new.pass (Carries-looks old.pass round.looked.pass round.looks) (chores_carry limits actor chores round.looked new round.chore)
 
-pub HasRound-carries : (limits : Limits) (actor : ℕ) (old new : Worker) → HasRound limits actor old new → Carries old.pass new.pass
-HasRound-carries limits actor old new has = round_carries limits actor has.chores old new has.went
-
 rounds_carry : (limits : Limits) (actor : ℕ) (rounds : List (List Chore)) (old new : Worker) → GoesRounds limits actor rounds old new → Carries old.pass new.pass
 rounds_carry limits actor [] old new same = Carries-same old.pass new.pass (ap (λ (w : Worker). w.pass) same)
 rounds_carry limits actor (chores ∷ rounds) old new went = Carries-trans old.pass went.0.pass new.pass (round_carries limits actor chores old went.0 went.1) (rounds_carry limits actor rounds went.0 new went.2)
-
--- a chore goes on lawfully
-pub SeenGoesOn-one : (limits : Limits) (actor : ℕ) (first : History) (old new : Worker) (upkeep : Upkeep) → SeenGoesOn limits first old.pass.seen → TakesOne limits actor old new upkeep → SeenGoesOn limits first new.pass.seen
-SeenGoesOn-one limits actor first old new upkeep on one = record { begins = IsPrefix-trans first old.pass.seen new.pass.seen on.begins one.chore.keeps.seen; lawful = one.chore.keeps.lawful }
 
 -- ---- rounds
 
@@ -129,9 +121,6 @@ HasRound-chores limits actor old looked new looks number short has = record {
 pub record SoFar (limits : Limits) (actor : ℕ) (old new : Worker) : Type 0 where
   pub rounds : List (List Chore)
   pub went : GoesRounds limits actor rounds old new
-
-pub SoFar-none : (limits : Limits) (actor : ℕ) (w : Worker) → SoFar limits actor w w
-SoFar-none limits actor w = record { rounds = []; went = refl }
 
 pub SoFar-carries : (limits : Limits) (actor : ℕ) (old new : Worker) → SoFar limits actor old new → Carries old.pass new.pass
 SoFar-carries limits actor old new so_far = rounds_carry limits actor so_far.rounds old new so_far.went

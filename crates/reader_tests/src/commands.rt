@@ -13,10 +13,15 @@ fn put_identifier(page: &mut Page<'_>, name: &Identifier) {
     page.put_place(name.text.as_str(), name.at);
 }
 
+// The word, and what it is said of.
+fn put_on(page: &mut Page<'_>, word: &str, name: &Identifier) {
+    page.put(word);
+    put_identifier(page, name);
+}
+
 fn put_columns(page: &mut Page<'_>, columns: &[Column]) {
     for column in columns {
-        page.put(" ");
-        put_identifier(page, &column.name);
+        put_on(page, " ", &column.name);
         page.put_rank(column.ty.rank());
     }
 }
@@ -45,10 +50,8 @@ fn put_ingestion(page: &mut Page<'_>, ingestion: &Ingestion) {
 
 // The view and its table, what is given, and the query as its text in braces and as its tree.
 fn put_view(page: &mut Page<'_>, view: &NewView) {
-    page.put("view ");
-    put_identifier(page, &view.name);
-    page.put(" on ");
-    put_identifier(page, &view.table);
+    put_on(page, "view ", &view.name);
+    put_on(page, " on ", &view.table);
     if view.unless_there {
         page.put(" unless there");
     }
@@ -66,8 +69,7 @@ fn put_view(page: &mut Page<'_>, view: &NewView) {
 
 // The table, and the policy in brackets, so that blanks at its ends show.
 fn put_policy(page: &mut Page<'_>, target: &Identifier, policy: &str) {
-    page.put("policy ");
-    put_identifier(page, target);
+    put_on(page, "policy ", target);
     page.put(" <");
     page.put(policy);
     page.put(">");
@@ -81,15 +83,9 @@ pub fn put_command(page: &mut Page<'_>, command: &Command) {
             page.put("query ");
             put_query(page, &query.tree);
         }
-        Command::Show(Show::View(view)) => {
-            page.put("shown ");
-            put_identifier(page, view);
-        }
+        Command::Show(Show::View(view)) => put_on(page, "shown ", view),
         Command::Show(Show::Failures) => page.put("failures"),
-        Command::Show(Show::Extents(table)) => {
-            page.put("extents ");
-            put_identifier(page, table);
-        }
+        Command::Show(Show::Extents(table)) => put_on(page, "extents ", table),
         Command::Show(Show::Journal) => page.put("journal"),
         Command::Change(Change::Ingest(ingestion)) => put_ingestion(page, ingestion),
         Command::Change(Change::CreateView(view)) => put_view(page, view),
@@ -103,18 +99,11 @@ pub fn put_command(page: &mut Page<'_>, command: &Command) {
             put_columns(page, columns.as_slice());
         }
         Command::Change(Change::AlterMerge { name, columns }) => {
-            page.put("wider ");
-            put_identifier(page, name);
+            put_on(page, "wider ", name);
             put_columns(page, columns.as_slice());
         }
-        Command::Merge(table) => {
-            page.put("merge ");
-            put_identifier(page, table);
-        }
-        Command::Fold(view) => {
-            page.put("fold ");
-            put_identifier(page, view);
-        }
+        Command::Merge(table) => put_on(page, "merge ", table),
+        Command::Fold(view) => put_on(page, "fold ", view),
     }
 }
 
@@ -271,21 +260,20 @@ fn as_many_as_120_brackets_are_read(rt: HostRuntime) -> Result<(), Fail> {
     Ok(())
 }
 
-// The number of columns, twice, and of fields, the first field, and the place of the first repeated name.
-fn columns_printed(alloc: Global, columns: Columns) -> Result<String, AllocError> {
+// The number of columns and of fields, the first field, and the place of the first repeated name.
+fn columns_printed(alloc: Global, columns: &Columns) -> Result<String, AllocError> {
     let schema = columns.schema()?;
     let repeated = columns.repeated()?;
     let first = &schema.as_slice()[0];
     let (name, ty) = (first.name.as_str(), first.ty.rank());
     let length = columns.len();
-    let all = columns.into_vec().len();
-    format!(in alloc; "{length} {all} {} {name}:{ty} {repeated:?}", schema.len())
+    format!(in alloc; "{length} {} {name}:{ty} {repeated:?}", schema.len())
 }
 
 fn facts(alloc: Global, text: &str) -> Result<String, AllocError> {
     match read_command(alloc, text.as_bytes()) {
         Ok(Command::Change(Change::CreateTable { name: _, columns })) => {
-            columns_printed(alloc, columns)
+            columns_printed(alloc, &columns)
         }
         _ => String::from_str(alloc, "no table"),
     }
@@ -294,16 +282,13 @@ fn facts(alloc: Global, text: &str) -> Result<String, AllocError> {
 #[test]
 fn columns_tell_their_schema_and_the_first_repeated_name(rt: HostRuntime) -> Result<(), Fail> {
     for (text, want) in [
-        (".create table E (a:long)", "1 1 1 a:0 None"),
-        (".create table E (a:long, b:int, A:int)", "3 3 3 a:0 None"),
+        (".create table E (a:long)", "1 1 a:0 None"),
+        (".create table E (a:long, b:int, A:int)", "3 3 a:0 None"),
         (
             ".create table E (a:long, b:int, b:long, a:long)",
-            "4 4 4 a:0 Some(2)",
+            "4 4 a:0 Some(2)",
         ),
-        (
-            ".create table E (a:long, b:int, a:long)",
-            "3 3 3 a:0 Some(2)",
-        ),
+        (".create table E (a:long, b:int, a:long)", "3 3 a:0 Some(2)"),
     ] {
         let got = facts(rt.alloc(), text)?;
         assert_eq!(rt; got.as_str(), want, "at {text:?}");

@@ -24,6 +24,12 @@ fn put_name(page: &mut Page<'_>, name: Name) {
     }
 }
 
+// What is done, and to what.
+fn put_on(page: &mut Page<'_>, word: &str, name: Name) {
+    page.put(word);
+    put_name(page, name);
+}
+
 fn put_column(page: &mut Page<'_>, column: Column) {
     put_name(page, column.name);
     page.put(" :");
@@ -78,24 +84,20 @@ fn put_export(page: &mut Page<'_>, export: &ExportDefinition) {
 pub fn put_control(page: &mut Page<'_>, control: &Control) {
     match control {
         Control::CreateTable(table, list) => {
-            page.put("CreateTable");
-            put_name(page, *table);
+            put_on(page, "CreateTable", *table);
             put_columns(page, list);
         }
         Control::AlterMerge(table, list) => {
-            page.put("AlterMerge");
-            put_name(page, *table);
+            put_on(page, "AlterMerge", *table);
             put_columns(page, list);
         }
         Control::Ingest(table, list, mark) => {
-            page.put("Ingest");
-            put_name(page, *table);
+            put_on(page, "Ingest", *table);
             put_properties(page, list);
             page.put_placed(*mark);
         }
         Control::SetPolicy(table, policy) => {
-            page.put("SetPolicy");
-            put_name(page, *table);
+            put_on(page, "SetPolicy", *table);
             page.put_placed(*policy);
         }
         _ => put_definition(page, control),
@@ -121,24 +123,12 @@ fn put_definition(page: &mut Page<'_>, control: &Control) {
 
 fn put_named(page: &mut Page<'_>, control: &Control) {
     match control {
-        Control::ShowView(view) => {
-            page.put("ShowView");
-            put_name(page, *view);
-        }
+        Control::ShowView(view) => put_on(page, "ShowView", *view),
         Control::ShowFailures => page.put("ShowFailures"),
-        Control::ShowExtents(table) => {
-            page.put("ShowExtents");
-            put_name(page, *table);
-        }
+        Control::ShowExtents(table) => put_on(page, "ShowExtents", *table),
         Control::ShowJournal => page.put("ShowJournal"),
-        Control::Fold(view) => {
-            page.put("Fold");
-            put_name(page, *view);
-        }
-        Control::Merge(table) => {
-            page.put("Merge");
-            put_name(page, *table);
-        }
+        Control::Fold(view) => put_on(page, "Fold", *view),
+        Control::Merge(table) => put_on(page, "Merge", *table),
         _ => page.tear(),
     }
 }

@@ -5,6 +5,11 @@ use kq_syntax::Symbol;
 use kq_token::Token;
 use std::alloc::{AllocError, Global};
 
+/// What stands in lists.
+pub trait Shown {
+    fn put(&self, page: &mut Page<'_>);
+}
+
 /// Print that grows piece by piece, of what was read from a text.
 #[derive(Drop)]
 pub struct Page<'a> {
@@ -88,5 +93,27 @@ impl<'a> Page<'a> {
                 self.put("]");
             }
         }
+    }
+
+    /// A list that isn't empty, with commas and no spaces.
+    pub fn put_all<T: Shown>(&mut self, first: &T, others: &[T]) {
+        first.put(self);
+        for other in others {
+            self.put(",");
+            other.put(self);
+        }
+    }
+
+    /// The same of any list.
+    pub fn put_list<T: Shown>(&mut self, list: &[T]) {
+        if let [first, others @ ..] = list {
+            self.put_all(first, others);
+        }
+    }
+}
+
+impl Shown for Name {
+    fn put(&self, page: &mut Page<'_>) {
+        page.put_name(*self);
     }
 }

@@ -1,11 +1,8 @@
 // Sources, operators and queries: each by its variant and what it is made of.
 
-use crate::clauses::{
-    put_aggregates, put_cells, put_columns, put_grouping, put_items, put_join_keys, put_key,
-    put_keys, put_names, put_renamings,
-};
+use crate::clauses::put_grouping;
 use crate::expressions::put_expression;
-use crate::page::Page;
+use crate::page::{Page, Shown};
 use kq_grammar::{
     Arm, Expression, Join, Let, LetRight, Name, Operator, OperatorBody, Query, Source, SourceBody,
     Tabular, Union,
@@ -101,7 +98,7 @@ fn put_body(page: &mut Page<'_>, body: &SourceBody) {
         }
         SourceBody::Print(first, others) => {
             page.put("Print ");
-            put_items(page, first, others.as_slice());
+            page.put_all(first, others.as_slice());
         }
         SourceBody::Range {
             name,
@@ -115,9 +112,9 @@ fn put_body(page: &mut Page<'_>, body: &SourceBody) {
             cells,
         } => {
             page.put("Datatable ");
-            put_columns(page, *first, others.as_slice());
+            page.put_all(first, others.as_slice());
             page.put(" [");
-            put_cells(page, cells.as_slice());
+            page.put_list(cells.as_slice());
             page.put("]");
         }
         SourceBody::Union(_) => page.tear(),
@@ -169,30 +166,30 @@ fn put_join(page: &mut Page<'_>, join: &Join, depth: usize) {
     }
     put_nested(page, &join.right, depth);
     page.put(" ");
-    put_join_keys(page, join.first, join.others.as_slice());
+    page.put_all(&join.first, join.others.as_slice());
 }
 
 fn put_on_columns(page: &mut Page<'_>, body: &OperatorBody) {
     match body {
         OperatorBody::Extend(first, others) => {
             page.put("Extend ");
-            put_items(page, first, others.as_slice());
+            page.put_all(first, others.as_slice());
         }
         OperatorBody::Project(first, others) => {
             page.put("Project ");
-            put_items(page, first, others.as_slice());
+            page.put_all(first, others.as_slice());
         }
         OperatorBody::ProjectAway(first, others) => {
             page.put("ProjectAway ");
-            put_names(page, *first, others.as_slice());
+            page.put_all(first, others.as_slice());
         }
         OperatorBody::ProjectRename(first, others) => {
             page.put("ProjectRename ");
-            put_renamings(page, *first, others.as_slice());
+            page.put_all(first, others.as_slice());
         }
         OperatorBody::MvExpand(item, ty) => {
             page.put("MvExpand ");
-            put_items(page, item, &[]);
+            item.put(page);
             page.put_option(*ty);
         }
         _ => put_on_rows(page, body),
@@ -212,13 +209,13 @@ fn put_on_rows(page: &mut Page<'_>, body: &OperatorBody) {
         OperatorBody::Count => page.put("Count"),
         OperatorBody::Sort(first, others) => {
             page.put("Sort ");
-            put_keys(page, first, others.as_slice());
+            page.put_all(first, others.as_slice());
         }
         OperatorBody::Top(number, key) => {
             page.put("Top ");
             page.put_symbol(*number);
             page.put(" ");
-            put_key(page, key);
+            key.put(page);
         }
         _ => put_on_groups(page, body),
     }
@@ -228,7 +225,7 @@ fn put_on_groups(page: &mut Page<'_>, body: &OperatorBody) {
     match body {
         OperatorBody::Distinct(first, others) => {
             page.put("Distinct ");
-            put_names(page, *first, others.as_slice());
+            page.put_all(first, others.as_slice());
         }
         OperatorBody::DistinctAll(star) => {
             page.put("DistinctAll ");
@@ -236,7 +233,7 @@ fn put_on_groups(page: &mut Page<'_>, body: &OperatorBody) {
         }
         OperatorBody::Summarize(first, others, grouping) => {
             page.put("Summarize ");
-            put_aggregates(page, first, others.as_slice());
+            page.put_all(first, others.as_slice());
             if let Some(grouping) = grouping {
                 page.put(" by ");
                 put_grouping(page, grouping);

@@ -1,8 +1,7 @@
 // A small tree of each builder. What a literal is at a place is printed as its digit, a name as its letter.
 
-use crate::clauses::put_items;
 use crate::expressions::put_expression;
-use crate::page::Page;
+use crate::page::{Page, Shown};
 use kq_grammar::{
     Expression, Item, Level, Link, Name, Step, between, call, chain, compare, group, index,
     interval, is_bare, item, link, member, path, signed, within,
@@ -155,7 +154,7 @@ fn item_printed(alloc: Global, is_name: bool, is_given: bool) -> Result<String, 
     let given = if is_given { Some(literal(1)) } else { None };
     let item = item(value(is_name), given);
     let mut page = Page::new(alloc, TEXT);
-    put_items(&mut page, &item, &[]);
+    item.put(&mut page);
     page.printed()
 }
 
