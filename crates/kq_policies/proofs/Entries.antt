@@ -88,7 +88,7 @@ module _ (limits : Limits) (h : History) (lawful : AreLawful limits h) (t place 
 
 -- ---- what they give
 
-pub due_answers : (l : Log) (d : Due) (e : Entry) (rows : List Row) (r : Result (List Row) QueryFault) → slice_get (policy_at (policies l) d.target) d.place ≡ Some e → Answers (EntryGives l e rows) r → Answers (DueGives l d rows) r
+pub due_answers : (l : Log) (d : Due) (e : Entry) (rows : List Row) (r : Result (List Row) QueryFault) → slice_get (policy_at (policies l) d.target) d.place ≡ Some e → AnswersEntry (EntryGives l e rows) r → AnswersEntry (DueGives l d rows) r
 due_answers l d e rows (Ok given) at gives = record { entry = e; stands = at; gives = gives }
 due_answers l d e rows (Err (Fails cause)) at gives = record { entry = e; stands = at; gives = gives }
 due_answers l d e rows (Err Memory) at gives = tt
