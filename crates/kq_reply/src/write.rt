@@ -2,6 +2,8 @@
 ghost use Rattle.std.specs.Prelude.{◌++◌, codes};
 ghost use Rattle.kq_world.specs.Outside.{PutsAll, HasCause};
 ghost use Rattle.kq_written.specs.Cells.{escaped_byte, escaped};
+ghost use Rattle.kq_reply.specs.declared.refusal.Refusal.TheVariants.{PolicyFailed};
+ghost use Rattle.kq_reply.specs.declared.reply.Reply.TheVariants.{Exported};
 ghost use Rattle.kq_reply.specs.Text.{counted, why_text, cause_text, refusal_text, words_of, lines_of, text_of};
 
 use crate::escape::escape_sign;
@@ -73,7 +75,7 @@ fn put_ingested<K: Sink>(sink: &mut K, cursor: u64, rows: u64) -> Result<(), Fai
 }
 
 fn put_exported<K: Sink>(sink: &mut K, from: u64, to: u64, rows: u64) -> Result<(), Failed>
-    ensures puts { PutsAll (K.accepted sink.old) (K.accepted sink.new) result (counted (codes "exported ") from ++ counted (codes " ") to ++ counted (codes " rows ") rows) }
+    ensures puts { PutsAll (K.accepted sink.old) (K.accepted sink.new) result (words_of (Exported from to rows)) }
     ensures cause { HasCause (K.faults sink.old) (K.faults sink.new) result }
 {
     put_counted(sink, b"exported ", from)?;
@@ -141,7 +143,7 @@ fn put_why<K: Sink>(sink: &mut K, why: Why) -> Result<(), Failed>
 }
 
 fn put_failed<K: Sink>(sink: &mut K, target: &Text, cause: Cause) -> Result<(), Failed>
-    ensures puts { PutsAll (K.accepted sink.old) (K.accepted sink.new) result (codes "PolicyFailed target " ++ escaped target.now ++ codes " cause " ++ cause_text cause) }
+    ensures puts { PutsAll (K.accepted sink.old) (K.accepted sink.new) result (refusal_text (PolicyFailed target.now cause)) }
     ensures cause { HasCause (K.faults sink.old) (K.faults sink.new) result }
 {
     put_named(sink, b"PolicyFailed target ", target)?;
