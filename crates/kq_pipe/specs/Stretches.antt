@@ -1,16 +1,16 @@
 -- Stretches: steps in a row that take rows of one another, of which no others take any, and what comes of them as a whole.
-use Rattle.std.specs.Prelude.{◌≡◌, ◌≢◌, ◌<◌, ◌≤◌, ◌+◌, ℕ, zero, suc, Bool, true, false, List, [], ◌∷◌, ◌++◌, Contains, Option, Some, None, get_or, length, map, slice_get}
-use Rattle.kq_grouping.specs.Steps.{flows_from, is_rowwise, last_of, stage_at}
+use Rattle.std.specs.Prelude.{◌≡◌, ◌≢◌, ◌<◌, ◌≤◌, ◌+◌, ◌-◌, ℕ, ℤ, zero, suc, Bool, true, false, List, [], ◌∷◌, ◌++◌, Contains, Option, Some, None, get_or, length, map, slice_get}
+use Rattle.kq_grouping.specs.Steps.{flows_from, is_rowwise, last_of, operators_of, stage_at}
 use Rattle.kq_plan.specs.Fits.{FitAfter}
 use Rattle.kq_plan.specs.Names.{Known}
 use Rattle.kq_plan.specs.declared.plan.Step.{Step}
 use Rattle.kq_plan.specs.Plans.{Doing, Filling, Planned, Stepping, stepping_of, written, kept, mapped, cut, counted, sorted, topped, apart, summarized, joined, united, expanded}
 use Rattle.kq_scalar.specs.Val.{Surroundings}
-use Rattle.kq_stretch.specs.Ran.{Ran, came, failed}
+use Rattle.kq_stretch.specs.Ran.{Ran, came, failed, ran}
 use Rattle.kq_value.specs.declared.schema.Field.{Field}
 use Rattle.kq_pipe.specs.declared.outcome.Outcome.{Outcome}
 use Rattle.kq_pipe.specs.declared.outcome.Outcome.TheVariants as outcome
-use Rattle.kq_pipe.specs.Gives.{World}
+use Rattle.kq_pipe.specs.Gives.{Follows, World}
 use Rattle.kq_pipe.specs.Grouping.{GroupsTo}
 use Rattle.kq_pipe.specs.Operators.{tally}
 use Rattle.kq_pipe.specs.Outcomes.{Row}
@@ -107,3 +107,11 @@ ClosesWith s around ordered = Closes s.doing s.stage s.columns around ordered
 -- what a stretch comes to, where its row-wise steps ran so
 abbrev pub ComesTo : List Stepping → Surroundings → Bool → Ran → Outcome → Type 0
 ComesTo ss around ordered = EndsIn (ClosesWith (last_of ss) around (order_after ss ordered)) (stage_at ss)
+
+-- what a stretch makes of rows, in an order or in none, or the overflow of one of its steps
+abbrev pub MakesOf : List Stepping → Surroundings → Bool → List Row → Outcome → Type 0
+MakesOf ss around ordered rows = ComesTo ss around ordered (ran (operators_of ss) around rows)
+
+-- what steps come to at their end, behind others that gave these outcomes: what the last of them gives, or the first fault
+abbrev pub FollowsToEnd : World → ℤ → List Step → List Outcome → List Step → Outcome → Type 0
+FollowsToEnd w now before done steps = Follows w now (map stepping_of before) done (map stepping_of steps) (length done + (length steps - 1))
