@@ -5,8 +5,13 @@ use Rattle.kq_bind_steps.specs.declared.flow.Flow.{Flow}
 use Rattle.kq_bind_steps.specs.declared.flow.Progress.{Progress}
 use Rattle.kq_bind_steps.specs.declared.scope.Scope.{Scope}
 use Rattle.kq_bind_steps.specs.declared.scope.TabularLet.{TabularLet}
+use Rattle.kq_bind_expression.specs.Verdicts.{Verdict}
+use Rattle.kq_bind_steps.specs.Clauses.{range_rows}
 use Rattle.kq_bind_steps.specs.Flows.{Progressing, Flowing}
 use Rattle.kq_bind_steps.specs.Scopes.{Scoping, Tabling}
+use Rattle.kq_grammar.specs.declared.expression.Expression.{Expression}
+use Rattle.kq_grammar.specs.declared.expression.Name.{Name}
+use Rattle.kq_grammar.specs.Views.{tree_of}
 use Rattle.kq_plan.specs.Names.{Known}
 use Rattle.kq_plan.specs.Plans.{stepping_of}
 
@@ -21,3 +26,7 @@ tabling_of t = record { name = t.name; input = t.input }
 
 abbrev pub scoping_of : {N : Type 0} → (N → List ℕ → Option Known) → Scope N → Scoping
 scoping_of known s = record { text = s.text.now; lets = s.lets.now; tables = map tabling_of s.tables.now; known = known s.names.now }
+
+-- the flow of a range from one expression to another, by a step
+abbrev pub range_flow : Scoping → Progressing → Name → Expression → Expression → Expression → Verdict Flowing
+range_flow s p name first last step = range_rows s p name (tree_of first) (tree_of last) (tree_of step)

@@ -1,9 +1,8 @@
 // Sources that hold no pipe.
 ghost use Rattle.std.specs.Prelude.{◌≡◌, ◌∷◌};
-ghost use Rattle.kq_bind_steps.specs.Clauses.{range_rows as the_range_rows, table_rows as the_table_rows};
-ghost use Rattle.kq_bind_steps.specs.Seen.{flow_of, progress_of, scoping_of};
+ghost use Rattle.kq_bind_steps.specs.Clauses.{table_rows as the_table_rows};
+ghost use Rattle.kq_bind_steps.specs.Seen.{flow_of, progress_of, range_flow, scoping_of};
 ghost use Rattle.kq_bind_expression.specs.Verdicts.{AnswersVerdict};
-ghost use Rattle.kq_grammar.specs.Views.{tree_of};
 
 use crate::flow::{Flow, Progress, following};
 use crate::scope::{Scope, expression_scope};
@@ -23,7 +22,7 @@ pub fn range_rows<N: Names>(
     last: &Expression,
     step: &Expression,
 ) -> Result<Flow, BindFault>
-    ensures { AnswersVerdict flow_of (the_range_rows (scoping_of N.known scope.now) (progress_of progress) name (tree_of first.now) (tree_of last.now) (tree_of step.now)) result }
+    ensures { AnswersVerdict flow_of (range_flow (scoping_of N.known scope.now) (progress_of progress) name first.now last.now step.now) result }
 {
     let seen = expression_scope(scope);
     let range = ranged(alloc, &seen, first, last, step)?;

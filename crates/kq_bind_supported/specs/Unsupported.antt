@@ -17,6 +17,10 @@ abbrev pub unsupported_word : List ℕ → Option Symbol → Option ℕ
 unsupported_word text None = None
 unsupported_word text (Some t) = typeless text t
 
+-- of a range: in what it begins with, what it ends with and what it steps by
+abbrev pub unsupported_range : List ℕ → Tree → Tree → Tree → Option ℕ
+unsupported_range text first last step = or_later (unsupported_in text first) (or_later (unsupported_in text last) (unsupported_in text step))
+
 abbrev mutual
   pub unsupported_tabular : List ℕ → TabularTree → Option ℕ
   unsupported_tabular text (pipeline o bs) = or_later (unsupported_source text o) (unsupported_operators text bs)
@@ -29,7 +33,7 @@ abbrev mutual
   pub unsupported_from : List ℕ → FromTree → Option ℕ
   unsupported_from text (view v) = None
   unsupported_from text (print i is) = unsupported_items text (i ∷ is)
-  unsupported_from text (range n a b c) = or_later (unsupported_in text a) (or_later (unsupported_in text b) (unsupported_in text c))
+  unsupported_from text (range n a b c) = unsupported_range text a b c
   unsupported_from text (datatable c cs ls) = or_later (unsupported_columns text (c ∷ cs)) (unsupported_cells text ls)
   unsupported_from text (union u) = unsupported_union text u
 

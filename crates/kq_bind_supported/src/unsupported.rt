@@ -5,7 +5,7 @@ ghost use Rattle.kq_bind_supported.specs.Unsupported as the;
 ghost use Rattle.kq_bind_aggregates.specs.Unsupported.{unsupported_aggregates as aggregates_in};
 ghost use Rattle.kq_bind_clauses.specs.Tables.{unsupported_columns, unsupported_cells};
 ghost use Rattle.kq_bind_columns.specs.Items.{unsupported_items};
-ghost use Rattle.kq_bind_expression.specs.Unsupported.{or_later, unsupported_in};
+ghost use Rattle.kq_bind_expression.specs.Unsupported.{or_later};
 ghost use Rattle.kq_grammar.specs.TabularViews.{tabular_of, source_of, from_of, union_of, arm_of, arms_of, operator_of, operators_of, body_of, join_of, right_of, let_of, query_of};
 ghost use Rattle.kq_grammar.specs.Views.{tree_of, item_view, aggregate_view, grouping_view};
 
@@ -22,19 +22,14 @@ use kq_grammar::{
 };
 use kq_syntax::Symbol;
 
-fn in_expressions(
-    text: &str,
-    first: &Expression,
-    second: &Expression,
-    third: &Expression,
-) -> Option<usize>
-    ensures { result ≡ or_later (unsupported_in text.now (tree_of first.now)) (or_later (unsupported_in text.now (tree_of second.now)) (unsupported_in text.now (tree_of third.now))) }
+fn in_range(text: &str, first: &Expression, last: &Expression, step: &Expression) -> Option<usize>
+    ensures { result ≡ the.unsupported_range text.now (tree_of first.now) (tree_of last.now) (tree_of step.now) }
 {
     match unsupported(text, first) {
         Some(place) => Some(place),
-        None => match unsupported(text, second) {
+        None => match unsupported(text, last) {
             Some(place) => Some(place),
-            None => unsupported(text, third),
+            None => unsupported(text, step),
         },
     }
 }
@@ -117,7 +112,7 @@ fn in_source_body(text: &str, body: &SourceBody) -> Option<usize>
             from,
             to,
             step,
-        } => in_expressions(text, from, to, step),
+        } => in_range(text, from, to, step),
         SourceBody::Datatable {
             first,
             others,

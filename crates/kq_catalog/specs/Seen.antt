@@ -24,6 +24,10 @@ pub record CatalogView : Type 0 where
   pub views : List HeldView
   pub failures : List Noted
 
+-- a catalogue that holds these
+abbrev pub catalog_of : Limits → List Event → List HeldTable → List (List Entry) → List HeldView → List Noted → CatalogView
+catalog_of limits history held policies views failures = record { limits = limits; history = history; held = held; policies = policies; views = views; failures = failures }
+
 -- a snapshot is seen as the catalogue was
 abbrev pub SnapshotView : Type 0
 SnapshotView = CatalogView

@@ -57,15 +57,15 @@ impl Model for State {
     ghost use Rattle.std.specs.Coded.{codes};
     ghost use Rattle.kq_value.specs.contracts.value.Value as cell;
     ghost use Rattle.kq_expr.specs.contracts.expr.Expr as expr;
-    ghost use Rattle.kq_catalog.specs.Seen.{CatalogView, HoldsHistory};
+    ghost use Rattle.kq_catalog.specs.Seen.{CatalogView, HoldsHistory, catalog_of};
 
     ghost Value = { CatalogView };
 
     ghost coded = { Prim.hlevel (codes, cell.the_row.coded, expr.the_row.coded) };
 
-    ghost view = { λ s. record { limits = s.limits; history = s.journal; held = s.tables; policies = s.policies; views = s.views; failures = s.failures } };
+    ghost view = { λ s. catalog_of s.limits s.journal s.tables s.policies s.views s.failures };
 
-    ghost invariant = { λ s. HoldsHistory (record { limits = s.limits; history = s.journal; held = s.tables; policies = s.policies; views = s.views; failures = s.failures }) s.cursor s.made s.tags };
+    ghost invariant = { λ s. HoldsHistory (catalog_of s.limits s.journal s.tables s.policies s.views s.failures) s.cursor s.made s.tags };
 }
 
 impl State {

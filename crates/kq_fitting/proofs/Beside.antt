@@ -1,5 +1,5 @@
 -- The columns of a join are the left ones, and behind them the right ones under free names.
-use Rattle.std.proofs.Common.{◌≡◌, ℕ, zero, suc, ◌+◌, ◌^◌, ◌≤◌, List, [], ◌∷◌, ◌++◌, length, length-append, take, Some, refl, sym, ap, ◌∙◌, subst, arith, append_assoc, append-nil}
+use Rattle.std.proofs.Common.{◌≡◌, ℕ, zero, suc, ◌+◌, List, [], ◌∷◌, ◌++◌, length, length-append, take, Some, refl, sym, ap, ◌∙◌, subst, arith, append_assoc, append-nil}
 use Rattle.std.specs.Prelude.{slice_get}
 use Rattle.kq_bind_clauses.specs.Joins.{beside, join_columns}
 use Rattle.kq_bind_columns.specs.Items.{field}
@@ -7,8 +7,8 @@ use Rattle.kq_bind_columns.specs.Naming.{free_name}
 use Rattle.kq_plan.specs.declared.work.JoinKind.{JoinKind}
 use Rattle.kq_plan.specs.declared.work.JoinKind.TheVariants as join
 use Rattle.kq_value.specs.declared.schema.Field.{Field}
-use Rattle.kq_fitting.specs.Paired.{IsPaired, StandsBehind}
-use Rattle.kq_fitting.specs.Suffixes.{IsMadeFree}
+use Rattle.kq_fitting.specs.Paired.{AllStandBehind, IsPaired, StandsBehind}
+use Rattle.kq_fitting.specs.Suffixes.{HaveRoom, IsMadeFree}
 use Rattle.kq_fitting.proofs.Suffixed.{made_free}
 
 -- what stands behind the left columns
@@ -27,7 +27,7 @@ record IsBehind (before : List Field) (right column : Field) : Type 0 where
   of_type : column.ty ≡ right.ty
   named : IsMadeFree before [] right.name column.name
 
-behind_at : (taken cs : List Field) (k : ℕ) (c : Field) → length taken + length cs + 2 ≤ 2 ^ 64 → slice_get cs k ≡ Some c
+behind_at : (taken cs : List Field) (k : ℕ) (c : Field) → HaveRoom taken cs → slice_get cs k ≡ Some c
     → (d : Field) × (slice_get (behind taken cs) k ≡ Some d) × IsBehind (taken ++ take k (behind taken cs)) c d
 behind_at taken [] k c small e = absurd (cc)
 behind_at taken (x ∷ cs) zero c small e =
@@ -59,7 +59,7 @@ take_all (x ∷ front) back = ap (λ (cs : List Field). x ∷ cs) (take_all fron
 left_of : (ls rs : List Field) → take (length ls) (beside ls rs) ≡ ls
 left_of ls rs = ap (take (length ls)) (beside_parts ls rs) ∙ take_all ls (behind ls rs)
 
-right_of : (ls rs : List Field) (k : ℕ) (c : Field) → length ls + length rs + 2 ≤ 2 ^ 64 → slice_get rs k ≡ Some c
+right_of : (ls rs : List Field) (k : ℕ) (c : Field) → HaveRoom ls rs → slice_get rs k ≡ Some c
     → StandsBehind (beside ls rs) (length ls + k) c
 right_of ls rs k c small e =
     let r = behind_at ls rs k c small e in
@@ -89,7 +89,6 @@ paired join.FullOuter ls rs h = refl
 pub left_first : (k : JoinKind) (ls rs : List Field) → IsPaired k → take (length ls) (join_columns k ls rs) ≡ ls
 left_first k ls rs h = ap (take (length ls)) (paired k ls rs h) ∙ left_of ls rs
 
--- a right column stands in its place behind them
-pub right_behind : (k : JoinKind) (ls rs : List Field) (i : ℕ) (c : Field) → IsPaired k → length ls + length rs + 2 ≤ 2 ^ 64 → slice_get rs i ≡ Some c
-    → StandsBehind (join_columns k ls rs) (length ls + i) c
-right_behind k ls rs i c h small e = subst (λ cs. StandsBehind cs (length ls + i) c) (sym (paired k ls rs h)) (right_of ls rs i c small e)
+-- each right column stands in its place behind them
+pub right_behind : (k : JoinKind) (ls rs : List Field) → IsPaired k → HaveRoom ls rs → AllStandBehind (join_columns k ls rs) (length ls) rs
+right_behind k ls rs h small = λ i c e. subst (λ cs. StandsBehind cs (length ls + i) c) (sym (paired k ls rs h)) (right_of ls rs i c small e)

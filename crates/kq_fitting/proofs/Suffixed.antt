@@ -1,11 +1,11 @@
 -- A default name becomes the least free one.
-use Rattle.std.proofs.Common.{◌≡◌, ℕ, zero, suc, ◌+◌, ◌^◌, ◌<◌, ◌≤◌, Bool, true, false, ◌||◌, cond, List, [], ◌++◌, length, length-append, refl, sym, ap, ◌∙◌, subst, arith}
+use Rattle.std.proofs.Common.{◌≡◌, ℕ, zero, suc, ◌+◌, ◌<◌, ◌≤◌, Bool, true, false, ◌||◌, cond, List, [], ◌++◌, length, length-append, refl, sym, ap, ◌∙◌, subst, arith}
 use Rattle.std.specs.Prelude.{decimal, nat_eq}
 use Rattle.std.proofs.lemmas.Bool.{eqb-true, eqb-false}
 use Rattle.kq_bind_columns.specs.Naming.{is_taken, numbered, first_free, free_name}
 use Rattle.kq_bind_columns.proofs.Free.{free_name-free}
 use Rattle.kq_value.specs.declared.schema.Field.{Field}
-use Rattle.kq_fitting.specs.Suffixes.{IsNamed, IsMadeFree}
+use Rattle.kq_fitting.specs.Suffixes.{HaveRoom, IsNamed, IsMadeFree}
 use Rattle.kq_fitting.proofs.Apart.{not_both, or_first, taken_append, taken_there, there_taken}
 
 pub taken_named : (cs : List Field) (name : List ℕ) → is_taken cs name ≡ true → IsNamed cs name
@@ -65,7 +65,7 @@ all_given (suc n) k given avoided base =
     by true false e more = absurd (cc)
     by false true e more = absurd (cc)
 
-is_free : (given avoided : List Field) (base : List ℕ) → length given + length avoided + 2 ≤ 2 ^ 64 → is_taken given base ≡ true
+is_free : (given avoided : List Field) (base : List ℕ) → HaveRoom given avoided → is_taken given base ≡ true
     → is_taken (given ++ avoided) (first_free (length given + length avoided) 1 given avoided base) ≡ false
 is_free given avoided base small is =
     let every = given ++ avoided in
@@ -78,7 +78,7 @@ is_free given avoided base small is =
     (subst (λ n. is_taken every (first_free n 1 every [] base) ≡ false) long first)
 
 -- a default name stays as it is, or gets the least suffix that is free
-pub made_free : (given avoided : List Field) (base : List ℕ) → length given + length avoided + 2 ≤ 2 ^ 64 → IsMadeFree given avoided base (free_name given avoided base)
+pub made_free : (given avoided : List Field) (base : List ℕ) → HaveRoom given avoided → IsMadeFree given avoided base (free_name given avoided base)
 made_free given avoided base small = by (is_taken given base) refl where
   first : List ℕ
   first = first_free (length given + length avoided) 1 given avoided base

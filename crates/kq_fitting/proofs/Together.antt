@@ -1,5 +1,5 @@
 -- The columns of joins and unions have different names where those of the rows that they take have.
-use Rattle.std.proofs.Common.{◌≡◌, ◌≢◌, ◌⊎◌, inl, inr, ℕ, zero, suc, ◌+◌, ◌^◌, ◌≤◌, Bool, true, false, ◌||◌, ◌&&◌, not, cond, List, [], ◌∷◌, ◌++◌, length, length-append, refl, sym, ap, ◌∙◌, subst, arith}
+use Rattle.std.proofs.Common.{◌≡◌, ◌≢◌, ◌⊎◌, inl, inr, ℕ, zero, suc, ◌≤◌, Bool, true, false, ◌||◌, ◌&&◌, not, cond, List, [], ◌∷◌, ◌++◌, length, length-append, refl, sym, ap, ◌∙◌, subst, arith}
 use Rattle.std.specs.Prelude.{codes, nat_eq}
 use Rattle.std.specs.List.{filter, insert}
 use Rattle.std.specs.Cmp.Lexicographic.{pointwise}
@@ -15,6 +15,7 @@ use Rattle.kq_value.specs.declared.ty.Ty.{Ty}
 use Rattle.kq_value.specs.Schema.{same_field}
 use Rattle.kq_value.specs.Ty.{same_ty}
 use Rattle.kq_value.proofs.Fields.{same_ty-Decides, same_field-Decides}
+use Rattle.kq_fitting.specs.Suffixes.{HaveRoom}
 use Rattle.kq_fitting.proofs.Apart.{same, not_both, is_false, are_same, are_apart, neither, none_of, or_else, or_first, taken_append, Apart, IfFew, free_behind}
 
 -- ---- joins
@@ -176,16 +177,13 @@ just_taken taken f =
     taken_append taken (f ∷ []) f.name
     ∙ or_else (is_taken taken f.name) (same f.name f.name || false) (or_first (same f.name f.name) false (are_same f.name f.name refl))
 
-abbrev Room : List Field → List Field → Type 0
-Room taken fs = length taken + length fs + 2 ≤ 2 ^ 64
-
-room_kept : (taken : List Field) (f : Field) (fs : List Field) → Room taken (f ∷ fs) → Room taken fs
+room_kept : (taken : List Field) (f : Field) (fs : List Field) → HaveRoom taken (f ∷ fs) → HaveRoom taken fs
 room_kept taken f fs room = omega (arith, room)
 
-room_typed : (taken : List Field) (g f : Field) (fs : List Field) → Room taken (f ∷ fs) → Room (taken ++ g ∷ []) fs
+room_typed : (taken : List Field) (g f : Field) (fs : List Field) → HaveRoom taken (f ∷ fs) → HaveRoom (taken ++ g ∷ []) fs
 room_typed taken g f fs room = omega (arith, room, length-append taken (g ∷ []))
 
-typed_free : (taken : List Field) (f : Field) (fs : List Field) → Room taken (f ∷ fs) → is_taken taken (typed_name taken f) ≡ false
+typed_free : (taken : List Field) (f : Field) (fs : List Field) → HaveRoom taken (f ∷ fs) → is_taken taken (typed_name taken f) ≡ false
 typed_free taken f fs room = free_name-free taken [] (f.name ++ codes "_" ++ type_word f.ty) (omega (arith, room))
 
 apart_names : (taken : List Field) (a b : List ℕ) → is_taken taken a ≡ true → is_taken taken b ≡ false → a ≢ b
@@ -195,7 +193,7 @@ abbrev typed : List Field → Field → Field
 typed taken f = field (typed_name taken f) f.ty
 
 -- a name that is taken comes only from a column that keeps it
-none_named : (every taken fs : List Field) (name : List ℕ) → Room taken fs → is_taken taken name ≡ true
+none_named : (every taken fs : List Field) (name : List ℕ) → HaveRoom taken fs → is_taken taken name ≡ true
     → ((g : Field) → Among fs g → is_mixed every g ≡ false → g.name ≢ name) → is_taken (names_made every taken fs) name ≡ false
 none_named every taken [] name room t h = refl
 none_named every taken (f ∷ fs) name room t h = by (is_mixed every f) refl
@@ -228,7 +226,7 @@ kept_apart every f fs g there at single is name =
         not_both (has_column fs f) (among_has fs f (subst (Among fs) one at)) single
     by false e = not_both (is_mixed every g) (mixed_there every g f there (sym name) (λ t. not_both (same_ty f.ty g.ty) ((same_ty-Decides f.ty g.ty).1 t) e)) is
 
-made_apart : (every taken fs : List Field) → Room taken fs → ((g : Field) → Among fs g → Among every g) → Single fs
+made_apart : (every taken fs : List Field) → HaveRoom taken fs → ((g : Field) → Among fs g → Among every g) → Single fs
     → ((g : Field) → Among fs g → is_mixed every g ≡ false → is_taken taken g.name ≡ true) → Apart (names_made every taken fs)
 made_apart every taken [] room all h kept = tt
 made_apart every taken (f ∷ fs) room all h kept = by (is_mixed every f) refl

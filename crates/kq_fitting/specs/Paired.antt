@@ -1,5 +1,5 @@
 -- The columns of a join that pairs rows.
-use Rattle.std.specs.Prelude.{◌≡◌, ℕ, List, [], Some, slice_get, take}
+use Rattle.std.specs.Prelude.{◌≡◌, ◌+◌, ℕ, List, [], Some, slice_get, take}
 use Rattle.kq_plan.specs.declared.work.JoinKind.{JoinKind}
 use Rattle.kq_plan.specs.declared.work.JoinKind.TheVariants as join
 use Rattle.kq_value.specs.declared.schema.Field.{Field}
@@ -19,3 +19,7 @@ pub record StandsBehind (columns : List Field) (place : ℕ) (right : Field) : T
   pub there : slice_get columns place ≡ Some column
   pub of_type : column.ty ≡ right.ty
   pub named : IsMadeFree (take place columns) [] right.name column.name
+
+-- each of the right columns stands in its place from this one on
+abbrev pub AllStandBehind : List Field → ℕ → List Field → Type 0
+AllStandBehind columns place rights = (i : ℕ) (right : Field) → slice_get rights i ≡ Some right → StandsBehind columns (place + i) right

@@ -1,6 +1,10 @@
 -- The name of a column that is given none.
-use Rattle.std.specs.Prelude.{◌≡◌, ℕ, ◌<◌, ◌≤◌, List, ◌++◌, Some, slice_get, decimal}
+use Rattle.std.specs.Prelude.{◌≡◌, ℕ, ◌+◌, ◌^◌, ◌<◌, ◌≤◌, List, ◌++◌, Some, length, slice_get, decimal}
 use Rattle.kq_value.specs.declared.schema.Field.{Field}
+
+-- these columns and the others are so few that each can be given a suffix of its own, in 64 bits
+abbrev pub HaveRoom : List Field → List Field → Type 0
+HaveRoom cs others = length cs + length others + 2 ≤ 2 ^ 64
 
 -- a column has this name
 pub record IsNamed (cs : List Field) (name : List ℕ) : Type 0 where

@@ -1,5 +1,5 @@
 // Laws of the names and the columns that queries are bound to, which hold of the definitions alone.
-ghost use Rattle.std.specs.Prelude.{◌≡◌, ◌↔◌, ℕ, ◌+◌, ◌^◌, ◌≤◌, Bool, true, false, List, ◌∷◌, length, take, Some, Ok, slice_get};
+ghost use Rattle.std.specs.Prelude.{◌≡◌, ◌↔◌, ℕ, Bool, true, false, List, ◌∷◌, length, take, Some, Ok, slice_get};
 ghost use Rattle.kq_bind_clauses.specs.Joins.{join_columns};
 ghost use Rattle.kq_bind_clauses.specs.Tables.{Tabled, tabled};
 ghost use Rattle.kq_bind_clauses.specs.Unions.{union_sources};
@@ -8,20 +8,20 @@ ghost use Rattle.kq_grammar.specs.declared.clause.Cell.{Cell};
 ghost use Rattle.kq_grammar.specs.declared.clause.Column.{Column};
 ghost use Rattle.kq_plan.specs.declared.work.JoinKind.{JoinKind};
 ghost use Rattle.kq_value.specs.declared.schema.Field.{Field};
-ghost use Rattle.kq_fitting.specs.Paired.{IsPaired, StandsBehind};
-ghost use Rattle.kq_fitting.specs.Suffixes.{IsMadeFree};
+ghost use Rattle.kq_fitting.specs.Paired.{AllStandBehind, IsPaired};
+ghost use Rattle.kq_fitting.specs.Suffixes.{HaveRoom, IsMadeFree};
 ghost use Rattle.kq_fitting.specs.United.{AllFillOne, Has, IsOfAll, IsOfSome, StandsInUnion};
 ghost use Rattle.kq_fitting.specs.Written.{HoldsCells};
 
 /// A column without a name of its own gets the least suffix that is free, where its default name isn't.
 pub fn default_names_are_free()
-    ensures { (given avoided : List Field) (base : List ℕ) → length given + length avoided + 2 ≤ 2 ^ 64 → IsMadeFree given avoided base (free_name given avoided base) }
+    ensures { (given avoided : List Field) (base : List ℕ) → HaveRoom given avoided → IsMadeFree given avoided base (free_name given avoided base) }
 {}
 
 /// A join that pairs rows has the left columns as they are, and behind them the right ones, whose names are made free.
 pub fn joins_have_their_columns()
     ensures left { (k : JoinKind) (ls rs : List Field) → IsPaired k → take (length ls) (join_columns k ls rs) ≡ ls }
-    ensures right { (k : JoinKind) (ls rs : List Field) (i : ℕ) (c : Field) → IsPaired k → length ls + length rs + 2 ≤ 2 ^ 64 → slice_get rs i ≡ Some c → StandsBehind (join_columns k ls rs) (length ls + i) c }
+    ensures right { (k : JoinKind) (ls rs : List Field) → IsPaired k → HaveRoom ls rs → AllStandBehind (join_columns k ls rs) (length ls) rs }
 {}
 
 /// An outer union has the columns of any arm, an inner one those of every arm; each of an arm's that it has fills one of its columns, of its type.

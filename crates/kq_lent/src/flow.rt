@@ -4,7 +4,8 @@ ghost use Rattle.kq_rows.specs.Chunks.{same_width};
 ghost use Rattle.kq_scalar.specs.Val.{surroundings};
 ghost use Rattle.kq_stretch.specs.Operators.{rowwise_of};
 ghost use Rattle.kq_stretch.specs.Pieces.{rows_in as piece_rows};
-ghost use Rattle.kq_stretch.specs.Ran.{failed, failure_of, joined, ran};
+ghost use Rattle.kq_stretch.specs.Ran.{failure_of, ran};
+ghost use Rattle.kq_lent.specs.Flowing.{IsLeastToFail};
 ghost use Rattle.kq_lent.specs.Held.{IsReadable, rows_in};
 ghost use Rattle.kq_lent.specs.Sources.{source_rows};
 ghost use Rattle.kq_lent.specs.Yielded.{Yields};
@@ -118,7 +119,7 @@ fn least_of_rest(
     now: i64,
 ) -> Result<usize, Memory>
     requires { first ≤ length operators.now }
-    ensures { IfOk result (λ n. joined (failed first) (ran (map rowwise_of operators.now) (surroundings now lets.now) unread.old.rows) ≡ failed n) }
+    ensures { IfOk result (IsLeastToFail first (map rowwise_of operators.now) (surroundings now lets.now) unread.old.rows) }
 {
     let mut least = first;
     while least > 0 {
@@ -141,7 +142,7 @@ fn least_of_part(
 ) -> Result<usize, Memory>
     requires first { first ≤ length operators.now }
     requires wide { same_width (piece_rows source_rows part) }
-    ensures least { IfOk result (λ n. joined (failed first) (ran (map rowwise_of operators.now) (surroundings now lets.now) (piece_rows source_rows part.entry)) ≡ failed n) }
+    ensures least { IfOk result (IsLeastToFail first (map rowwise_of operators.now) (surroundings now lets.now) (piece_rows source_rows part.entry)) }
     ensures less { IfOk result (λ n. n ≤ first) }
 {
     let passed = pass(alloc, &operators[..first], part, lets, now)?;

@@ -4,6 +4,7 @@ use Rattle.std.specs.List.{slice_get}
 use Rattle.std.proofs.lemmas.Bool.Decides.{eqb_tells}
 use Rattle.std.proofs.lemmas.List.Elements.{All-contains, All-weaker}
 use Rattle.kq_computed.specs.Computed.{Computed, Is, Overflow}
+use Rattle.kq_pipe.proofs.Worlds.{Gives-wider, ReadsIn, StepReads}
 use Rattle.kq_plan.specs.declared.work.LeafKind.TheVariants as kind
 use Rattle.kq_plan.specs.Plans.{Doing, Stepping, leaf, one_row, numbers, written, scalar, kept as filtering, mapped, cut, counted, sorted, topped, apart, summarized, joined, united, expanded, planned_of}
 use Rattle.kq_value.specs.declared.record.Record.{Record}
@@ -21,7 +22,6 @@ use Rattle.kq_model.specs.Force.{Rules, policy_at}
 use Rattle.kq_model.specs.History.{Log, NumberedTable, table_numbered, tables}
 use Rattle.kq_model.specs.Policies.{policies, rules}
 use Rattle.kq_model.specs.Records.{records, records_from, records_given, schema_of}
-use Rattle.kq_model.proofs.Reading.{Gives-same, ReadsIn, StepReads}
 use Rattle.kq_model.proofs.Unique.{records_from-append}
 use Rattle.kq_model.proofs.Wider.{IsDerived-wider}
 
@@ -98,7 +98,7 @@ EntryGives-later : (l more : Log) (e : Entry) (rows : List Row) (given : Result 
     → EntryGives l e rows given → EntryGives (l ++ more) e rows given
 EntryGives-later l more e rows given same kept came = record {
   outcome = came.outcome;
-  gives = Gives-same (planned_of e.plan) (beside l e.source rows) (beside (l ++ more) e.source rows) (pos 0) came.outcome
+  gives = Gives-wider (planned_of e.plan) (beside l e.source rows) (beside (l ++ more) e.source rows) (pos 0) came.outcome
       (All-weaker (λ (s : Stepping). IsKept l more e.source s.doing) (StepReads (beside l e.source rows) (beside (l ++ more) e.source rows)) (λ s is. step_kept l more e.source rows s.doing s.columns same is) (planned_of e.plan).steps kept) came.gives;
   told = came.told;
 }

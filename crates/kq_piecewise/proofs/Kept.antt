@@ -11,7 +11,7 @@ use Rattle.kq_expr.specs.Terms.{Term}
 use Rattle.kq_rows.specs.Chunks.{row_at}
 use Rattle.kq_scalar.specs.Val.{Surroundings, meaning, cell_of}
 use Rattle.kq_piecewise.specs.Operators.{filtered}
-use Rattle.kq_piecewise.specs.Pieces.{places_true}
+use Rattle.kq_piecewise.specs.Pieces.{places_true, places_where}
 use Rattle.kq_piecewise.proofs.Laws.{up_to, each_long, piece_counts}
 
 if_append : (b : Bool) (k : ℕ) (ps qs : List ℕ) → cond b (k ∷ ps ++ qs) (ps ++ qs) ≡ cond b (k ∷ ps) ps ++ qs
@@ -65,10 +65,6 @@ places_all whole made from i cells h is = sym (is ∙ ap (λ vs. made ++ places_
     none (x ∷ xs) (suc i) h = none xs i (omega arith)
 
 module _ {A : Type 0} (f : A → Computed Value) where
-  -- the places of the true values
-  abbrev pub places_of : List A → Computed (List ℕ)
-  places_of xs = and_then (each f xs) (λ vs. Is (places_true 0 vs))
-
   abbrev pub rest_of : List A → ℕ → List ℕ → Computed (List ℕ)
   rest_of xs from made = and_then (each f (drop from xs)) (λ vs. Is (made ++ places_true from vs))
 
@@ -99,7 +95,7 @@ module _ {A : Type 0} (f : A → Computed Value) where
       none (x ∷ xs) zero h = absurd (omega arith)
       none (x ∷ xs) (suc i) h = none xs i (omega arith)
 
-  pub places_in : (xs : List A) (ps : List ℕ) → places_of xs ≡ Is ps → All (λ p. p < length xs) ps
+  pub places_in : (xs : List A) (ps : List ℕ) → places_where f xs ≡ Is ps → All (λ p. p < length xs) ps
   places_in xs ps h = go (each f xs) refl h
     where
       go : (o : Computed (List Value)) → each f xs ≡ o → and_then o (λ vs. Is (places_true 0 vs)) ≡ Is ps → All (λ p. p < length xs) ps
@@ -132,14 +128,14 @@ module _ (e : Term) (s : Surroundings) (rows : List (List Value)) where
   kept : filtered e s rows ≡ and_then (each (meaning e s) rows) (λ vs. Is (map (row_at rows) (places_true 0 vs)))
   kept = kept_from e s (row_at rows) rows 0 (λ i n is. let back : n ≡ i = omega arith in ap (row_at rows) back)
 
-  pub kept_rows : (ps : List ℕ) → places_of (meaning e s) rows ≡ Is ps → filtered e s rows ≡ Is (map (row_at rows) ps)
+  pub kept_rows : (ps : List ℕ) → places_where (meaning e s) rows ≡ Is ps → filtered e s rows ≡ Is (map (row_at rows) ps)
   kept_rows ps h = kept ∙ go (each (meaning e s) rows) h
     where
       go : (o : Computed (List Value)) → and_then o (λ vs. Is (places_true 0 vs)) ≡ Is ps → and_then o (λ vs. Is (map (row_at rows) (places_true 0 vs))) ≡ Is (map (row_at rows) ps)
       go Overflow h = absurd cc
       go (Is vs) h = let same : places_true 0 vs ≡ ps = cc in ap (λ ps. Is (map (row_at rows) ps)) same
 
-  pub kept_fault : {V : Type 0} (see : V → List ℕ) (fault : EvalFault) → AnswersAs see (places_of (meaning e s) rows) (Err fault) → Answers (filtered e s rows) (Err fault)
+  pub kept_fault : {V : Type 0} (see : V → List ℕ) (fault : EvalFault) → AnswersAs see (places_where (meaning e s) rows) (Err fault) → Answers (filtered e s rows) (Err fault)
   kept_fault see faults.Memory h = tt
   kept_fault see faults.Overflow h = kept ∙ go (each (meaning e s) rows) h
     where

@@ -3,6 +3,7 @@ use Rattle.std.specs.Prelude.{◌≡◌, ◌+◌, ◌-◌, if◌then◌else◌, 
 use Rattle.std.specs.List.{All, concat}
 use Rattle.kq_value.specs.declared.value.Value.{Value}
 use Rattle.kq_arithmetic.specs.Logic.{is_yes}
+use Rattle.kq_computed.specs.Computed.{Computed, Is, and_then, each}
 use Rattle.kq_columnar.specs.declared.vector.Vector.{Vector}
 use Rattle.kq_columnar.specs.Vectors.{cells_of}
 use Rattle.kq_expr.specs.declared.expr.Expr.{Expr, fold-Expr}
@@ -45,3 +46,7 @@ Hold columns rows js = All (λ j. get_or (map cells_of columns) j [] ≡ column_
 abbrev pub places_true : ℕ → List Value → List ℕ
 places_true from [] = []
 places_true from (v ∷ vs) = if is_yes v then from ∷ places_true (from + 1) vs else places_true (from + 1) vs
+
+-- the places of the rows for which a condition is true
+abbrev pub places_where : {A : Type 0} → (A → Computed Value) → List A → Computed (List ℕ)
+places_where condition rows = and_then (each condition rows) (λ vs. Is (places_true 0 vs))

@@ -3,11 +3,12 @@ use Rattle.std.specs.Prelude.{◌≡◌, ◌+◌, ◌<◌, ℕ, false, List, [],
 use Rattle.std.specs.declared.alloc.Global.{Global}
 use Rattle.kq_value.specs.declared.value.Value.{Value}
 use Rattle.kq_columnar.specs.Vectors.{cells_of}
-use Rattle.kq_computed.specs.Computed.{AnswersAs, Computed, Is, Overflow}
+use Rattle.kq_computed.specs.Computed.{AnswersAs, Computed, Is, Overflow, each}
 use Rattle.kq_computed.specs.declared.fault.EvalFault.{EvalFault}
 use Rattle.kq_computed.specs.declared.fault.EvalFault.TheVariants as fault
 use Rattle.kq_expr.specs.Terms.{Term, column}
-use Rattle.kq_scalar.specs.Val.{cell_of}
+use Rattle.kq_scalar.specs.Val.{Surroundings, cell_of}
+use Rattle.kq_piecewise.specs.Operators.{values_at}
 use Rattle.kq_piecewise.specs.Pieces.{is_column}
 use Rattle.kq_piecewise.specs.declared.sources.Source.{Source}
 use Rattle.kq_piecewise.specs.declared.sources.Source.TheVariants.{Column, Made}
@@ -30,9 +31,9 @@ abbrev pub rows_from : List Source → ℕ → List (List Value) → List (List 
 rows_from xs i [] = []
 rows_from xs i (r ∷ rows) = row_from xs i r ∷ rows_from xs (i + 1) rows
 
--- the sources of what came of terms over rows
-abbrev pub MakeRows : List (List Value) → Computed (List (List Value)) → Result (Vec Source Global) EvalFault → Type 0
-MakeRows rows came = AnswersAs (λ xs. rows_from xs.items 0 rows) came
+-- of each of the rows, the sources give the values of the terms over it
+abbrev pub MakeRows : List Term → Surroundings → List (List Value) → Result (Vec Source Global) EvalFault → Type 0
+MakeRows es s rows = AnswersAs (λ xs. rows_from xs.items 0 rows) (each (values_at es s) rows)
 
 -- the source of a term's values: a column where the term is one, and else what came of it over the piece
 abbrev pub Sourced : Term → Computed (List Value) → Result Source EvalFault → Type 0

@@ -1,10 +1,10 @@
 // The places of the rows for which a condition is true.
 ghost use Rattle.std.specs.Prelude.{◌≡◌, ◌++◌, ◌+◌, [], ◌∷◌, if◌then◌else◌, IfOk, OnOk};
-ghost use Rattle.kq_computed.specs.Computed.{AnswersAs, Is, and_then, each};
+ghost use Rattle.kq_computed.specs.Computed.{AnswersAs};
 ghost use Rattle.kq_columnar.specs.Vectors.{cells_of};
 ghost use Rattle.kq_expr.specs.Terms.{term_of};
 ghost use Rattle.kq_scalar.specs.Val.{meaning, surroundings};
-ghost use Rattle.kq_piecewise.specs.Pieces.{places_true};
+ghost use Rattle.kq_piecewise.specs.Pieces.{places_true, places_where};
 
 use crate::piece::{PIECE, eval_piece};
 use crate::relation::Relation;
@@ -23,7 +23,7 @@ pub fn places_kept<R: Relation>(
     lets: &[Value],
     now: i64,
 ) -> Result<Vec<u32>, EvalFault>
-    ensures { AnswersAs (λ ps. ps.items) (and_then (each (meaning (term_of condition.now) (surroundings now lets.now)) (R.rows relation.now)) (λ vs. Is (places_true 0 vs))) result }
+    ensures { AnswersAs (λ ps. ps.items) (places_where (meaning (term_of condition.now) (surroundings now lets.now)) (R.rows relation.now)) result }
 {
     let mut places = Vec::new(alloc);
     let mut from = 0;

@@ -52,7 +52,7 @@ fn sources_of<R: Relation>(
     now: i64,
 ) -> Result<Vec<Source>, EvalFault>
     requires { (from ≤ to) × (to ≤ length (R.rows relation.now)) }
-    ensures rows { MakeRows (piece_of (R.rows relation.now) from to) (each (values_at (map term_of exprs.now) (surroundings now lets.now)) (piece_of (R.rows relation.now) from to)) result }
+    ensures rows { MakeRows (map term_of exprs.now) (surroundings now lets.now) (piece_of (R.rows relation.now) from to) result }
     ensures wide { IfOk result (λ xs. length xs.items ≡ length exprs.now) }
 {
     let copied = copied_of(alloc, exprs)?;

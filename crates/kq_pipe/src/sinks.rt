@@ -7,9 +7,8 @@ ghost use Rattle.kq_plan.specs.Plans.{aggregating_of};
 ghost use Rattle.kq_scalar.specs.Val.{surroundings};
 ghost use Rattle.kq_value.specs.declared.value.Value.TheVariants.{Long};
 ghost use Rattle.kq_pipe.specs.declared.outcome.Outcome.TheVariants as outcome;
-ghost use Rattle.kq_pipe.specs.Ended.{EndsAs};
+ghost use Rattle.kq_pipe.specs.Ended.{EndsAs, EndsInGroups};
 ghost use Rattle.kq_grouping.specs.Grouping.{all_made};
-ghost use Rattle.kq_pipe.specs.Grouping.{GroupsTo};
 ghost use Rattle.kq_pipe.specs.Operators.{in_stage, tally};
 
 use crate::outcome::Outcome;
@@ -103,7 +102,7 @@ pub(crate) fn group_all(
     now: i64,
 ) -> Result<Ended, Memory>
     requires { length columns.now ≡ length keys.now + all_made (map aggregating_of aggregates.now) }
-    ensures { IfOk result (EndsAs (λ rows. GroupsTo (map term_of keys.now) (map aggregating_of aggregates.now) columns.now (surroundings now lets.now) rows stage) flow.old.to_come) }
+    ensures { IfOk result (EndsInGroups (map term_of keys.now) (map aggregating_of aggregates.now) columns.now stage (surroundings now lets.now) flow.old.to_come) }
 {
     match gather_groups(alloc, flow, keys, aggregates, columns, lets, now)? {
         Arrived::Groups(groups) => Ok(Ended::Gave(rows_of(alloc, stage, &groups)?)),

@@ -1,15 +1,14 @@
 // Stretches: steps in a row that take rows of one another, and run as one.
-ghost use Rattle.std.specs.Prelude.{◌≡◌, ◌+◌, ◌-◌, ◌<◌, ℕ, IfOk, Some, false, true, length, map};
+ghost use Rattle.std.specs.Prelude.{◌≡◌, ◌-◌, ◌<◌, ℕ, IfOk, Some, false, true, length, map};
 ghost use Rattle.kq_plan.specs.Plans.{counted, doing_of, stepping_of};
 ghost use Rattle.kq_scalar.specs.Val.{surroundings};
-ghost use Rattle.kq_stretch.specs.Ran.{ran};
 ghost use Rattle.kq_pipe.specs.declared.outcome.Outcome.TheVariants as outcome;
 ghost use Rattle.kq_pipe.specs.Ended.{EndsAs};
-ghost use Rattle.kq_pipe.specs.Gives.{Follows, around};
+ghost use Rattle.kq_pipe.specs.Gives.{around};
 ghost use Rattle.kq_pipe.specs.Operators.{tally};
 ghost use Rattle.kq_pipe.specs.Outcomes.{order_of, rows_of};
-ghost use Rattle.kq_grouping.specs.Steps.{HasColumns, Linked, flows_from, is_rowwise, last_of, operators_of};
-ghost use Rattle.kq_pipe.specs.Stretches.{AreNext, Closes, ComesTo, FlowsOn, IsStretch, order_after};
+ghost use Rattle.kq_grouping.specs.Steps.{HasColumns, Linked, flows_from, is_rowwise, last_of};
+ghost use Rattle.kq_pipe.specs.Stretches.{AreNext, Closes, FollowsToEnd, FlowsOn, IsStretch, MakesOf, order_after};
 
 use crate::leaves::Leaves;
 use crate::outcome::{Outcome, cells, order_at, rows_at};
@@ -88,7 +87,7 @@ pub(crate) fn run_stretch<L: Leaves>(
 ) -> Result<Outcome, Memory>
     requires next { AreNext (L.known leaves.now) (L.may_give leaves.now) (map stepping_of before.now) done.now (map stepping_of stretch.now) }
     requires linked { Linked (length done.now) (map stepping_of stretch.now) }
-    ensures { IfOk result (Follows (L.may_give leaves.now) now (map stepping_of before.now) done.now (map stepping_of stretch.now) (length done.now + (length stretch.now - 1))) }
+    ensures { IfOk result (FollowsToEnd (L.may_give leaves.now) now before.now done.now stretch.now) }
 {
     let first = &stretch[0];
     match input(first) {
@@ -107,7 +106,7 @@ fn flow_from(
 ) -> Result<Outcome, Memory>
     requires linked { Linked (length done.now) (map stepping_of stretch.now) }
     requires columns { HasColumns (last_of (map stepping_of stretch.now)).doing (last_of (map stepping_of stretch.now)).columns }
-    ensures { IfOk result (ComesTo (map stepping_of stretch.now) (around now done.now) (order_of done.now i) (ran (operators_of (map stepping_of stretch.now)) (around now done.now) (rows_of done.now i))) }
+    ensures { IfOk result (MakesOf (map stepping_of stretch.now) (around now done.now) (order_of done.now i) (rows_of done.now i)) }
 {
     let none = Held::own(Rows::new(alloc));
     let rows = rows_at(done, i, &none);
@@ -153,7 +152,7 @@ fn flow(
 ) -> Result<Outcome, Memory>
     requires some { 0 < length stretch.now }
     requires columns { HasColumns (last_of (map stepping_of stretch.now)).doing (last_of (map stepping_of stretch.now)).columns }
-    ensures { IfOk result (ComesTo (map stepping_of stretch.now) (surroundings now lets.now) ordered (ran (operators_of (map stepping_of stretch.now)) (surroundings now lets.now) rows.now)) }
+    ensures { IfOk result (MakesOf (map stepping_of stretch.now) (surroundings now lets.now) ordered rows.now) }
 {
     let operators = operators(alloc, stretch)?;
     let mut flow = rows.flow(alloc, operators.as_slice(), lets, now);

@@ -1,13 +1,13 @@
 // One operator over a piece of rows.
 ghost use Rattle.std.specs.Prelude.{◌≡◌, ◌<◌, IfOk, length, map};
 ghost use Rattle.std.specs.List.{All};
-ghost use Rattle.kq_computed.specs.Computed.{Answers, AnswersAs, Is, and_then, each};
+ghost use Rattle.kq_computed.specs.Computed.{Answers, AnswersAs};
 ghost use Rattle.kq_expr.specs.Terms.{term_of};
 ghost use Rattle.kq_piecewise.specs.Operators.{filtered};
 ghost use Rattle.kq_reshape.specs.Expand.{expanded};
 ghost use Rattle.kq_rows.specs.Chunks.{row_at, same_width};
-ghost use Rattle.kq_scalar.specs.Val.{meaning, surroundings};
-ghost use Rattle.kq_stretch.specs.Operators.{applied, rowwise_of};
+ghost use Rattle.kq_scalar.specs.Val.{surroundings};
+ghost use Rattle.kq_stretch.specs.Operators.{applied, rowwise_of, spreading};
 ghost use Rattle.kq_stretch.specs.Pieces.{rows_in};
 
 use crate::choices::{chosen_of, shifted};
@@ -93,7 +93,7 @@ fn spread<R: Relation + Drop>(
     now: i64,
 ) -> Result<Rows, EvalFault>
     requires { same_width (rows_in R.rows piece) }
-    ensures { Answers (and_then (each (meaning (term_of expr.now) (surroundings now lets.now)) (rows_in R.rows piece)) (λ vs. Is (expanded at ty (rows_in R.rows piece) vs))) result }
+    ensures { Answers (applied (spreading (term_of expr.now) at ty) (surroundings now lets.now) (rows_in R.rows piece)) result }
 {
     match values_over(alloc, &piece, expr, lets, now) {
         Ok(values) => Ok(expand_piece(alloc, piece, values.as_slice(), at, ty)?),

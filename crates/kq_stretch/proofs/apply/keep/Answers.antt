@@ -4,7 +4,8 @@ use Rattle.std.specs.List.{All}
 use Rattle.kq_computed.specs.Computed.{AnswersAs, Is}
 use Rattle.kq_expr.specs.Terms.{term_of}
 use Rattle.kq_piecewise.specs.Operators.{filtered}
-use Rattle.kq_piecewise.proofs.Kept.{places_in, places_of, kept_rows, kept_fault}
+use Rattle.kq_piecewise.specs.Pieces.{places_where}
+use Rattle.kq_piecewise.proofs.Kept.{places_in, kept_rows, kept_fault}
 use Rattle.kq_rows.specs.Chunks.{row_at}
 use Rattle.kq_scalar.specs.Val.{meaning, surroundings}
 use Rattle.kq_stretch.specs.Pieces.{rows_in}
@@ -23,7 +24,7 @@ returns-in_ok-select-in-Ok g c =
     let rows = rows_in g.R.Relation.rows c.args.piece in
     let e = term_of c.args.condition.now in
     let picked = c.in_ok-select-in-Ok.ensures ∙ ap (map (row_at rows)) c.as_slice.ensures.value in
-    let found = subst (λ (z : ℤ). places_of (meaning e (surroundings z c.args.lets.now)) rows ≡ Is c.in-Ok.places.items) same c.in-Ok.ensures in
+    let found = subst (λ (z : ℤ). places_where (meaning e (surroundings z c.args.lets.now)) rows ≡ Is c.in-Ok.places.items) same c.in-Ok.ensures in
     kept_rows e (surroundings c.args.now c.args.lets.now) rows c.in-Ok.places.items found ∙ ap Is (sym picked)
 
 pub returns-in-Err : goal.returns-in-Err
@@ -34,5 +35,5 @@ returns-in-Err g c =
     let s = surroundings c.args.now c.args.lets.now in
     let see = λ (v : Vec ℕ Global). v.items in
     let fault = c.in-Err.fault in
-    let failed = subst (λ (z : ℤ). AnswersAs see (places_of (meaning e (surroundings z c.args.lets.now)) rows) (Err fault)) same c.in-Err.ensures in
+    let failed = subst (λ (z : ℤ). AnswersAs see (places_where (meaning e (surroundings z c.args.lets.now)) rows) (Err fault)) same c.in-Err.ensures in
     fault_seen (rows_in g.R.Relation.rows) (filtered e s rows) fault (kept_fault e s rows see fault failed)
