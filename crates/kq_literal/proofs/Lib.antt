@@ -2,7 +2,6 @@ pub mod Cuts
 pub mod RunLemmas
 pub mod StringLemmas
 pub mod NumberLemmas
-pub mod TimespanLemmas
 pub mod RawLemmas
 pub mod StandsForLemmas
 pub mod TokenForms

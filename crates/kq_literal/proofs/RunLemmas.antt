@@ -1,8 +1,6 @@
 -- Runs of bytes of a class.
 use Rattle.std.proofs.Common.{◌≡◌, ℕ, suc, ◌<◌, ◌+◌, Bool, true, false, cond, List, [], ◌∷◌, length, drop, refl, subst, arith}
 use Rattle.std.specs.List.{list_all, prefix_len}
-use Rattle.std.specs.Str.{IsAscii}
-use Rattle.std.proofs.lemmas.Str.Ascii.{IsAscii-cons, IsAscii-nil}
 use Rattle.kq_token.specs.Bytes.{is_end, run_then}
 use Rattle.kq_token.proofs.TestLemmas.{both_true, and_true}
 
@@ -31,7 +29,3 @@ run_all class [] h = let no_way : false ≡ true = h in absurd (cc)
 run_all class (b ∷ bs) h =
     let p = both_true (class b) (is_end (drop (prefix_len class bs) bs)) h in
     (omega arith, and_true (class b) (list_all class bs) p.0 (run_and_rest class class (λ c k. k) bs (end_all class (drop (prefix_len class bs) bs) p.1)))
-
-pub all_ascii : (ok : ℕ → Bool) → ((b : ℕ) → ok b ≡ true → b < 128) → (bs : List ℕ) → list_all ok bs ≡ true → IsAscii bs
-all_ascii ok below [] h = IsAscii-nil
-all_ascii ok below (b ∷ bs) h = let p = both_true (ok b) (list_all ok bs) h in IsAscii-cons b bs (below b p.0) (all_ascii ok below bs p.1)

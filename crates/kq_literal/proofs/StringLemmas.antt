@@ -12,7 +12,7 @@ use Rattle.kq_token.specs.declared.delimited.End.TheVariants.{Closed, Refused}
 use Rattle.kq_token.specs.Bytes.{begins_with, is_end, is_hexadecimal_digit}
 use Rattle.kq_token.specs.Delimited.{by_step, closes, digit_then, is_escape, is_long_string, step}
 use Rattle.kq_token.proofs.TestLemmas.{both_true}
-use Rattle.kq_literal.specs.Strings.{escape_len, escape_of, letter_of, unescaped}
+use Rattle.kq_literal.specs.Strings.{escape_len, escape_of, unescaped}
 
 -- ---- tests in steps
 
@@ -150,10 +150,6 @@ pub escape_long : (quote : ℕ) (bs : List ℕ) → closes step (Escape quote) b
 escape_long quote [] h e = let no_way : false ≡ true = h in absurd (cc)
 escape_long quote (c ∷ bs) h e = omega (arith, long_code quote bs (digits_behind quote c bs e h))
 
-pub escape_some : (quote : ℕ) (bs : List ℕ) → closes step (Escape quote) bs ≡ true → 0 < length bs
-escape_some quote [] h = let no_way : false ≡ true = h in absurd (cc)
-escape_some quote (c ∷ bs) h = omega arith
-
 closed_code : (quote : ℕ) (bs : List ℕ) → Code quote bs → closes step (Quoted quote) (drop 4 bs) ≡ true
 closed_code quote bs p = subst (λ l. closes step (Quoted quote) (drop 4 l) ≡ true) (sym p.is) p.closed
 
@@ -166,11 +162,6 @@ behind_escape_at quote c bs false e h =
 pub behind_escape : (quote : ℕ) (bs : List ℕ) → closes step (Escape quote) bs ≡ true → closes step (Quoted quote) (drop (escape_len bs) bs) ≡ true
 behind_escape quote [] h = let no_way : false ≡ true = h in absurd (cc)
 behind_escape quote (c ∷ bs) h = behind_escape_at quote c bs (c == 117) refl h
-
--- what the code appends
-pub escape_letter : (bs text : List ℕ) → 0 < length bs → (get_or bs 0 0 == 117) ≡ false → text ≡ letter_of (get_or bs 0 0) ∷ [] → (text ≡ escape_of bs) × (escape_len bs ≡ 1)
-escape_letter [] text h e k = absurd (omega arith)
-escape_letter (c ∷ bs) text h e k = (k ∙ rw e refl, rw e refl)
 
 -- ---- a byte of a string
 

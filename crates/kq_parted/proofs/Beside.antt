@@ -1,6 +1,5 @@
 -- What keys and what is kept of them have side by side.
 use Rattle.std.proofs.Common.{◌≡◌, ◌<◌, ◌+◌, ℕ, zero, suc, List, [], ◌∷◌, ◌++◌, length, map, get_or, refl, sym, ap, ◌∙◌, arith, length-append}
-use Rattle.std.specs.List.{All}
 use Rattle.std.proofs.lemmas.List.{get_or-map, length-map}
 use Rattle.kq_agg.specs.Holds.{Kept}
 use Rattle.kq_agg.specs.Steps.{kept_at}
@@ -8,7 +7,7 @@ use Rattle.kq_agg.specs.Tables.{Numbered}
 use Rattle.kq_rows.specs.Chunks.{row_at}
 use Rattle.kq_value.specs.declared.value.Value.{Value}
 use Rattle.kq_group.specs.Grouped.{AggregateShape}
-use Rattle.kq_group.specs.Groups.{Grouping, HasAllGroups, nothing, shape_of, state_at}
+use Rattle.kq_group.specs.Groups.{Grouping, nothing, shape_of, state_at}
 use Rattle.kq_parted.specs.Shards.{keys_in, kept_in, shard_at, states_from}
 
 abbrev pub Key : Type 0
@@ -45,12 +44,6 @@ beside_first P (k ∷ keys) more [] others long all = absurd (omega (arith, long
 beside_first P (k ∷ keys) more (s ∷ kept) others long all = let rest = beside_first P keys more kept others (omega (arith, long)) all.1 in ((all.0, rest.0), rest.1)
 
 -- ---- shards
-
-abbrev pub AreWhole : List Grouping → Type 0
-AreWhole shards = All (λ g. HasAllGroups g) shards
-
-pub later_whole : (g : Grouping) (shards : List Grouping) → AreWhole (g ∷ shards) → AreWhole shards
-later_whole g shards whole i d h = whole (suc i) d (omega (arith, h))
 
 -- an aggregate, by its number, keeps as much as there are keys
 abbrev pub HasKept : ℕ → List Grouping → Type 0

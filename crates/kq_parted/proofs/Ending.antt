@@ -232,9 +232,6 @@ pub record IsEnding (shards : List Grouping) (i : ℕ) (rows : List Key) : Type 
   pub wide : All (HasWidth width) rows
   pub each : (j : ℕ) (more : List Key) → j < length shards → rows_from (shard_at shards j).states (shard_at shards j).keys 0 ≡ Is more → All (HasWidth width) more
 
-pub IsEnding-none : (shards : List Grouping) → AreFinishable shards → IsEnding shards 0 []
-IsEnding-none shards f = record { whole = none_first (rows_in shards); width = f.width; wide = All-nil (HasWidth f.width); each = f.wide }
-
 through : (d : Computed (List Key)) (rows more : List Key) → and_then (and_then d (λ y. Is (more ++ y))) (λ rest. Is (rows ++ rest)) ≡ and_then d (λ rest. Is ((rows ++ more) ++ rest))
 through Overflow rows more = refl
 through (Is y) rows more = ap Is (sym (append_assoc rows more y))

@@ -4,7 +4,7 @@ ghost use Rattle.kq_token.specs.Delimited.{is_typed_literal};
 ghost use Rattle.kq_token.specs.Reading.{AreTokens};
 ghost use Rattle.kq_literal.specs.Strings.{is_string_token};
 
-use kq_literal::{raw_text, string_text, timespan_ticks, whole_number};
+use kq_literal::{raw_text, string_text, whole_number};
 use kq_token::{LiteralWord, TokenKind, Tokens, tokens};
 use std::alloc::{AllocError, Global};
 use std::process::Abort;
@@ -86,31 +86,6 @@ fn reads_hexadecimal_numbers(rt: HostRuntime) {
     assert_eq!(rt; whole_number(b"0x00000000000000000001"), Some(1));
 }
 
-#[test]
-fn reads_amounts_of_units(rt: HostRuntime) {
-    assert_eq!(rt; timespan_ticks(b"2d"), Some(1_728_000_000_000));
-    assert_eq!(rt; timespan_ticks(b"1.5h"), Some(54_000_000_000));
-    assert_eq!(rt; timespan_ticks(b"10m"), Some(6_000_000_000));
-    assert_eq!(rt; timespan_ticks(b"0.25s"), Some(2_500_000));
-    assert_eq!(rt; timespan_ticks(b"3ms"), Some(30_000));
-    assert_eq!(rt; timespan_ticks(b"7microsecond"), Some(70));
-    assert_eq!(rt; timespan_ticks(b"9tick"), Some(9));
-}
-
-#[test]
-fn reads_whole_ticks_in_range(rt: HostRuntime) {
-    assert_eq!(rt; timespan_ticks(b"0.0000001s"), Some(1));
-    assert_eq!(rt; timespan_ticks(b"0.00000001s"), None);
-    assert_eq!(rt; timespan_ticks(b"1.5tick"), None);
-    assert_eq!(rt;
-        timespan_ticks(b"10675199d"),
-        Some(9_223_371_936_000_000_000)
-    );
-    assert_eq!(rt; timespan_ticks(b"10675200d"), None);
-    assert_eq!(rt; timespan_ticks(b"9223372036854775807tick"), Some(i64::MAX));
-    assert_eq!(rt; timespan_ticks(b"9223372036854775808tick"), None);
-}
-
 fn assert_raw(rt: &impl Abort, word: LiteralWord, bytes: &[u8], want: &str)
     requires { is_typed_literal word bytes.now ≡ true }
 {
@@ -139,7 +114,6 @@ fn number_at(tokens: &Tokens, index: usize) -> Option<i64>
 {
     match tokens.as_slice()[index].kind {
         TokenKind::WholeNumber => whole_number(tokens.bytes_of(index)),
-        TokenKind::Timespan => timespan_ticks(tokens.bytes_of(index)),
         _ => None,
     }
 }
@@ -150,12 +124,8 @@ fn reads_the_tokens_of_a_text(rt: HostRuntime) -> Result<(), Fail> {
         Ok(tokens) => {
             assert_eq!(rt; tokens.len(), 6);
             let whole = number_at(&tokens, 1);
-            let timespan = number_at(&tokens, 3);
             let string = number_at(&tokens, 5);
-            assert_eq!(rt;
-                [whole, timespan, string],
-                [Some(31), Some(54_000_000_000), None]
-            );
+            assert_eq!(rt; [whole, string], [Some(31), None]);
             Ok(())
         }
         Err(_) => Err(AllocError.into()),

@@ -95,6 +95,18 @@ fn reads_timespans(rt: HostRuntime) {
 }
 
 #[test]
+fn reads_amounts_of_units(rt: HostRuntime) {
+    assert_timespan(&rt, "2d", Some(1_728_000_000_000));
+    assert_timespan(&rt, "1.5h", Some(54_000_000_000));
+    assert_timespan(&rt, "0.25s", Some(2_500_000));
+    assert_timespan(&rt, "3ms", Some(30_000));
+    assert_timespan(&rt, "7microsecond", Some(70));
+    assert_timespan(&rt, "9tick", Some(9));
+    assert_timespan(&rt, "0.0000001s", Some(1));
+    assert_timespan(&rt, "0.00000001s", None);
+}
+
+#[test]
 fn reads_timespans_in_range(rt: HostRuntime) {
     assert_timespan(&rt, "10675199.02:48:05.4775807", Some(i64::MAX));
     assert_timespan(&rt, "10675199.02:48:05.4775808", None);
@@ -103,6 +115,10 @@ fn reads_timespans_in_range(rt: HostRuntime) {
     assert_timespan(&rt, "10675200", None);
     assert_timespan(&rt, "18446744073709551617", None);
     assert_timespan(&rt, "18446744073709551617tick", None);
+    assert_timespan(&rt, "10675199d", Some(9_223_371_936_000_000_000));
+    assert_timespan(&rt, "10675200d", None);
+    assert_timespan(&rt, "9223372036854775807tick", Some(i64::MAX));
+    assert_timespan(&rt, "9223372036854775808tick", None);
     assert_timespan(&rt, "00000000000000000000000000001", Some(DAY));
 }
 
