@@ -1,5 +1,6 @@
 pub mod Chains
 pub mod Places
+pub mod Search
 pub mod SlotLinks
 pub mod SlotLists
 pub mod Slots

@@ -1,9 +1,10 @@
+use Rattle.kq_chain.proofs.Search.{IsSought}
 use Rattle.kq_chain.proofs.Walks.{links_ahead}
-use Rattle.kq_reshape.proofs.Filed.{IsSought}
+use Rattle.kq_reshape.specs.Known.{head_of}
 use Rattle.kq_reshape.proofs.known.Known.contains.Given as goal
 
 abbrev pub invariant-loop-link : goal.invariant-loop-link
-invariant-loop-link l = IsSought l.self l.row l.link
+invariant-loop-link l = IsSought l.self.chain.added (head_of l.self.heads l.row) l.self.rows l.row l.link
 
 abbrev pub decreases-loop-link : goal.decreases-loop-link
 decreases-loop-link l = links_ahead l.link
