@@ -11,13 +11,14 @@ use Rattle.kq_value.specs.declared.record_id.RecordId.{RecordId}
 use Rattle.kq_value.specs.declared.schema.Field.{Field}
 use Rattle.kq_value.specs.declared.value.Value.{Value}
 use Rattle.kq_value.specs.Typed.{HasTypes}
+use Rattle.kq_distinct.specs.EachOnce.{each_once}
 use Rattle.kq_widened.proofs.Widened.{widened_records-ids}
 use Rattle.kq_extent.specs.Seen.{ExtentView, HeldExtents, held_records, records_in, row_of}
 use Rattle.kq_extent.specs.Wide.{wide, wide_held}
 use Rattle.kq_merge.specs.Merges.{merge_of, picked_of, tags_in}
 use Rattle.kq_model.specs.declared.table.Table.{Table}
 use Rattle.kq_model.specs.History.{History, log, tables}
-use Rattle.kq_model.specs.Records.{ExtentItem, each_once, extents, item_ids, picked, records, rows_in, schema_of, united}
+use Rattle.kq_model.specs.Records.{ExtentItem, extents, item_ids, picked, records, rows_in, schema_of, united}
 use Rattle.kq_catalog.specs.declared.merging.Merging.{Merging}
 use Rattle.kq_catalog.specs.Held.{AreItems, extent_item}
 use Rattle.kq_catalog.specs.Merges.{IsUnion}

@@ -2,7 +2,7 @@
 use Rattle.std.specs.Prelude.{ℕ, List, length, take, nat_lt, Option, Some, None, if◌then◌else◌}
 use Rattle.std.specs.List.{flat_map}
 use Rattle.kq_extent.specs.Seen.{ExtentView, records_in}
-use Rattle.kq_model.specs.Records.{each_once}
+use Rattle.kq_distinct.specs.EachOnce.{each_once}
 
 -- the first 64 of a table's small extents, or all where there are fewer; none where there are fewer than two
 abbrev pub picked_of : List ExtentView → Option (List ExtentView)

@@ -1,10 +1,10 @@
 // The tags of several extents.
 ghost use Rattle.std.specs.Prelude.{◌≡◌, ◌++◌, IfOk, OnOk, map};
 ghost use Rattle.std.specs.Arc.{arc_value};
-ghost use Rattle.kq_model.specs.Records.{each_once};
+ghost use Rattle.kq_distinct.specs.EachOnce.{each_once};
 ghost use Rattle.kq_merge.specs.Merges.{tags_in};
 
-use indexmap::IndexSet;
+use kq_distinct::distinct;
 use kq_extent::Extent;
 use kq_value::{Memory, Tags, Text};
 use std::alloc::Global;
@@ -36,24 +36,4 @@ fn add_tags(texts: &mut Vec<Text>, tags: &Tags) -> Result<(), Memory>
         texts.push(tag.clone_in()?)?;
     }
     Ok(())
-}
-
-fn distinct(alloc: Global, texts: &[Text]) -> Result<Tags, Memory>
-    ensures { IfOk result (λ tags. tags ≡ each_once texts.now) }
-{
-    let mut seen = IndexSet::new(alloc);
-    for text in texts {
-        seen.insert(text.as_str())?;
-    }
-    owned(alloc, seen.as_slice())
-}
-
-fn owned(alloc: Global, texts: &[&str]) -> Result<Tags, Memory>
-    ensures { IfOk result (λ tags. tags ≡ map (λ text. text.now) texts.now) }
-{
-    let mut tags = Vec::with_capacity(alloc, texts.len())?;
-    for text in texts {
-        tags.push(Text::from_str(alloc, text)?)?;
-    }
-    Ok(Tags::from_vec(tags))
 }

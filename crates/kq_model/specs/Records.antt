@@ -1,7 +1,7 @@
 -- The records that a log gives a table, and the extents that a history leaves them in.
 use Rattle.std.specs.Prelude.{ℕ, ◌+◌, Bool, not, List, [], ◌∷◌, ◌++◌, length, map, take, nat_eq, nat_lt, if◌then◌else◌, option_map, unwrap_or}
 use Rattle.std.specs.List.{filter, flat_map, list_any, slice_get}
-use Rattle.std.specs.Str.{bytes_eq}
+use Rattle.kq_distinct.specs.EachOnce.{each_once}
 use Rattle.kq_value.specs.declared.record_id.RecordId.{RecordId}
 use Rattle.kq_value.specs.declared.schema.Field.{Field}
 use Rattle.kq_value.specs.declared.value.Value.{Value}
@@ -88,11 +88,6 @@ commit_items t cursor id (CreateView view) = []
 commit_items t cursor id (SetPolicy table entries) = []
 commit_items t cursor id (AlterMerge table columns) = []
 commit_items t cursor id (Ingest batches failures) = batch_items t cursor 0 id batches
-
--- each text once, in the order of first appearance
-abbrev pub each_once : List (List ℕ) → List (List ℕ)
-each_once [] = []
-each_once (text ∷ texts) = text ∷ filter (λ other. not (bytes_eq text other)) (each_once texts)
 
 -- one extent with the record ids of some, in order, and the union of their tags
 abbrev pub united : ℕ → List ExtentItem → ExtentItem

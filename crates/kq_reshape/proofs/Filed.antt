@@ -1,6 +1,5 @@
 -- The search for a row behind the head of its hash.
-use Rattle.std.proofs.Common.{◌≡◌, ◌<◌, ℕ, zero, suc, List, [], ◌∷◌, Option, None, length, map, sym, ap, ◌∙◌, subst, arith}
-use Rattle.std.proofs.lemmas.List.{length-map}
+use Rattle.std.proofs.Common.{◌≡◌, ◌<◌, ℕ, zero, suc, List, [], ◌∷◌, Option, None, length, map, sym, ap, subst, arith}
 use Rattle.kq_chain.specs.Chain.{ChainState}
 use Rattle.kq_chain.proofs.Search.{IsSought, sought_in_vain}
 use Rattle.kq_rows.specs.Chunks.{row_at}
@@ -13,9 +12,6 @@ use Rattle.kq_reshape.specs.Known.{IsFiled, head_of}
 -- where each row is in the chain
 pub filed_rows : (k : Known) → IsFiled k → k.chain.added ≡ map (head_of k.heads) k.rows
 filed_rows k f = ap (λ (c : ChainState). c.added) f.filed
-
-pub links_of : (k : Known) → IsFiled k → length k.chain.added ≡ length k.rows
-links_of k f = ap length (filed_rows k f) ∙ length-map k.rows (head_of k.heads)
 
 pub sought_none : (k : Known) (row : List Value) (link : Option ℕ) → IsSought k.chain.added (head_of k.heads row) k.rows row link → link ≡ None → 0 < times row k.rows → ⊥
 sought_none k row link s is h = let p = place_of row k.rows h in sought_in_vain k.chain.added (head_of k.heads row) k.rows row link p.0 s is p.1.0 (sym p.1.1)

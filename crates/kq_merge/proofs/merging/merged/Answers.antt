@@ -2,7 +2,7 @@ use Rattle.std.proofs.Common.{◌≡◌, IfOk, List, map, ap, sym, subst, ◌∙
 use Rattle.std.specs.Arc.{arc_value}
 use Rattle.kq_extent.specs.Seen.{ExtentView, records_in}
 use Rattle.kq_extent.specs.Wide.{wide}
-use Rattle.kq_model.specs.Records.{each_once}
+use Rattle.kq_distinct.specs.EachOnce.{each_once}
 use Rattle.kq_merge.specs.Merges.{merge_of, tags_in}
 use Rattle.kq_merge.proofs.TagLemmas.{tags_in-wide}
 use Rattle.kq_merge.proofs.merging.merged.Goals as goal
