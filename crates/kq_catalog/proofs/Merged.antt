@@ -279,9 +279,6 @@ pub front_some : (id : ℕ) (small : List ExtentView) (items : List ExtentItem) 
 front_some id [] items e are is = cc
 front_some id (x ∷ small) items e are is = let same : e ≡ x = cc in ap (λ (y : ExtentView). nat_eq y.id id) same ∙ ap (comes_first id) are
 
-pub front_none : (id : ℕ) (small : List ExtentView) (items : List ExtentItem) → map extent_item small ≡ items → small ≡ [] → false ≡ comes_first id items
-front_none id small items are none = ap (λ (es : List ExtentView). comes_first id (map extent_item es)) (sym none) ∙ ap (comes_first id) are
-
 -- there is a first old extent
 pub first_id : (c : CatalogView) (m : Merging) → WasPicked (hist c) m → m.old ≡ slice_index_or m.old 0 0 ∷ drop 1 m.old
 first_id c m picked_then =

@@ -1,5 +1,5 @@
 -- The readers of names in lists, items, groupings and keys are exact.
-use Rattle.std.proofs.Common.{◌≡◌, ℕ, Bool, true, false, ◌||◌, List, [], ◌∷◌, ◌++◌, Option, Some, None, refl, sym, ◌∙◌, ap, subst, append-nil, append_assoc, arith}
+use Rattle.std.proofs.Common.{◌≡◌, ℕ, Bool, true, false, ◌||◌, List, [], ◌∷◌, ◌++◌, Option, Some, None, refl, sym, ◌∙◌, ap, subst, append-nil, arith}
 use Rattle.kq_clause.specs.Following.{names_go_on, item_goes_on, items_go_on, grouping_goes_on, key_goes_on, keys_go_on}
 use Rattle.kq_clause.specs.Reading as reading
 use Rattle.kq_expression.specs.Reading.{name as read_name, expression}
@@ -16,12 +16,12 @@ use Rattle.kq_syntax.specs.declared.word.Word.TheVariants as word
 use Rattle.kq_token.specs.declared.kind.Operator.TheVariants as operator
 use Rattle.kq_syntax.specs.Classes as k
 use Rattle.kq_syntax.specs.Classes.{Class, of}
-use Rattle.kq_syntax.specs.Forms.{Stops, Parser, one, some, ◌⨾◌, Bind, Then, Image, Maybe, starts, expect, bind, both, maybe, skip}
-use Rattle.kq_syntax.proofs.ClassLemmas.{apart, within, part}
+use Rattle.kq_syntax.specs.Forms.{Stops, Parser, one, some, ◌⨾◌, Bind, Then, Image, Maybe, expect, bind, both, maybe, skip}
+use Rattle.kq_syntax.proofs.ClassLemmas.{apart, within}
 use Rattle.kq_syntax.proofs.Laws.{Exact, Example, Follows, Leads, nothing, stops_within, bind_exact, both_exact, image_exact, same_exact, wider_exact, pure_exact, one_exact, maybe_exact, maybe_follows, skip_exact, skip_leads, skip_example}
-use Rattle.kq_expression.proofs.NameLaws.{example_of, starts_part, one_leads, name_exact, name_example, name_leads}
-use Rattle.kq_expression.proofs.ExpressionLaws.{expression_exact, expression_example, begins_leads}
-use Rattle.kq_clause.proofs.ListLaws.{Begins, front_begins, then_follows, listed_exact, listed_example, listed_begins}
+use Rattle.kq_expression.proofs.NameLaws.{example_of, one_leads, name_exact, name_example, name_leads}
+use Rattle.kq_expression.proofs.ExpressionLaws.{expression_exact, expression_example}
+use Rattle.kq_clause.proofs.ListLaws.{Begins, then_follows, listed_exact, listed_example, listed_begins}
 
 -- ---- names
 
@@ -93,19 +93,12 @@ item_exact n =
 pub item_example : Example grammar.item_text
 item_example = record { value = plain expression_example.value; text = expression_example.text; spelled = expression_example.spelled }
 
-pub item_begins : Begins k.begins_expression grammar.item_text
-item_begins (plain e) u z s = begins_leads e u z s
-item_begins (named t e) u z s = front_begins k.begins_expression (name_text t) (◌⨾◌ (some (of k.assign)) (spells e)) true (λ v z s. starts_part k.begins_name k.begins_expression (part k.begins_name k.begins_expression refl) (v ++ z) (name_leads t v z s)) u z s
-
 pub items_exact : (n : ℕ) → Exact grammar.items (of items_go_on) (reading.items n) n
 unfolding reading.items
 items_exact n = listed_exact grammar.item_text (of item_goes_on) (of items_go_on) (apart k.comma item_goes_on refl) (within items_go_on item_goes_on refl) (within items_go_on k.comma refl) n (reading.item n) (item_exact n) item_example
 
 pub items_example : Example grammar.items
 items_example = listed_example grammar.item_text item_example
-
-pub items_begin : Begins k.begins_expression grammar.items
-items_begin = listed_begins grammar.item_text k.begins_expression item_begins
 
 -- ---- groupings
 
@@ -196,15 +189,9 @@ key_example = record {
   spelled = record { left = expression_example.text; right = []; joined = refl; before = expression_example.spelled; after = record { left = []; right = []; joined = refl; before = refl; after = refl } };
 }
 
-pub key_begins : Begins k.begins_expression grammar.key_text
-key_begins q u z s = ap (λ l. starts (of k.begins_expression) (l ++ z)) s.joined ∙ ap (starts (of k.begins_expression)) (append_assoc s.left s.right z) ∙ begins_leads q.value s.left (s.right ++ z) s.before
-
 pub keys_exact : (n : ℕ) → Exact (grammar.listed grammar.key_text) (of keys_go_on) (reading.keys n) n
 unfolding reading.keys
 keys_exact n = listed_exact grammar.key_text (of key_goes_on) (of keys_go_on) (apart k.comma key_goes_on refl) (within keys_go_on key_goes_on refl) (within keys_go_on k.comma refl) n (reading.key n) (key_exact n) key_example
 
 pub keys_example : Example (grammar.listed grammar.key_text)
 keys_example = listed_example grammar.key_text key_example
-
-pub keys_begin : Begins k.begins_expression (grammar.listed grammar.key_text)
-keys_begin = listed_begins grammar.key_text k.begins_expression key_begins

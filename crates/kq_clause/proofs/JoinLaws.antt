@@ -1,6 +1,6 @@
 -- The readers of renamings and of what a join matches are exact.
 use Rattle.std.proofs.Common.{◌≡◌, ℕ, Bool, true, false, List, [], ◌∷◌, ◌++◌, ◌⊎◌, inl, inr, refl, sym, subst, arith}
-use Rattle.kq_clause.specs.Following.{renamings_go_on, join_keys_go_on, begins_join_kind, begins_join_key}
+use Rattle.kq_clause.specs.Following.{renamings_go_on, join_keys_go_on}
 use Rattle.kq_clause.specs.Reading as reading
 use Rattle.kq_expression.specs.Reading.{name}
 use Rattle.kq_grammar.specs.declared.clause.JoinKey.{JoinKey}
@@ -19,12 +19,12 @@ use Rattle.kq_token.specs.declared.kind.Punctuation.TheVariants as sign
 use Rattle.kq_token.specs.declared.kind.Side.{Side}
 use Rattle.kq_token.specs.declared.kind.Side.TheVariants as side
 use Rattle.kq_syntax.specs.Classes as k
-use Rattle.kq_syntax.specs.Classes.{Class, of}
+use Rattle.kq_syntax.specs.Classes.{of}
 use Rattle.kq_syntax.specs.Forms.{Parser, one, some, ◌⨾◌, Then, Image, starts, expect, both, ◌<$>◌, choose, skip, closed}
-use Rattle.kq_syntax.proofs.ClassLemmas.{apart, part}
+use Rattle.kq_syntax.proofs.ClassLemmas.{apart}
 use Rattle.kq_syntax.proofs.Laws.{Exact, Example, nothing, stops_nothing, both_exact, image_exact, one_exact, choose_exact, skip_exact, skip_leads, skip_example, closed_exact, closed_example}
-use Rattle.kq_expression.proofs.NameLaws.{example_of, starts_part, starts_apart, one_leads, name_exact, name_example, name_leads}
-use Rattle.kq_clause.proofs.ListLaws.{Begins, front_begins, listed_exact, listed_example, listed_begins}
+use Rattle.kq_expression.proofs.NameLaws.{example_of, starts_apart, one_leads, name_exact, name_example, name_leads}
+use Rattle.kq_clause.proofs.ListLaws.{Begins, front_begins, listed_exact, listed_example}
 
 -- ---- renamings
 
@@ -43,18 +43,12 @@ renaming_example =
     let old = skip_example (of k.assign) (example_of (kind.Operator operator.Assign)) refl name_text nothing name_example in
     record { value = (name_example.value, old.value); text = name_example.text ++ old.text; spelled = record { left = name_example.text; right = old.text; joined = refl; before = name_example.spelled; after = old.spelled } }
 
-pub renaming_begins : Begins k.begins_name grammar.renaming_text
-renaming_begins p u z s = front_begins k.begins_name (name_text p.0) (old_name p.1) true (name_leads p.0) u z s
-
 pub renamings_exact : (n : ℕ) → Exact (grammar.listed grammar.renaming_text) (of renamings_go_on) (reading.renamings n) n
 unfolding reading.renamings
 renamings_exact n = listed_exact grammar.renaming_text nothing (of renamings_go_on) (λ t h. refl) (λ t h. refl) (λ t h. h) n reading.renaming (renaming_exact nothing n) renaming_example
 
 pub renamings_example : Example (grammar.listed grammar.renaming_text)
 renamings_example = listed_example grammar.renaming_text renaming_example
-
-pub renamings_begin : Begins k.begins_name (grammar.listed grammar.renaming_text)
-renamings_begin = listed_begins grammar.renaming_text k.begins_name renaming_begins
 
 -- ---- a join's kind
 
@@ -108,10 +102,6 @@ join_kind_exact more n =
 
 pub join_kind_example : Example grammar.join_kind_text
 join_kind_example = record { value = shown.Word a_kind; text = a_kind ∷ []; spelled = (refl, refl) }
-
-pub join_kind_begins : Begins begins_join_kind grammar.join_kind_text
-join_kind_begins (shown.Word t) u z s = starts_part k.join_kind begins_join_kind (part k.join_kind begins_join_kind refl) (u ++ z) (one_leads k.join_kind t u z s)
-join_kind_begins (shown.Bracketed t x) u z s = starts_part k.open_bracket begins_join_kind (part k.open_bracket begins_join_kind refl) (u ++ z) (bracketed_kind_begins (shown.Bracketed t x) u z (record { value = (t, x); is = refl; spelled = s }))
 
 -- ---- what a join matches
 
@@ -221,17 +211,9 @@ join_key_exact more n =
 pub join_key_example : Example grammar.join_key_text
 join_key_example = record { value = pair.Both name_example.value; text = name_example.text; spelled = name_example.spelled }
 
-pub join_key_begins : Begins begins_join_key grammar.join_key_text
-join_key_begins (pair.Both m) u z s = starts_part k.begins_name begins_join_key (part k.begins_name begins_join_key refl) (u ++ z) (name_leads m u z s)
-join_key_begins (pair.LeftRight a t b) u z s = starts_part (k.side side.Left) begins_join_key (part (k.side side.Left) begins_join_key refl) (u ++ z) (sides_begin side.Left side.Right a_left a_right refl refl (a, (t, b)) u z s)
-join_key_begins (pair.RightLeft a t b) u z s = starts_part (k.side side.Right) begins_join_key (part (k.side side.Right) begins_join_key refl) (u ++ z) (sides_begin side.Right side.Left a_right a_left refl refl (a, (t, b)) u z s)
-
 pub join_keys_exact : (n : ℕ) → Exact (grammar.listed grammar.join_key_text) (of join_keys_go_on) (reading.join_keys n) n
 unfolding reading.join_keys
 join_keys_exact n = listed_exact grammar.join_key_text nothing (of join_keys_go_on) (λ t h. refl) (λ t h. refl) (λ t h. h) n reading.join_key (join_key_exact nothing n) join_key_example
 
 pub join_keys_example : Example (grammar.listed grammar.join_key_text)
 join_keys_example = listed_example grammar.join_key_text join_key_example
-
-pub join_keys_begin : Begins begins_join_key (grammar.listed grammar.join_key_text)
-join_keys_begin = listed_begins grammar.join_key_text begins_join_key join_key_begins

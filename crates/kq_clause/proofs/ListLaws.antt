@@ -8,7 +8,7 @@ use Rattle.kq_syntax.specs.declared.kind.Symbol.{Symbol}
 use Rattle.kq_token.specs.declared.kind.Punctuation.TheVariants as sign
 use Rattle.kq_syntax.specs.Classes as k
 use Rattle.kq_syntax.specs.Classes.{Class, of}
-use Rattle.kq_syntax.specs.Forms.{Stops, Parser, one, some, ◌⨾◌, Then, starts}
+use Rattle.kq_syntax.specs.Forms.{Stops, Parser, some, ◌⨾◌, Then, starts}
 use Rattle.kq_syntax.proofs.Laws.{Exact, Example, Follows, separated_exact}
 use Rattle.kq_expression.proofs.NameLaws.{example_of}
 
@@ -17,12 +17,6 @@ use Rattle.kq_expression.proofs.NameLaws.{example_of}
 -- each text of the form begins with a symbol of the class
 abbrev pub Begins : {A : Type 0} → Class → (A → Text) → Type 0
 Begins {A = A} is form = (y : A) (u z : List Symbol) → form y u → starts (of is) (u ++ z) ≡ true
-
-pub one_begins : (a b : Class) → ((t : Symbol) → of a t ≡ true → of b t ≡ true) → Begins b (one (of a))
-one_begins a b sub t u z s = ap (λ l. starts (of b) (l ++ z)) s.1 ∙ sub t s.0
-
-pub one_begins_not : (a b : Class) → ((t : Symbol) → of a t ≡ true → of b t ≡ false) → (t : Symbol) (u z : List Symbol) → one (of a) t u → starts (of b) (u ++ z) ≡ false
-one_begins_not a b apart t u z s = ap (λ l. starts (of b) (l ++ z)) s.1 ∙ apart t s.0
 
 pub some_begins_not : (a b : Class) → ((t : Symbol) → of a t ≡ true → of b t ≡ false) → (second : Text) (u z : List Symbol) → ◌⨾◌ (some (of a)) second u → starts (of b) (u ++ z) ≡ false
 some_begins_not a b apart second u z s = ap (λ l. starts (of b) (l ++ z)) (s.joined ∙ ap (λ l. l ++ s.right) s.before.1.1) ∙ apart s.before.0 s.before.1.0

@@ -1,5 +1,5 @@
 -- The rows that columns of arguments make.
-use Rattle.std.proofs.Common.{◌≡◌, ◌<◌, ◌≤◌, ℕ, zero, suc, min, List, [], ◌∷◌, ◌++◌, length, get_or, take, drop, refl, sym, ap, ◌∙◌, arith}
+use Rattle.std.proofs.Common.{◌≡◌, ◌<◌, ◌≤◌, ℕ, zero, suc, min, List, [], ◌∷◌, ◌++◌, length, get_or, drop, refl, sym, ap, ◌∙◌, arith}
 use Rattle.kq_value.specs.declared.value.Value.{Value}
 use Rattle.kq_computed.specs.Computed.{Computed, Is, and_then, each}
 use Rattle.kq_kernels.specs.Pairs.{each_two}
@@ -58,19 +58,6 @@ next_row f vs n i h =
 
 pub no_row : {B : Type 0} (f : List Value → Computed B) (vs : List Vector) (n i : ℕ) → shortest vs n ≤ i → each f (drop i (rows_of vs n)) ≡ Is []
 no_row f vs n i h = ap (each f) (drop_all (rows_of vs n) i (omega (arith, length-rows vs n)))
-
-pub shortest_next : (vs : List Vector) (i n : ℕ) (v : Vector) → i < length vs → v ≡ get_or vs i v → shortest (drop i vs) n ≡ shortest (drop (suc i) vs) (min n (length (cells_of v)))
-shortest_next [] i n v h e = absurd (omega arith)
-shortest_next (w ∷ vs) zero n v h e = ap (λ (u : Vector). shortest vs (min n (length (cells_of u)))) (sym e)
-shortest_next (w ∷ vs) (suc i) n v h e = shortest_next vs i n v (omega arith) e
-
-pub shortest_end : (vs : List Vector) (i n : ℕ) → length vs ≤ i → shortest (drop i vs) n ≡ n
-shortest_end vs i n h = ap (λ (us : List Vector). shortest us n) (drop_all vs i h)
-
-pub row_more : (vs : List Vector) (i k : ℕ) (v : Vector) → k < length vs → v ≡ get_or vs k v → row_at (take (suc k) vs) i ≡ row_at (take k vs) i ++ cell_of (cells_of v) i ∷ []
-row_more [] i k v h e = absurd (omega arith)
-row_more (w ∷ vs) i zero v h e = ap (λ (u : Vector). cell_of (cells_of u) i ∷ []) (sym e)
-row_more (w ∷ vs) i (suc k) v h e = ap (λ (r : List Value). cell_of (cells_of w) i ∷ r) (row_more vs i k v (omega arith) e)
 
 -- side by side is a cell in front of each row
 pub two-beside : (xs : List Value) (rs : List (List Value)) → each_two (λ x r. Is (x ∷ r)) xs rs ≡ Is (beside xs rs)

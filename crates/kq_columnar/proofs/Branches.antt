@@ -1,9 +1,7 @@
 -- The steps of walks over the parts of a call.
-use Rattle.std.proofs.Common.{◌≡◌, ◌<◌, ◌≤◌, ℕ, zero, suc, ◌+◌, Bool, List, [], ◌∷◌, ◌++◌, map, length, get_or, drop, refl, sym, ap, ◌∙◌, arith}
+use Rattle.std.proofs.Common.{◌≡◌, ◌<◌, ℕ, zero, suc, ◌+◌, List, [], ◌∷◌, ◌++◌, map, length, get_or, drop, refl, sym, ap, ◌∙◌, arith}
 use Rattle.std.specs.Prelude.{not, ◌≢◌}
-use Rattle.kq_value.specs.declared.ty.Ty.TheVariants as ty
 use Rattle.kq_value.specs.declared.value.Value.{Value}
-use Rattle.kq_value.specs.declared.value.Value.TheVariants.{Null}
 use Rattle.kq_computed.specs.Computed.{Computed, Is, Overflow, and_then, each}
 use Rattle.kq_kernels.specs.Pairs.{each_two}
 use Rattle.kq_fn.specs.declared.function.Function.{Function}
@@ -13,7 +11,7 @@ use Rattle.kq_expr.specs.declared.expr.Expr.{Expr}
 use Rattle.kq_arithmetic.specs.Logic.{is_yes}
 use Rattle.kq_scalar.specs.Val.{Surroundings}
 use Rattle.kq_columnar.specs.Choices.{picked, merged, is_present}
-use Rattle.kq_columnar.specs.Over.{Over, over, choosing, keeping, chosen_over, present_over, values_over, called_over, bare}
+use Rattle.kq_columnar.specs.Over.{Over, over, choosing, keeping, chosen_over, present_over, values_over, called_over}
 use Rattle.kq_columnar.specs.Vectors.{cells_of}
 use Rattle.kq_columnar.specs.Seen.{merged_by, fronted}
 use Rattle.kq_columnar.specs.declared.vector.Vector.{Vector}
@@ -48,21 +46,6 @@ pub values_more : (whole : Computed (List (List Value))) (es : List Expr) (i : �
 values_more whole es i e s rows vs v inv h is gives =
     inv ∙ rw (values-next es i e s rows h is, gives) (values-front vs v (values_over (map over (drop (suc i) es)) s rows))
 
-pub values_stop : (whole : Computed (List (List Value))) (es : List Expr) (i : ℕ) (e : Expr) (s : Surroundings) (rows : List (List Value)) (vs : List Vector)
-    → whole ≡ and_then (values_over (map over (drop i es)) s rows) (λ rs. Is (fronted vs rs)) → i < length es → e ≡ get_or es i e → over e s rows ≡ Overflow
-    → whole ≡ Overflow
-values_stop whole es i e s rows vs inv h is gives = inv ∙ rw (values-next es i e s rows h is, gives) refl
-
-drop_exprs : (xs : List Expr) (i : ℕ) → length xs ≤ i → drop i xs ≡ []
-drop_exprs [] zero h = refl
-drop_exprs [] (suc i) h = refl
-drop_exprs (y ∷ xs) zero h = absurd (omega arith)
-drop_exprs (y ∷ xs) (suc i) h = drop_exprs xs i (omega arith)
-
-pub values_end : (whole : Computed (List (List Value))) (es : List Expr) (i : ℕ) (s : Surroundings) (rows : List (List Value)) (vs : List Vector)
-    → whole ≡ and_then (values_over (map over (drop i es)) s rows) (λ rs. Is (fronted vs rs)) → length es ≤ i → whole ≡ Is (fronted vs (bare rows))
-values_end whole es i s rows vs inv h = inv ∙ rw (drop_exprs es i h) refl
-
 -- ---- branches
 
 pub merged_push : (bs : List Branch) (b : Branch) (zs : List Value) → merged_by (bs ++ b ∷ []) zs ≡ merged_by bs (merged b.tests.items (cells_of b.values) zs)
@@ -73,10 +56,6 @@ merged_push (c ∷ bs) b zs = ap (merged c.tests.items (cells_of c.values)) (mer
 through : {A B C : Type 0} (c : Computed A) (g : A → B) (b : B) (k : B → Computed C) → and_then c (λ v. Is (g v)) ≡ Is b → and_then c (λ v. k (g v)) ≡ k b
 through Overflow g b k e = absurd (cc)
 through (Is v) g b k e = let same : g v ≡ b = cc in ap k same
-
-through_stop : {A B C : Type 0} (c : Computed A) (g : A → B) (k : B → Computed C) → and_then c (λ v. Is (g v)) ≡ Overflow → and_then c (λ v. k (g v)) ≡ Overflow
-through_stop Overflow g k e = refl
-through_stop (Is v) g k e = absurd (cc)
 
 stacked : (bs : List Branch) (b : Branch) (rest : Computed (List Value))
     → and_then (and_then rest (λ zs. Is (merged b.tests.items (cells_of b.values) zs))) (λ zs. Is (merged_by bs zs)) ≡ and_then rest (λ zs. Is (merged_by (bs ++ b ∷ []) zs))
@@ -104,52 +83,7 @@ chosen_more whole es i p q s rows chosen left bs b inv h is at tests those gives
     ∙ ap (λ c. and_then c (λ ys. and_then (rest (picked (map not ts) rows)) (λ zs. Is (merged ts ys zs)))) values ∙ ap (λ rs. and_then (rest rs) (λ zs. Is (merged ts (cells_of b.values) zs))) (sym others) in
     inv ∙ ap (λ c. and_then c (λ zs. Is (merged_by bs zs))) next ∙ stacked bs b (rest left)
 
-pub chosen_no_test : (whole : Computed (List Value)) (es : List Expr) (i : ℕ) (p q : Expr) (s : Surroundings) (rows : List (List Value)) (bs : List Branch)
-    → whole ≡ and_then (chosen_over (map over (drop i es)) s rows) (λ zs. Is (merged_by bs zs)) → i + 1 < length es → p ≡ get_or es i p → q ≡ get_or es (suc i) q
-    → and_then (over p s rows) (λ vs. Is (map is_yes vs)) ≡ Overflow → whole ≡ Overflow
-chosen_no_test whole es i p q s rows bs inv h is at tests =
-    let rest = chosen_over (map over (drop (suc (suc i)) es)) s in
-    inv ∙ ap (λ c. and_then c (λ zs. Is (merged_by bs zs))) (chosen-next es i p q s rows h is at ∙ through_stop (over p s rows) (map is_yes) (λ us. choosing (over q s) rest us rows) tests)
-
-pub chosen_no_value : (whole : Computed (List Value)) (es : List Expr) (i : ℕ) (p q : Expr) (s : Surroundings) (rows chosen : List (List Value)) (bs : List Branch) (ts : List Bool)
-    → whole ≡ and_then (chosen_over (map over (drop i es)) s rows) (λ zs. Is (merged_by bs zs)) → i + 1 < length es → p ≡ get_or es i p → q ≡ get_or es (suc i) q
-    → and_then (over p s rows) (λ vs. Is (map is_yes vs)) ≡ Is ts → chosen ≡ picked ts rows → over q s chosen ≡ Overflow → whole ≡ Overflow
-chosen_no_value whole es i p q s rows chosen bs ts inv h is at tests those gives =
-    let rest = chosen_over (map over (drop (suc (suc i)) es)) s in
-    let values : over q s (picked ts rows) ≡ Overflow = ap (over q s) (sym those) ∙ gives in
-    let next : chosen_over (map over (drop i es)) s rows ≡ Overflow =
-    chosen-next es i p q s rows h is at ∙ through (over p s rows) (map is_yes) ts (λ us. choosing (over q s) rest us rows) tests
-    ∙ ap (λ c. and_then c (λ ys. and_then (rest (picked (map not ts) rows)) (λ zs. Is (merged ts ys zs)))) values in
-    inv ∙ ap (λ c. and_then c (λ zs. Is (merged_by bs zs))) next
-
-pub ends : (whole last : Computed (List Value)) (bs : List Branch) (zs made : List Value) → whole ≡ and_then last (λ zs. Is (merged_by bs zs)) → last ≡ Is zs → made ≡ merged_by bs zs → whole ≡ Is made
-ends whole last bs zs made inv e m = inv ∙ ap (λ c. and_then c (λ zs. Is (merged_by bs zs))) e ∙ ap Is (sym m)
-
-pub ends_not : (whole last : Computed (List Value)) (bs : List Branch) → whole ≡ and_then last (λ zs. Is (merged_by bs zs)) → last ≡ Overflow → whole ≡ Overflow
-ends_not whole last bs inv e = inv ∙ ap (λ c. and_then c (λ zs. Is (merged_by bs zs))) e
-
--- the last value, where no test is left
-pub last_at : (es : List Expr) (i : ℕ) (q : Expr) (s : Surroundings) (rows : List (List Value)) → i < length es → length es ≤ i + 1 → q ≡ get_or es i q → chosen_over (map over (drop i es)) s rows ≡ over q s rows
-last_at [] i q s rows h k at = absurd (omega arith)
-last_at (x ∷ []) zero q s rows h k at = ap (λ (z : Expr). over z s rows) (sym at)
-last_at (x ∷ []) (suc i) q s rows h k at = absurd (omega arith)
-last_at (x ∷ y ∷ es) zero q s rows h k at = absurd (omega arith)
-last_at (x ∷ y ∷ es) (suc i) q s rows h k at = last_at (y ∷ es) i q s rows (omega arith) (omega arith) at
-
-pub last_none : (es : List Expr) (i : ℕ) (s : Surroundings) (rows : List (List Value)) → length es ≤ i → chosen_over (map over (drop i es)) s rows ≡ Is (map (λ r. Null ty.Long) rows)
-last_none es i s rows h = rw (drop_exprs es i h) refl
-
 -- ---- the first that is there
-
--- one value alone is the last of either
-pub last_alike : (es : List Expr) (i : ℕ) (s : Surroundings) (rows : List (List Value)) → length es ≤ i + 1 → present_over (map over (drop i es)) s rows ≡ chosen_over (map over (drop i es)) s rows
-last_alike [] zero s rows h = refl
-last_alike [] (suc i) s rows h = refl
-last_alike (x ∷ []) zero s rows h = refl
-last_alike (x ∷ []) (suc zero) s rows h = refl
-last_alike (x ∷ []) (suc (suc i)) s rows h = refl
-last_alike (x ∷ y ∷ es) zero s rows h = absurd (omega arith)
-last_alike (x ∷ y ∷ es) (suc i) s rows h = last_alike (y ∷ es) i s rows (omega arith)
 
 present-next : (es : List Expr) (i : ℕ) (p : Expr) (s : Surroundings) (rows : List (List Value)) → i + 1 < length es → p ≡ get_or es i p
     → present_over (map over (drop i es)) s rows ≡ and_then (over p s rows) (λ vs. keeping (present_over (map over (drop (suc i) es)) s) (map is_present vs) vs rows)
@@ -170,9 +104,3 @@ present_more whole es i p s rows left bs b vs inv h is gives tests kept others =
     present-next es i p s rows h is ∙ ap (λ c. and_then c (λ us. keeping rest (map is_present us) us rows)) gives ∙ ap (λ us. keeping rest us vs rows) (sym tests)
     ∙ (λ j. and_then (rest (sym others j)) (λ zs. Is (merged ts (sym kept j) zs))) in
     inv ∙ ap (λ c. and_then c (λ zs. Is (merged_by bs zs))) next ∙ stacked bs b (rest left)
-
-pub present_stop : (whole : Computed (List Value)) (es : List Expr) (i : ℕ) (p : Expr) (s : Surroundings) (rows : List (List Value)) (bs : List Branch)
-    → whole ≡ and_then (present_over (map over (drop i es)) s rows) (λ zs. Is (merged_by bs zs)) → i + 1 < length es → p ≡ get_or es i p → over p s rows ≡ Overflow → whole ≡ Overflow
-present_stop whole es i p s rows bs inv h is gives =
-    let rest = present_over (map over (drop (suc i) es)) s in
-    inv ∙ ap (λ c. and_then c (λ zs. Is (merged_by bs zs))) (present-next es i p s rows h is ∙ ap (λ c. and_then c (λ us. keeping rest (map is_present us) us rows)) gives)

@@ -1,8 +1,7 @@
 -- A column and a literal as the arguments of a function.
-use Rattle.std.proofs.Common.{◌≡◌, ◌<◌, ◌≤◌, ℕ, zero, suc, Bool, List, [], ◌∷◌, map, length, get_or, drop, Option, Some, None, refl, sym, ap, ◌∙◌, arith}
-use Rattle.std.specs.Prelude.{slice_get, IfSome}
+use Rattle.std.proofs.Common.{◌≡◌, ◌<◌, ◌≤◌, ℕ, zero, suc, List, [], ◌∷◌, map, length, get_or, drop, Some, refl, sym, ap, ◌∙◌, arith}
+use Rattle.std.specs.Prelude.{slice_get}
 use Rattle.kq_value.specs.declared.value.Value.{Value}
-use Rattle.kq_value.specs.declared.value.Value.TheVariants.{Bool as Truth}
 use Rattle.kq_computed.specs.Computed.{Computed, Is, and_then, each}
 use Rattle.kq_kernels.specs.Pairs.{each_two}
 use Rattle.kq_fn.specs.declared.function.Function.{Function}
@@ -78,10 +77,6 @@ pub item_cell : (xs : List Value) (i : ℕ) (x : Value) → i < length xs → x 
 item_cell [] i x h e = absurd (omega arith)
 item_cell (y ∷ xs) zero x h e = sym e
 item_cell (y ∷ xs) (suc i) x h e = item_cell xs i x (omega arith) e
-
-pub by_truth : (function g : Function) (x y v : Value) (r : Option Bool) → function ≡ g → paired g x y ≡ Is v → IfSome r (λ b. v ≡ Truth b) → IfSome r (λ b. paired function x y ≡ Is (Truth b))
-by_truth function g x y v None is e h = tt
-by_truth function g x y v (Some b) is e h = ap (λ (k : Function). paired k x y) is ∙ e ∙ ap Is h
 
 pub two_exprs : (es : List Expr) (a b : Expr) → 2 ≤ length es → length es ≤ 2 → a ≡ get_or es 0 a → b ≡ get_or es 1 b → es ≡ a ∷ b ∷ []
 two_exprs [] a b h k p q = absurd (omega arith)

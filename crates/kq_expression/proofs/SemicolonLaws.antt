@@ -21,14 +21,6 @@ pub free_append : (u v : List Symbol) → free u → free v → free (u ++ v)
 free_append [] v a b = b
 free_append (t ∷ u) v a b = (a.0, free_append u v a.1 b)
 
-pub free_front : (u v : List Symbol) → free (u ++ v) → free u
-free_front [] v a = tt
-free_front (t ∷ u) v a = (a.0, free_front u v a.1)
-
-pub free_back : (u v : List Symbol) → free (u ++ v) → free v
-free_back [] v a = a
-free_back (t ∷ u) v a = free_back u v a.1
-
 -- a text of two parts
 pub free_joined : (u left right : List Symbol) → u ≡ left ++ right → free left → free right → free u
 free_joined u left right e a b = subst free (sym e) (free_append left right a b)

@@ -47,9 +47,6 @@ is_given ss i cs e = subst (GivesColumns ss i) (sym (columns_are ss i cs e)) e
 pub given_kept : (before now : List Stepping) (i : ℕ) → Kept before now → IsGiven before i → IsGiven now i
 given_kept before now i kept e = is_given now i (columns_at before i) (kept i (columns_at before i) e)
 
-pub columns_kept : (before now : List Stepping) (i : ℕ) → Kept before now → IsGiven before i → columns_at now i ≡ columns_at before i
-columns_kept before now i kept e = columns_are now i (columns_at before i) (kept i (columns_at before i) e)
-
 pub kept_behind : (ss ts : List Stepping) → Kept ss (ss ++ ts)
 kept_behind [] ts i cs e = absurd (cc)
 kept_behind (s ∷ ss) ts zero cs e = e

@@ -216,31 +216,6 @@ IsGrouped-from width aggregates keys args o (Err fault.Memory) g h = tt
 
 -- ---- the loops
 
-through : (c d : Computed Row) (out next : Row) → and_then c (λ x. Is (out ++ x)) ≡ Is next → and_then (and_then c (λ x. and_then d (λ y. Is (x ++ y)))) (λ z. Is (out ++ z)) ≡ and_then d (λ y. Is (next ++ y))
-through Overflow d out next e = absurd cc
-through (Is x) Overflow out next e = refl
-through (Is x) (Is y) out next e = let is : next ≡ out ++ x = cc in ap Is (sym (append_assoc out x y) ∙ ap (λ (z : Row). z ++ y) (sym is))
-
-lost : (c d : Computed Row) (out : Row) → and_then c (λ x. Is (out ++ x)) ≡ Overflow → and_then (and_then c (λ x. and_then d (λ y. Is (x ++ y)))) (λ z. Is (out ++ z)) ≡ Overflow
-lost Overflow d out e = refl
-lost (Is x) d out e = absurd cc
-
--- what is left over of the cells of a group
-abbrev pub cells_after : List Numbered → ℕ → Row → Computed Row
-cells_after states n out = and_then (cells_from states n) (λ cells. Is (out ++ cells))
-
-next_states : (states : List Numbered) (i n : ℕ) (s : Numbered) (out : Row) → i < length states → s ≡ get_or states i s
-    → cells_after (drop i states) n out ≡ and_then (and_then (finished s.types (kept_at s.kept n)) (λ x. and_then (cells_from (drop (i + 1) states) n) (λ y. Is (x ++ y)))) (λ z. Is (out ++ z))
-next_states states i n s out h is = ap (λ (ss : List Numbered). cells_after ss n out) (drop_more states i s h ∙ ap (λ (t : Numbered). t ∷ drop (i + 1) states) (sym is))
-
-pub cells_more : (states : List Numbered) (i n : ℕ) (s : Numbered) (out next : Row) → i < length states → s ≡ get_or states i s → and_then (finished s.types (kept_at s.kept n)) (λ x. Is (out ++ x)) ≡ Is next
-    → cells_after (drop i states) n out ≡ cells_after (drop (i + 1) states) n next
-cells_more states i n s out next h is e = next_states states i n s out h is ∙ through (finished s.types (kept_at s.kept n)) (cells_from (drop (i + 1) states) n) out next e
-
-pub cells_lost : (states : List Numbered) (i n : ℕ) (s : Numbered) (out : Row) → i < length states → s ≡ get_or states i s → and_then (finished s.types (kept_at s.kept n)) (λ x. Is (out ++ x)) ≡ Overflow
-    → cells_after (drop i states) n out ≡ Overflow
-cells_lost states i n s out h is e = next_states states i n s out h is ∙ lost (finished s.types (kept_at s.kept n)) (cells_from (drop (i + 1) states) n) out e
-
 -- the rows that are left over
 abbrev pub rows_after : List Numbered → List Row → ℕ → List Row → Computed (List Row)
 rows_after states keys n rows = and_then (rows_from states keys n) (λ rest. Is (rows ++ rest))

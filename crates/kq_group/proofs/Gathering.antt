@@ -14,9 +14,6 @@ use Rattle.kq_group.specs.Groups.{Gathers, HasNoRows, Lengthens, shape_of}
 moved : (k l : Kind) (rows : List (List Value)) (a b : Kept) → k ≡ l → a ≡ b → Holds k rows b → Holds l rows a
 moved k l rows a b same is h = subst (λ (m : Kind). Holds m rows a) same (subst (Holds k rows) (sym is) h)
 
-pub Lengthens-none : (s : Numbered) → Lengthens (length s.kept) s s
-Lengthens-none s = record { shape = (refl, refl); count_is = refl; others = λ h l. refl; fresh = λ h l m. absurd (omega (arith, l, m)) }
-
 -- one group more
 pub Lengthens-more : (s m t : Numbered) → Lengthens (length m.kept) s m → length s.kept ≤ length m.kept → SameShape m t → Grows m.kind m.kept t.kept → Lengthens (length t.kept) s t
 Lengthens-more s m t l longer shape g = record {

@@ -15,7 +15,7 @@ use Rattle.kq_value.specs.Values.{is_same_row}
 use Rattle.kq_value.proofs.Equals.{is_same_row-Decides, is_same_row-itself}
 use Rattle.kq_value.proofs.SameLemmas.{times-append}
 use Rattle.kq_group.specs.Grouped.{AggregateShape, AreKeys, args_of}
-use Rattle.kq_group.specs.Groups.{Grouping, shape_of, nothing, state_at, args_at, beside, HasAllGroups, HasGroups, Starts, AddsRows, Gathers, GatherAll, HasNoRows}
+use Rattle.kq_group.specs.Groups.{Grouping, shape_of, nothing, state_at, args_at, beside, HasAllGroups, HasGroups, AddsRows, Gathers, GatherAll}
 use Rattle.kq_group.specs.Keys.{AreNumbers, Numbers}
 use Rattle.kq_group.proofs.Tables.{stands_at}
 
@@ -161,9 +161,6 @@ numbers_along keys [] (r ∷ rows) are = absurd are
 numbers_along keys (n ∷ ns) [] are = absurd are
 numbers_along keys (n ∷ ns) (r ∷ rows) are = ap suc (numbers_along keys ns rows are.2)
 
-pub length-Numbers : (old new : List Key) (ns : List ℕ) (rows : List Key) → Numbers old new ns rows → length old ≤ length new
-length-Numbers old new ns rows g = let e = ap length g.whole ∙ length-append old g.added in omega (arith, e)
-
 -- what an aggregate keeps of a group, with rows more
 holds_more : (width : ℕ) (before keys old new : List Key) (ns : List ℕ) (had args : List Key) (s t : Numbered) (n : ℕ)
     → AreKeys width before old → All (HasWidth width) new → Once new → Numbers old new ns keys → length had ≡ length before → length args ≡ length keys → length s.kept ≡ length old → Gathers ns args (length new) s t
@@ -221,22 +218,3 @@ AddsRows-piece old new keys args ns whole width long each along once wide g gath
 }
 
 -- ---- groups of no rows
-
-pub AreKeys-none : (width : ℕ) (keys : List Key) → keys ≡ [] → 0 < width → AreKeys width [] keys
-AreKeys-none zero keys none some = absurd (omega arith)
-AreKeys-none (suc width) keys none some = record { each = λ k. ap (times k) none }
-
-fresh_at : (count : ℕ) (states : List Numbered) (a : ℕ) → All (HasNoRows count) states → a < length states → HasNoRows count (state_at states a)
-fresh_at count states a fresh h = fresh a nothing h
-
-pub Starts-fresh : (width : ℕ) (aggregates : List AggregateShape) (g : Grouping) → g.width ≡ width → map shape_of g.states ≡ aggregates → AreKeys width [] g.keys → All (HasNoRows (length g.keys)) g.states → Starts width aggregates g
-Starts-fresh width aggregates g is shapes keys fresh = record {
-  width_is = is;
-  shapes = shapes;
-  whole = whole_at (length g.keys) g.states (λ a h. (fresh_at (length g.keys) g.states a fresh h).count_is);
-  stands = record {
-    of_rows = rw is keys;
-    along = λ a h. refl;
-    holds = λ a n h within. (fresh_at (length g.keys) g.states a fresh h).fresh n within;
-  };
-}

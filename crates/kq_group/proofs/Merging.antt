@@ -17,9 +17,9 @@ use Rattle.kq_value.specs.Values.{is_same_row}
 use Rattle.kq_value.proofs.Equals.{is_same_row-Decides}
 use Rattle.kq_value.proofs.SameLemmas.{place_of, times-append}
 use Rattle.kq_group.specs.Grouped.{AggregateShape, AreKeys, args_of}
-use Rattle.kq_group.specs.Groups.{Grouping, shape_of, nothing, state_at, args_at, beside, HasAllGroups, HasGroups, HasNoRows, Lengthens, Stands}
+use Rattle.kq_group.specs.Groups.{Grouping, shape_of, nothing, state_at, args_at, beside, HasAllGroups, HasGroups, Lengthens, Stands}
 use Rattle.kq_group.specs.Keys.{AreNumbers, Numbers}
-use Rattle.kq_group.specs.Merges.{AbsorbAll, Absorbs, Keeps, Lacks, Merges, NoneBeyond, StandFor, TakesOver, Under, of_groups, picked, picked_states}
+use Rattle.kq_group.specs.Merges.{AbsorbAll, Absorbs, Keeps, Merges, NoneBeyond, StandFor, TakesOver, Under, of_groups, picked, picked_states}
 use Rattle.kq_group.proofs.Groupings.{args_of-append, args_of-none, beside_at, empty_times, fresh_key, old_key, one_empty, same_shape, same_shapes, same_test, whole_at}
 use Rattle.kq_group.proofs.Tables.{stands_at}
 
@@ -334,11 +334,3 @@ known_places count i d h = let long = length-range_with_len 0 count in let at = 
 
 pub once_all : (keys : List Key) (ns : List ℕ) → ns ≡ range_with_len 0 (length keys) → Once keys → Once (map (row_at keys) ns)
 once_all keys ns is once = rw (is, all_rows) once
-
-pub Lacks-fresh : (width : ℕ) (aggregates : List AggregateShape) (g : Grouping) → g.width ≡ width → map shape_of g.states ≡ aggregates → g.keys ≡ [] → All (HasNoRows 0) g.states → Lacks width aggregates g
-Lacks-fresh width aggregates g is shapes none fresh = record {
-  width_is = is;
-  shapes = shapes;
-  whole = whole_at (length g.keys) g.states (λ a h. (fresh a nothing h).count_is ∙ sym (ap length none));
-  none = none;
-}

@@ -1,5 +1,5 @@
 -- Tables of keys that take one more, and the numbers of rows.
-use Rattle.std.proofs.Common.{◌≡◌, ◌<◌, ◌≤◌, ◌⊎◌, ◌+◌, ◌^◌, inl, inr, ℕ, zero, suc, min, Bool, true, false, cond, List, [], ◌∷◌, ◌++◌, length, map, refl, sym, ap, ◌∙◌, subst, arith, append-nil, append_assoc, length-append}
+use Rattle.std.proofs.Common.{◌≡◌, ◌<◌, ◌≤◌, ◌⊎◌, ◌+◌, ◌^◌, inl, inr, ℕ, zero, suc, min, Bool, true, false, cond, List, [], ◌∷◌, ◌++◌, length, map, refl, sym, ap, ◌∙◌, subst, arith, append_assoc, length-append}
 use Rattle.std.proofs.lemmas.List.{map-append, get_or_append_left, length_push}
 use Rattle.std.proofs.lemmas.List.Elements.{All-push}
 use Rattle.kq_chain.specs.Chain.{ChainState}
@@ -38,18 +38,6 @@ IsTable-push t u key hash f heads width keys hashes chain hashed wide absent roo
   few = rw (keys, length_push) room;
 }
 
--- with other heads
-pub IsTable-heads : (t u : KeyTable) → IsTable t → 0 < u.heads → u.width ≡ t.width → u.keys ≡ t.keys → u.hashes.items ≡ t.hashes.items
-    → u.chain ≡ record { heads = u.heads; added = map (head_of u.heads) t.hashes.items } → IsTable u
-IsTable-heads t u f some width keys hashes chain = record {
-  some = some;
-  hashed = hashes ∙ f.hashed ∙ ap (map key_hash) (sym keys);
-  filed = chain ∙ ap (λ (hs : List ℕ). record { heads = u.heads; added = map (head_of u.heads) hs }) (sym hashes);
-  wide = rw (width, keys) f.wide;
-  apart = λ k. rw keys (f.apart k);
-  few = rw keys f.few;
-}
-
 -- ---- numbers
 
 -- keys that come last change no number
@@ -67,9 +55,6 @@ AreNumbers-push keys n r [] [] a h e = (h, e, tt)
 AreNumbers-push keys n r [] (s ∷ rows) a h e = absurd a
 AreNumbers-push keys n r (m ∷ ns) [] a h e = absurd a
 AreNumbers-push keys n r (m ∷ ns) (s ∷ rows) a h e = (a.0, a.1, AreNumbers-push keys n r ns rows a.2 h e)
-
-pub Numbers-none : (keys : List Key) → ((k : Key) → times k keys ≤ 1) → Numbers keys keys [] []
-Numbers-none keys apart = record { are = tt; added = []; whole = sym (append-nil keys); counts = λ k. omega (arith, apart k) }
 
 -- a row whose key is there
 known_count : (old mid rows : List Key) (k r : Key) (b : Bool) → is_same_row k r ≡ b → 0 < times r mid → times k mid ≡ min 1 (times k old + times k rows) → times k mid ≡ min 1 (times k old + (times k rows + cond b 1 0))

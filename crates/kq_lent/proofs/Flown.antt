@@ -1,18 +1,13 @@
 -- What comes through row operators of rows that are read in parts.
-use Rattle.std.proofs.Common.{◌≡◌, ◌<◌, ℕ, min, List, [], length, take, refl, sym, ap, ◌∙◌, arith, length-append}
+use Rattle.std.proofs.Common.{◌≡◌, ◌<◌, ℕ, min, List, [], length, take, sym, ap, ◌∙◌, arith, length-append}
 use Rattle.std.proofs.lemmas.List.{length-take}
 use Rattle.kq_piecewise.specs.Operators.{Row}
 use Rattle.kq_scalar.specs.Val.{Surroundings}
 use Rattle.kq_stretch.specs.Operators.{Rowwise}
-use Rattle.kq_stretch.specs.Ran.{Ran, came, failed, failure_of, joined, ran, width_in_end}
+use Rattle.kq_stretch.specs.Ran.{Ran, came, failed, joined, ran, width_in_end}
 use Rattle.kq_stretch.proofs.Laws.{joined_assoc, ran_append, ran_failed, ran_none, ran_take, ran_wide}
 use Rattle.kq_lent.specs.Flowing.{Flows, flowing}
 use Rattle.kq_lent.specs.Unread.{UnreadView, IsRead}
-
--- rows that have come change no failure
-pub failure_later : (rows : List Row) (r : Ran) → failure_of (joined (came rows) r) ≡ failure_of r
-failure_later rows (came others) = refl
-failure_later rows (failed n) = refl
 
 module _ (os : List Rowwise) (s : Surroundings) where
   pub none_left : (rows : List Row) → rows ≡ [] → ran os s rows ≡ came []

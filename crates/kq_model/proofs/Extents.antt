@@ -8,7 +8,6 @@ use Rattle.kq_model.specs.declared.batch.Batch.{Batch}
 use Rattle.kq_model.specs.Edits.{Edit, new_extents}
 use Rattle.kq_model.specs.Edits.Edit.{NewExtent}
 use Rattle.kq_model.specs.Records.{rows_to}
-use Rattle.kq_model.proofs.Records.{rows_to-push}
 
 -- one batch more is one extent more
 pub new_extents-push : (cursor id : ℕ) (before bs : List Batch) (b : Batch)
@@ -47,11 +46,3 @@ rows_before t n bs b within is =
     let more : take (n + 1) bs ≡ take n bs ++ b ∷ [] = take_more bs n b within ∙ ap (λ (x : Batch). take n bs ++ x ∷ []) (sym is) in
     let last : sum_by (λ (x : Batch). length x.rows) (take (n + 1) bs) ≡ sum_by (λ (x : Batch). length x.rows) (take n bs) + length b.rows = ap (sum_by (λ (x : Batch). length x.rows)) more ∙ sum_by_push (λ (x : Batch). length x.rows) (take n bs) b in
     omega (arith, last, rows_to-total t (take n bs), sum_by-take-drop (λ (x : Batch). length x.rows) bs (n + 1))
-
--- the first batches have no more rows than all
-pub total-take : (n : ℕ) (bs : List Batch) → sum_by (λ (x : Batch). length x.rows) (take n bs) ≤ sum_by (λ (x : Batch). length x.rows) bs
-total-take n bs = omega (arith, sum_by-take-drop (λ (x : Batch). length x.rows) bs n)
-
--- a batch more gives its table its rows
-pub rows_to-take : (t n : ℕ) (bs : List Batch) (b : Batch) → n < length bs → b ≡ get_or bs n b → rows_to t (take (n + 1) bs) ≡ rows_to t (take n bs) + cond (nat_eq b.table t) (length b.rows) 0
-rows_to-take t n bs b within is = ap (rows_to t) (take_more bs n b within ∙ ap (λ (x : Batch). take n bs ++ x ∷ []) (sym is)) ∙ rows_to-push t (take n bs) b

@@ -178,9 +178,6 @@ free_datatable c cs ls =
     (free_behind k.open_bracket (apart k.open_bracket k.semicolon refl) (grammar.cells_text ls ⨾ some (of k.close_bracket))
     (free_then (grammar.cells_text ls) (some (of k.close_bracket)) (free_cells ls) (free_some k.close_bracket (apart k.close_bracket k.semicolon refl))))
 
-free_mark : (is : Class) → ((t : Symbol) → of is t ≡ true → of k.semicolon t ≡ false) → (t : Symbol) (u : List Symbol) → of is t ≡ true → u ≡ t ∷ [] → free u
-free_mark is off t u h e = subst free (sym e) (off t h, tt)
-
 source_kind : (x : Kind) (a : SourceWord) → source_key x ≡ Some a → k.semicolon x ≡ false
 source_kind (kind.Punctuation s) a e = absurd (cc e)
 source_kind _ a e = refl

@@ -14,9 +14,6 @@ use Rattle.kq_reshape.specs.Cells.{cell_at}
 use Rattle.kq_reshape.specs.Distinct.{Apart, chosen}
 use Rattle.kq_reshape.specs.Known.{IsFiled}
 
-pub Apart-first : (columns : List ℕ) → Apart columns [] []
-Apart-first columns = record { each = λ r. refl }
-
 alone : (n : ℕ) → n + 0 ≡ n
 alone n = omega arith
 
