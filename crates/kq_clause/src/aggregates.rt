@@ -7,9 +7,9 @@ ghost use Rattle.kq_syntax.specs.Classes as k;
 ghost use Rattle.kq_syntax.specs.Classes.{of};
 ghost use Rattle.kq_syntax.specs.Forms.{expect, starts};
 ghost use Rattle.kq_syntax.specs.Outcomes.{IsOutcome};
+ghost use Rattle.kq_syntax.specs.Several.{first_and_others};
 
-use crate::lists::{COMMA, listed};
-use kq_expression::{read_expression, read_name};
+use kq_expression::{listed, read_expression, read_name};
 use kq_grammar::{Aggregate, Argument, Name};
 use kq_syntax::{Behind, Class, Cursor, Part, ReservedWord, Stop, Symbol, more};
 use kq_token::{Operator, Punctuation};
@@ -65,11 +65,12 @@ fn arguments(alloc: Global, cursor: &mut Cursor<'_>, budget: usize) -> Result<Ve
     }
     let argument = AnArgument { alloc, budget };
     found.push(argument.read(cursor)?)?;
+    let comma = Class::Sign(Punctuation::Comma);
     let next = Behind {
-        class: COMMA,
+        class: comma,
         part: &argument,
     };
-    more(budget, COMMA, &next, cursor, found)
+    more(budget, comma, &next, cursor, found)
 }
 
 #[tactic(auto, unfolding(crate::specs::Reading::in_parentheses))]
@@ -195,7 +196,7 @@ pub fn read_aggregates(
     cursor: &mut Cursor<'_>,
     budget: usize,
 ) -> Result<(Aggregate, Vec<Aggregate>), Stop>
-    ensures { IsOutcome (λ p. (aggregate_view p.0, map aggregate_view p.1.items)) (spec.aggregates budget cursor.old) result cursor.new }
+    ensures { IsOutcome (first_and_others aggregate_view) (spec.aggregates budget cursor.old) result cursor.new }
 {
     listed(alloc, cursor, budget, &AnAggregate { alloc, budget })
 }

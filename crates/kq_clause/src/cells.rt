@@ -6,12 +6,13 @@ ghost use Rattle.kq_syntax.specs.Classes.{of};
 ghost use Rattle.kq_syntax.specs.Forms.{expect, maybe, with_front};
 ghost use Rattle.kq_syntax.specs.Outcomes.{IsOutcome};
 
-use crate::lists::{COMMA, listed};
-use kq_expression::read_name;
+use kq_expression::{listed, read_name};
 use kq_grammar::{Cell, Column};
 use kq_syntax::{Class, Cursor, Part, Stop, Symbol};
 use kq_token::{Operator, Punctuation};
 use std::alloc::Global;
+
+const COMMA: Class = Class::Sign(Punctuation::Comma);
 
 // One column.
 #[derive(Clone, Copy)]

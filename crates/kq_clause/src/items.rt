@@ -7,10 +7,10 @@ ghost use Rattle.kq_syntax.specs.Classes as k;
 ghost use Rattle.kq_syntax.specs.Classes.{of};
 ghost use Rattle.kq_syntax.specs.Forms.{expect, maybe};
 ghost use Rattle.kq_syntax.specs.Outcomes.{IsOutcome};
+ghost use Rattle.kq_syntax.specs.Several.{first_and_others};
 ghost use Rattle.kq_syntax.specs.declared.word.ClauseWord.TheVariants as w;
 
-use crate::lists::listed;
-use kq_expression::{AName, read_expression};
+use kq_expression::{AName, listed, read_expression};
 use kq_grammar::{Expression, Grouping, Item, Key, Name, is_bare, item};
 use kq_syntax::{Class, ClauseWord, Cursor, Part, ReservedWord, Stop, Symbol};
 use kq_token::Operator;
@@ -74,7 +74,7 @@ pub fn read_items(
     cursor: &mut Cursor<'_>,
     budget: usize,
 ) -> Result<(Item, Vec<Item>), Stop>
-    ensures { IsOutcome (λ p. (item_view p.0, map item_view p.1.items)) (spec.items budget cursor.old) result cursor.new }
+    ensures { IsOutcome (first_and_others item_view) (spec.items budget cursor.old) result cursor.new }
 {
     listed(alloc, cursor, budget, &AnItem { alloc, budget })
 }
@@ -171,7 +171,7 @@ pub fn read_keys(
     cursor: &mut Cursor<'_>,
     budget: usize,
 ) -> Result<(Key, Vec<Key>), Stop>
-    ensures { IsOutcome (λ p. (key_view p.0, map key_view p.1.items)) (spec.keys budget cursor.old) result cursor.new }
+    ensures { IsOutcome (first_and_others key_view) (spec.keys budget cursor.old) result cursor.new }
 {
     listed(alloc, cursor, budget, &AKey { alloc, budget })
 }

@@ -4,8 +4,7 @@ ghost use Rattle.kq_clause.specs.Reading as spec;
 ghost use Rattle.kq_syntax.specs.Outcomes.{IsOutcome};
 ghost use Rattle.kq_token.specs.declared.kind.Side.TheVariants as side;
 
-use crate::lists::listed;
-use kq_expression::read_name;
+use kq_expression::{listed, read_name};
 use kq_grammar::{JoinKey, Name};
 use kq_syntax::{Class, Cursor, Part, Stop};
 use kq_token::{Operator, Punctuation, Side};

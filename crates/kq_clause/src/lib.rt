@@ -5,7 +5,6 @@ mod aggregates;
 mod cells;
 mod items;
 mod joins;
-mod lists;
 
 pub use aggregates::{AnAggregate, read_aggregates};
 pub use cells::{read_cells, read_columns};

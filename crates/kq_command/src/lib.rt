@@ -10,7 +10,6 @@ mod memory;
 mod properties;
 mod read;
 mod rows;
-mod types;
 mod unsupported;
 mod views;
 mod widening;

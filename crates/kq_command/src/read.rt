@@ -17,11 +17,11 @@ use crate::meanings::{identifier, piece, string_at};
 use crate::memory::Requests;
 use crate::properties::read_properties;
 use crate::rows::rows_after;
-use crate::types::ty_of;
 use crate::unsupported::unsupported;
 use crate::views::new_view;
 use kq_control::{ColumnList, Control, Statement};
 use kq_grammar::{Column as WrittenColumn, Query as WrittenQuery};
+use kq_spelled::ty_of;
 use kq_value::Memory;
 use std::alloc::Global;
 

@@ -1,18 +1,18 @@
 // Comparisons, `in` and `between`, of which one may stand behind a sum.
-ghost use Rattle.std.specs.Prelude.{◌≡◌, map};
+ghost use Rattle.std.specs.Prelude.{◌≡◌};
 ghost use Rattle.kq_expression.specs.Nests.{Nests};
 ghost use Rattle.kq_expression.specs.Reading as spec;
 ghost use Rattle.kq_expression.specs.BehindOperands.{compared_of, listed_of, ranged_of, related};
 ghost use Rattle.kq_grammar.specs.Precedences.{relation};
 ghost use Rattle.kq_grammar.specs.Views.{tree_of};
-ghost use Rattle.kq_syntax.specs.Classes as k;
 ghost use Rattle.kq_syntax.specs.Classes.{of};
-ghost use Rattle.kq_syntax.specs.Forms.{separated, starts};
+ghost use Rattle.kq_syntax.specs.Forms.{starts};
 ghost use Rattle.kq_syntax.specs.Outcomes.{IsOutcome};
 
+use crate::lists::listed;
 use crate::nesting::{Nested, Reader};
 use kq_grammar::{Expression, Interval, Link, between, compare, interval, link, within};
-use kq_syntax::{Behind, Class, Cursor, Part, Stop, more};
+use kq_syntax::{Class, Cursor, Stop};
 use kq_token::Punctuation;
 use std::alloc::Global;
 
@@ -43,22 +43,6 @@ impl<F: Fn(Global, &mut Cursor<'_>, usize) -> Result<Expression, Stop>> Reader<F
         Ok(compare(self.alloc, left, right)?)
     }
 
-    // One value or more.
-    fn values(&self, cursor: &mut Cursor<'_>) -> Result<(Expression, Vec<Expression>), Stop>
-        requires { Nests self.now.budget (F.pre self.now.expression) (F.post self.now.expression) }
-        ensures { IsOutcome (λ p. (tree_of p.0, map tree_of p.1.items)) (separated (of k.comma) (spec.expression self.now.budget) self.now.turns cursor.old) result cursor.new }
-    {
-        let value = Nested(self);
-        let first = value.read(cursor)?;
-        let comma = Class::Sign(Punctuation::Comma);
-        let next = Behind {
-            class: comma,
-            part: &value,
-        };
-        let others = more(self.turns, comma, &next, cursor, Vec::new(self.alloc))?;
-        Ok((first, others))
-    }
-
     // `in` or one of its kin with the first value, and the others.
     #[tactic(auto, unfolding(crate::specs::Reading::listing))]
     fn listed(&self, cursor: &mut Cursor<'_>) -> Result<(Link, Vec<Expression>), Stop>
@@ -67,7 +51,7 @@ impl<F: Fn(Global, &mut Cursor<'_>, usize) -> Result<Expression, Stop>> Reader<F
     {
         let operator = cursor.expect(Class::Membership)?;
         cursor.expect(Class::Sign(Punctuation::OpenParenthesis))?;
-        let (first, others) = self.values(cursor)?;
+        let (first, others) = listed(self.alloc, cursor, self.turns, &Nested(self))?;
         cursor.expect(Class::Sign(Punctuation::CloseParenthesis))?;
         Ok((link(operator, first), others))
     }

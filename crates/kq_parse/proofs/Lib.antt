@@ -1,4 +1,3 @@
-pub mod ChoiceLaws
 mod Deeper
 pub mod DepthLaws
 pub mod FreeLaws

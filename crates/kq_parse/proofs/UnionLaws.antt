@@ -18,10 +18,9 @@ use Rattle.kq_syntax.specs.Classes as k
 use Rattle.kq_syntax.specs.Classes.{Class, of}
 use Rattle.kq_syntax.specs.Forms.{Parser, one, some, ◌⨾◌, Bind, Then, Image, Many, starts, expect, bind, both, ◌<$>◌, skip, closed}
 use Rattle.kq_syntax.proofs.ClassLemmas.{apart, within, part}
-use Rattle.kq_syntax.proofs.Laws.{Exact, Example, Leads, nothing, starts_stops, bind_exact, both_exact, both_less, image_exact, one_exact, choose_exact, many_exact, skip_exact, skip_leads, closed_exact, closed_example}
+use Rattle.kq_syntax.proofs.Laws.{Exact, Example, Leads, nothing, starts_stops, bind_exact, both_exact, both_less, image_exact, one_exact, choose_exact, choose_first_exact, many_exact, skip_exact, skip_leads, closed_exact, closed_example}
 use Rattle.kq_expression.proofs.NameLaws.{example_of, starts_apart, one_leads, name_exact, name_example, name_leads}
 use Rattle.kq_clause.proofs.ListLaws.{Begins, front_begins}
-use Rattle.kq_parse.proofs.ChoiceLaws.{choose_first_exact}
 use Rattle.kq_parse.proofs.PartLaws.{skip_begins, then_begins, anything_follows, one_example, then_example, a_sign, an_open, a_close, a_kind}
 
 -- ---- in parentheses
@@ -289,6 +288,7 @@ module _ (rec : Parser Symbol TabularTree) (n : ℕ) (rec_exact : Exact tabular_
   pub union_exact : Exact union_text (of union_goes_on) (reading.union rec (suc n)) (suc n)
   unfolding reading.union
   union_exact =
-      choose_first_exact (of (k.clause w.Kind)) kind_form plain_form union_text (of union_goes_on) from_kind from_plain union_cases
+      choose_first_exact (of (k.clause w.Kind)) kind_form plain_form union_text (of union_goes_on) from_kind from_plain
+      (λ y u s. elim (union_cases y u s) [ inl named ↦ inl named | inr plain ↦ inr (plain.0, λ z stops. plain.1 z) ])
       (λ y u z s stops. front_begins (k.clause w.Kind) (one (of (k.clause w.Kind)) s.value.0) (behind_form s.value.0 s.value.1) true (one_leads (k.clause w.Kind) s.value.0) u z s.spelled)
       (suc n) (reading.kind_union rec (suc n)) (reading.plain_union rec (suc n)) kind_union_exact plain_exact

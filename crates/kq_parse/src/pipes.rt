@@ -8,6 +8,7 @@ ghost use Rattle.kq_parse.specs.Reading as spec;
 ghost use Rattle.kq_syntax.specs.declared.kind.Symbol.{Symbol as Shown};
 ghost use Rattle.kq_syntax.specs.Forms.{skip, many, with_front};
 ghost use Rattle.kq_syntax.specs.Outcomes.{IsOutcome};
+ghost use Rattle.kq_syntax.specs.Several.{first_and_others};
 
 use crate::bodies::{
     read_datatable, read_distinct, read_expansion, read_kind, read_range, read_summarize,
@@ -82,7 +83,7 @@ impl<F: Fn(Global, &mut Cursor<'_>, usize) -> Result<Box<Tabular>, Stop>> Reader
     // One arm or more.
     fn arms(&self, cursor: &mut Cursor<'_>) -> Result<(Arm, Vec<Arm>), Stop>
         requires { Nests self.now.budget (F.pre self.now.tabular) (F.post self.now.tabular) }
-        ensures { IsOutcome (λ p. (arm_of p.0, map arm_of p.1.items)) (spec.all_arms (spec.tabular self.now.budget) self.now.turns cursor.old) result cursor.new }
+        ensures { IsOutcome (first_and_others arm_of) (spec.all_arms (spec.tabular self.now.budget) self.now.turns cursor.old) result cursor.new }
     {
         let first = self.arm(cursor)?;
         let others = self.more_arms(cursor)?;

@@ -3,5 +3,6 @@ pub mod Classes
 pub mod Forms
 pub mod Outcomes
 pub mod Located
+pub mod Several
 pub mod Switching
 pub mod Words
