@@ -2,12 +2,11 @@
 ghost use Rattle.std.specs.Prelude.{◌<◌, All, IfOk};
 ghost use Rattle.kq_world.specs.World.{IsFresh};
 
+use super::steps::work;
 use super::worlds::{cursor_of, ended, feed, parts, served};
 use crate::ended::Run;
 use kq_catalog::Catalog;
-use kq_command::read_command;
-use kq_engine::{Prepared, Ready, Work, begin};
-use kq_model::By;
+use kq_engine::{Prepared, Ready, begin};
 use kq_reply::Reply;
 use kq_value::{Bytes, Memory};
 use kq_world::{Feed, HoldGate, MemoryWorld, OpenGate};
@@ -119,20 +118,9 @@ fn batches_script(alloc: Global) -> Result<String, Memory> {
 }
 
 fn prepared(alloc: Global, catalog: &Catalog, query: &[u8]) -> Result<Prepared, Fail> {
-    let command = read_command(alloc, query)?;
+    let work = work(alloc, 0, query)?;
     let snapshot = catalog.snapshot()?;
-    let by = By {
-        actor: 0,
-        number: 1,
-    };
-    Ok(begin(
-        &snapshot,
-        Work {
-            by,
-            command,
-            now: 0,
-        },
-    )?)
+    Ok(begin(&snapshot, work)?)
 }
 
 fn rows_of(reply: Reply) -> Option<Bytes> {

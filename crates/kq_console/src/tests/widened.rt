@@ -1,14 +1,11 @@
 // Steps between which a table gets further columns.
-use super::steps::{printed, steps, tells};
-use kq_engine::run_steps;
+use super::steps::{E, printed, ran, tells};
 use kq_model::Limits;
 use std::test::Fail;
 
 #[test]
 fn rows_read_before_a_table_got_columns_are_widened(rt: HostRuntime) -> Result<(), Fail> {
     let rows = [
-        (0, ".create table E (k:long)"),
-        (0, ""),
         (1, ".ingest inline into table E <|\n1"),
         (2, ".alter-merge table E (k:long, s:string, v:long)"),
         (2, ""),
@@ -23,8 +20,7 @@ fn rows_read_before_a_table_got_columns_are_widened(rt: HostRuntime) -> Result<(
         (1, b'i', 3),
         (3, b'r', widened.len() as u64),
     ];
-    let steps = steps(rt.alloc(), &rows)?;
-    let trace = run_steps(rt.alloc(), Limits::full(), steps)?;
+    let trace = ran(rt.alloc(), Limits::full(), &[E], &rows)?;
     assert!(rt; tells(&trace, &expected) && printed(&trace, 3) == Some((3, widened.as_slice())));
     Ok(())
 }
