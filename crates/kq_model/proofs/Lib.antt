@@ -14,7 +14,6 @@ pub mod Merging
 pub mod Passed
 pub mod Places
 pub mod Policies
-pub mod Reading
 pub mod Records
 pub mod Repeats
 pub mod States
