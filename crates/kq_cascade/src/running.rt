@@ -85,7 +85,7 @@ pub fn cascade<T: Tables>(
     })
 }
 
-// RunsDue the query of an entry for the batch whose entries run, which is laid out for all of them.
+// Runs the query of an entry for the batch whose entries run, which is laid out for all of them.
 fn run<T: Tables>(
     alloc: Global,
     tables: &T,

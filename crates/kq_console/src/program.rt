@@ -29,7 +29,7 @@ pub const MEMORY: u8 = 1;
 /// A feed couldn't be opened.
 pub const NOT_OPENED: u8 = 5;
 
-/// RunsProgram session 0, the feeds and the workers beside each other on a new catalogue. `words` are the words after the
+/// Runs session 0, the feeds and the workers beside each other on a new catalogue. `words` are the words after the
 /// program's name. Where they ask for a generated script, session 0 has that in place of its own. It waits for all of them.
 pub fn run<R: Threads + Wait + Sync, W: World, G: Gate + Sync>(
     rt: &R,
@@ -81,7 +81,7 @@ fn run_sessions<R: Threads + Wait + Sync, W: World, G: Gate + Sync>(
     }
 }
 
-// RunsProgram the feeds that were opened, and the workers, beside session 0, whose script may be generated.
+// Runs the feeds that were opened, and the workers, beside session 0, whose script may be generated.
 fn run_opened<R: Threads + Wait + Sync, W: World, G: Gate + Sync>(
     rt: &R,
     alloc: Global,

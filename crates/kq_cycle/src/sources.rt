@@ -5,7 +5,7 @@ ghost use Rattle.kq_cycle.specs.Search.{AddsSources, HasSource, marked_with, ope
 use kq_model::Entry;
 use kq_value::Memory;
 
-// AddsSources the sources of a policy that weren't found before to those that are still to be gone through. It stops where one is the target.
+// Adds the sources of a policy that weren't found before to those that are still to be gone through. It stops where one is the target.
 pub(crate) fn add_sources(
     policy: &[Entry],
     target: u32,

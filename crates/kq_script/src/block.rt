@@ -88,7 +88,7 @@ impl OpenBlock {
         (bytes.len(), None)
     }
 
-    /// AppendsItem the last block, which the end closes.
+    /// Gives the last block, which the end closes.
     pub fn finish(&mut self) -> Option<Item>
         requires { self.old.count < 2 ^ 64 - 1 }
         ensures limit { self.new.limit ≡ self.old.limit }

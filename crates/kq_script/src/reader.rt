@@ -86,7 +86,7 @@ impl ScriptReader {
         }
     }
 
-    // ReadsItem piece by piece, up to the first closed block or the end.
+    // Reads piece by piece, up to the first closed block or the end.
     fn read_on<S: Source>(&mut self, source: &mut S) -> Result<Item, ScriptFault>
         requires { self.old.phase ≡ Phase.Reading }
         ensures cause { CausedBy (S.faults source.old) (S.faults source.new) result }
@@ -169,7 +169,7 @@ impl ScriptReader {
     }
 }
 
-// ReadsItem into the front of the piece, of which `room` bytes may be taken.
+// Reads into the front of the piece, of which `room` bytes may be taken.
 fn read_piece<S: Source>(source: &mut S, piece: &mut [u8], room: usize) -> Result<usize, Failed>
     requires some { 0 < room }
     requires within { room ≤ length piece.old }
