@@ -13,7 +13,7 @@ use Rattle.kq_value.specs.declared.ty.Ty.{Ty}
 use Rattle.kq_value.specs.declared.ty.Ty.TheVariants as ty
 use Rattle.kq_value.specs.declared.value.Value.{Value}
 use Rattle.kq_value.specs.declared.value.Value.TheVariants.{Long, Span}
-use Rattle.kq_written.specs.Numerals.{is_long}
+use Rattle.kq_conversions.specs.kq_written.Numerals.{is_long}
 use Rattle.kq_agg.specs.Aggregates.{aggregate_kind, HaveTheTypes, GivesTypes}
 use Rattle.kq_agg.specs.Holds.{Kept, counted, summed, extreme, chosen, collected, Holds, Cell, finished, firsts, present, is_present}
 use Rattle.kq_agg.specs.Ranks.{first_of, side_cmp, choice_cmp, IsLast}

@@ -13,8 +13,8 @@ use Rattle.kq_value.specs.declared.ty.Ty.{Ty}
 use Rattle.kq_value.specs.declared.ty.Ty.TheVariants as ty
 use Rattle.kq_value.specs.declared.value.Value.{Value}
 use Rattle.kq_value.specs.declared.value.Value.TheVariants.{Long, Dynamic}
-use Rattle.kq_written.specs.Conversions.{item_of}
-use Rattle.kq_written.specs.Members.{trees_from_list}
+use Rattle.kq_conversions.specs.kq_written.Conversions.{item_of}
+use Rattle.kq_conversions.specs.kq_written.Members.{trees_from_list}
 use Rattle.kq_agg.specs.Ranks.{first_of, side_cmp, key_of, is_hollow, IsLast}
 use Rattle.kq_agg.specs.declared.kind.Kind.{Kind}
 use Rattle.kq_agg.specs.declared.kind.Kind.TheVariants as kind

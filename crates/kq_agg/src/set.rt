@@ -5,7 +5,7 @@ ghost use Rattle.kq_conversions.specs.Converted.{in_range};
 ghost use Rattle.kq_value.specs.Seen.{tree_of};
 ghost use Rattle.kq_value.specs.Tree.{tree_depth};
 ghost use Rattle.kq_value.specs.Values.{is_same};
-ghost use Rattle.kq_written.specs.Conversions.{item_of};
+ghost use Rattle.kq_conversions.specs.kq_written.Conversions.{item_of};
 ghost use Rattle.kq_agg.specs.Holds.{is_element, set_of, tree_in};
 ghost use Rattle.kq_agg.specs.Steps.{Unites, with_element, with_value};
 

@@ -2,3 +2,4 @@ pub mod Arithmetic
 pub mod Comparing
 pub mod Logic
 pub mod Numbers
+pub mod kq_written

@@ -4,16 +4,16 @@ use Rattle.kq_bind_steps.specs.Flows.{Progressing, Flowing, following}
 use Rattle.kq_bind.specs.Pipes.{tabular}
 use Rattle.kq_bind_steps.specs.Scopes.{Scoping, Tabling, names, tabling_named}
 use Rattle.kq_bind_supported.specs.Unsupported.{unsupported_query}
-use Rattle.kq_bind_columns.specs.Items.{field}
-use Rattle.kq_bind_columns.specs.Naming.{is_taken}
-use Rattle.kq_bind_expression.specs.Bound.{bound}
-use Rattle.kq_bind_expression.specs.Verdicts.{Verdict, mistyped, and_then, supported_or}
+use Rattle.kq_bind_steps.specs.kq_bind_columns.Items.{field}
+use Rattle.kq_bind_steps.specs.kq_bind_columns.Naming.{is_taken}
+use Rattle.kq_bind_steps.specs.kq_bind_expression.Bound.{bound}
+use Rattle.kq_bind_steps.specs.kq_bind_expression.Verdicts.{Verdict, mistyped, and_then, supported_or}
 use Rattle.kq_expr.specs.Terms.{Bound}
 use Rattle.kq_grammar.specs.declared.expression.Name.{Name}
 use Rattle.kq_grammar.specs.Trees.{Tree, name, group, TabularTree, LetTree, QueryTree}
 use Rattle.kq_plan.specs.Names.{Known}
 use Rattle.kq_plan.specs.Plans.{Planned, scalar as scalar_step}
-use Rattle.kq_spelled.specs.Names.{name_said, name_place}
+use Rattle.kq_bind_steps.specs.kq_spelled.Names.{name_said, name_place}
 use Rattle.kq_syntax.specs.Choices.{Right, scalar, table, either}
 use Rattle.kq_value.specs.declared.schema.Field.{Field}
 

@@ -4,20 +4,20 @@ ghost use Rattle.kq_bind_steps.specs.Scopes.{tabling_named};
 ghost use Rattle.kq_bind.specs.Queries as the;
 ghost use Rattle.kq_bind.specs.Seen.{letting_of};
 ghost use Rattle.kq_bind_steps.specs.Seen.{flow_of, tabling_of};
-ghost use Rattle.kq_bind_columns.specs.Naming.{is_taken};
-ghost use Rattle.kq_bind_expression.specs.Verdicts.{AnswersVerdict};
+ghost use Rattle.kq_bind_steps.specs.kq_bind_columns.Naming.{is_taken};
+ghost use Rattle.kq_bind_steps.specs.kq_bind_expression.Verdicts.{AnswersVerdict};
 ghost use Rattle.kq_expr.specs.Terms.{typed_of};
 ghost use Rattle.kq_grammar.specs.TabularViews.{tabular_of, right_of, let_of};
 ghost use Rattle.kq_grammar.specs.Views.{tree_of};
 
 use crate::pipe::bind_tabular;
-use kq_bind_columns::is_taken as field_is_taken;
-use kq_bind_expression::{BindFault, bind_expression};
-use kq_bind_steps::{Flow, Progress, Scope, TabularLet, following, tabular_let};
+use kq_bind_steps::{
+    BindFault, Flow, Progress, Scope, TabularLet, bind_expression, following,
+    is_taken as field_is_taken, name_place, name_text, tabular_let,
+};
 use kq_expr::Typed;
 use kq_grammar::{Expression, Let, LetRight, Name, Tabular};
 use kq_plan::{Names, Work};
-use kq_spelled::{name_place, name_text};
 use kq_value::{Field, Memory, Text};
 use std::alloc::Global;
 
@@ -100,7 +100,7 @@ fn scalar_let<N: Names>(
 ) -> Result<Lets, BindFault>
     ensures { AnswersVerdict letting_of (the.scalar_let text.now (N.known names.now) (letting_of lets) name (tree_of tree.now)) result }
 {
-    let scope = kq_bind_expression::Scope {
+    let scope = kq_bind_steps::Scope {
         text,
         lets: &lets.scalars,
     };

@@ -5,4 +5,5 @@ mod lets;
 mod pipe;
 mod query;
 
+pub use kq_bind_supported::unsupported_in_query;
 pub use query::bind;

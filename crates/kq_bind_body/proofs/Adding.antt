@@ -1,17 +1,17 @@
 -- Each operator that a body may have adds one step, which takes the rows that come.
 use Rattle.std.proofs.Common.{◌≡◌, ℕ, Bool, true, false, cond, List, [], ◌∷◌, map, Some, Ok, Err, refl}
-use Rattle.kq_bind.specs.Pipes.{operated}
-use Rattle.kq_bind_aggregates.specs.Gathered.{no_aggregate, aggregates_made}
-use Rattle.kq_bind_columns.specs.Chosen.{chosen, without, names_given, renamed as fields_renamed}
-use Rattle.kq_bind_columns.specs.Defaults.{first_token}
-use Rattle.kq_bind_columns.specs.Items.{nothing_made, items_made}
-use Rattle.kq_bind_columns.specs.Laying.{as_they_are, over}
+use Rattle.kq_fitting.specs.kq_bind.Pipes.{operated}
+use Rattle.kq_fitting.specs.kq_bind_aggregates.Gathered.{no_aggregate, aggregates_made}
+use Rattle.kq_fitting.specs.kq_bind_columns.Chosen.{chosen, without, names_given, renamed as fields_renamed}
+use Rattle.kq_fitting.specs.kq_bind_columns.Defaults.{first_token}
+use Rattle.kq_fitting.specs.kq_bind_columns.Items.{nothing_made, items_made}
+use Rattle.kq_fitting.specs.kq_bind_columns.Laying.{as_they_are, over}
 use Rattle.kq_bind_expression.specs.Bound.{bound}
 use Rattle.kq_bind_expression.specs.Verdicts.{Verdict, and_then, mistyped}
-use Rattle.kq_bind_steps.specs.Clauses.{summarized_by, grouped, grouping_items}
-use Rattle.kq_bind_steps.specs.Flows.{Flowing, columns, after, following}
-use Rattle.kq_bind_steps.specs.Operators.{where_true, filtered, laid_after, projected, extended, dropped, new_name, old_name, renamed}
-use Rattle.kq_bind_steps.specs.Scopes.{Scoping, names}
+use Rattle.kq_fitting.specs.kq_bind_steps.Clauses.{summarized_by, grouped, grouping_items}
+use Rattle.kq_fitting.specs.kq_bind_steps.Flows.{Flowing, columns, after, following}
+use Rattle.kq_fitting.specs.kq_bind_steps.Operators.{where_true, filtered, laid_after, projected, extended, dropped, new_name, old_name, renamed}
+use Rattle.kq_fitting.specs.kq_bind_steps.Scopes.{Scoping, names}
 use Rattle.kq_body.specs.Bodies.{Part, table_name, row_operator, summarize as summarize_part, foreign}
 use Rattle.kq_body.specs.Parts.{role_of, in_role}
 use Rattle.kq_expr.specs.Terms.{Bound}

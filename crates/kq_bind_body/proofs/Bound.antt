@@ -2,12 +2,12 @@
 use Rattle.std.proofs.Common.{◌≡◌, ℕ, suc, ◌+◌, Bool, true, false, cond, List, [], ◌∷◌, ◌++◌, length, Option, Some, None, Ok, refl, sym, ap, ◌∙◌, subst}
 use Rattle.std.proofs.lemmas.List.Elements.{All-nil}
 use Rattle.std.proofs.lemmas.Slice.Eq.{bytes_eq-Decides}
-use Rattle.kq_bind.specs.Pipes.{tabular, piped}
-use Rattle.kq_bind.specs.Queries.{nothing_let, scope_of, lets_made, planned, query_walked, query_bound}
+use Rattle.kq_fitting.specs.kq_bind.Pipes.{tabular, piped}
+use Rattle.kq_fitting.specs.kq_bind.Queries.{nothing_let, scope_of, lets_made, planned, query_walked, query_bound}
 use Rattle.kq_bind_expression.specs.Verdicts.{Verdict, and_then, supported_or}
-use Rattle.kq_bind_steps.specs.Flows.{Progressing, Flowing, following}
-use Rattle.kq_bind_steps.specs.Scopes.{leaf_of, source_named}
-use Rattle.kq_bind_supported.specs.Unsupported.{unsupported_query}
+use Rattle.kq_fitting.specs.kq_bind_steps.Flows.{Progressing, Flowing, following}
+use Rattle.kq_fitting.specs.kq_bind_steps.Scopes.{leaf_of, source_named}
+use Rattle.kq_fitting.specs.kq_bind_supported.Unsupported.{unsupported_query}
 use Rattle.kq_body.specs.Bodies.{table_name, foreign, is_steps, is_body}
 use Rattle.kq_body.specs.Parts.{foreign_at, lets_place, none, is_table, source_part, operator_parts, pipe_parts, query_parts}
 use Rattle.kq_fitting.proofs.Progress.{then_ok, done, done_is}
@@ -20,7 +20,7 @@ use Rattle.kq_plan.specs.declared.work.LeafKind.TheVariants as kind
 use Rattle.kq_plan.specs.Fits.{FitsStep, FitAfter}
 use Rattle.kq_plan.specs.Names.{Known}
 use Rattle.kq_plan.specs.Plans.{Doing, leaf, Stepping, Planned}
-use Rattle.kq_spelled.specs.Names.{name_said, name_place}
+use Rattle.kq_fitting.specs.kq_spelled.Names.{name_said, name_place}
 use Rattle.kq_value.specs.declared.schema.Field.{Field}
 use Rattle.kq_bind_body.proofs.Growing.{IsRowStep, IsBegun, IsEnded, piped_ends}
 

@@ -1,9 +1,9 @@
 -- Behind the rows of a table, the operators of a body make the steps of one.
 use Rattle.std.proofs.Common.{◌≡◌, ℕ, suc, ◌+◌, true, List, [], ◌∷◌, ◌++◌, length, All, Option, Some, None, Ok, ap, subst, length-append, arith}
 use Rattle.std.proofs.lemmas.List.Elements.{All-push}
-use Rattle.kq_bind.specs.Pipes.{operated, piped}
-use Rattle.kq_bind_steps.specs.Flows.{Flowing}
-use Rattle.kq_bind_steps.specs.Scopes.{Scoping}
+use Rattle.kq_fitting.specs.kq_bind.Pipes.{operated, piped}
+use Rattle.kq_fitting.specs.kq_bind_steps.Flows.{Flowing}
+use Rattle.kq_fitting.specs.kq_bind_steps.Scopes.{Scoping}
 use Rattle.kq_body.specs.Bodies.{Part, table_name, row_operator, summarize, foreign, is_steps}
 use Rattle.kq_body.specs.Moments.{moment_in_body}
 use Rattle.kq_body.specs.Parts.{foreign_at, role_of, in_role, operator_parts}

@@ -1,6 +1,6 @@
 // A view's body bound.
 ghost use Rattle.std.specs.Prelude.{◌≡◌, List, Some, IfOk};
-ghost use Rattle.kq_bind.specs.Queries.{query_bound};
+ghost use Rattle.kq_fitting.specs.kq_bind.Queries.{query_bound};
 ghost use Rattle.kq_body.specs.Parts.{query_parts};
 ghost use Rattle.kq_grammar.specs.TabularViews.{query_of};
 ghost use Rattle.kq_grouping.specs.Bodies.{IsBody};

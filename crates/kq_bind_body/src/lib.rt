@@ -6,3 +6,4 @@ mod fault;
 
 pub use body::bind_body;
 pub use fault::ViewFault;
+pub use kq_fitting::unsupported_in_query;

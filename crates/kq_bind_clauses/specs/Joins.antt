@@ -3,14 +3,14 @@ use Rattle.std.specs.Prelude.{ℕ, Bool, ◌&&◌, not, List, [], ◌∷◌, ◌
 use Rattle.kq_bind_columns.specs.Chosen.{place_in}
 use Rattle.kq_bind_columns.specs.Items.{field}
 use Rattle.kq_bind_columns.specs.Naming.{free_name}
-use Rattle.kq_bind_expression.specs.Verdicts.{Verdict, mistyped, and_then}
+use Rattle.kq_bind_columns.specs.kq_bind_expression.Verdicts.{Verdict, mistyped, and_then}
 use Rattle.kq_grammar.specs.declared.clause.JoinKey.{JoinKey}
 use Rattle.kq_grammar.specs.declared.clause.JoinKey.TheVariants as key
 use Rattle.kq_grammar.specs.declared.expression.Name.{Name}
 use Rattle.kq_grammar.specs.declared.expression.Name.TheVariants as shown
 use Rattle.kq_plan.specs.declared.work.JoinKind.{JoinKind}
 use Rattle.kq_plan.specs.declared.work.JoinKind.TheVariants as join
-use Rattle.kq_spelled.specs.Names.{name_place}
+use Rattle.kq_bind_columns.specs.kq_spelled.Names.{name_place}
 use Rattle.kq_syntax.specs.declared.kind.Kind.{Kind}
 use Rattle.kq_syntax.specs.declared.kind.Kind.TheVariants as kind
 use Rattle.kq_syntax.specs.declared.kind.Quoted.TheVariants as quoted

@@ -4,3 +4,5 @@ pub mod Unions
 pub mod Tables
 pub mod Ranges
 pub mod Seen
+pub mod kq_bind_columns
+pub mod kq_bind_expression

@@ -8,7 +8,7 @@ use Rattle.kq_bind_expression.specs.Lookup.{first_named}
 use Rattle.kq_bind_expression.specs.Verdicts.{Verdict, mistyped, unknown, and_then, or_fault}
 use Rattle.kq_expr.specs.Terms.{column}
 use Rattle.kq_grammar.specs.declared.expression.Name.{Name}
-use Rattle.kq_spelled.specs.Names.{name_said, name_place}
+use Rattle.kq_bind_expression.specs.kq_spelled.Names.{name_said, name_place}
 use Rattle.kq_value.specs.declared.schema.Field.{Field}
 use Rattle.kq_value.specs.declared.ty.Ty.{Ty}
 use Rattle.kq_value.specs.declared.ty.Ty.TheVariants as ty

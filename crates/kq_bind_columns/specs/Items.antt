@@ -9,7 +9,7 @@ use Rattle.kq_bind_expression.specs.Verdicts.{Verdict, mistyped, and_then}
 use Rattle.kq_expr.specs.Terms.{Term, Bound}
 use Rattle.kq_grammar.specs.declared.expression.Name.{Name}
 use Rattle.kq_grammar.specs.Trees.{Tree, ItemTree, plain, named}
-use Rattle.kq_spelled.specs.Names.{name_said, name_place}
+use Rattle.kq_bind_expression.specs.kq_spelled.Names.{name_said, name_place}
 use Rattle.kq_value.specs.declared.schema.Field.{Field}
 use Rattle.kq_value.specs.declared.ty.Ty.{Ty}
 use Rattle.kq_value.specs.declared.ty.Ty.TheVariants as ty

@@ -3,12 +3,11 @@ ghost use Rattle.std.specs.Prelude.{◌≡◌, false, [], ◌∷◌, IfOk, map, 
 ghost use Rattle.kq_bind_columns.specs.Chosen.{has_number as the_has_number, choose as the_choose, place_in as the_place_in, chosen as the_chosen, all_chosen as the_all_chosen, columns_at as the_columns_at, without as the_without};
 ghost use Rattle.kq_bind_columns.specs.Made.{columns_of};
 ghost use Rattle.kq_bind_expression.specs.Verdicts.{AnswersVerdict, and_then};
-ghost use Rattle.kq_spelled.specs.Names.{name_place as place_of};
+ghost use Rattle.kq_bind_expression.specs.kq_spelled.Names.{name_place as place_of};
 
 use crate::laying::{Laid, column};
-use kq_bind_expression::{BindFault, first_named};
+use kq_bind_expression::{BindFault, first_named, name_place, name_text};
 use kq_grammar::Name;
-use kq_spelled::{name_place, name_text};
 use kq_value::{Field, Memory, Ty};
 use std::alloc::Global;
 

@@ -3,13 +3,11 @@ ghost use Rattle.std.specs.Prelude.{◌≡◌, IfOk, map};
 ghost use Rattle.kq_bind_columns.specs.Defaults.{if_column as the_if_column, column_of as the_column_of, path_name as the_path_name, name_kept as the_name_kept, default_name as the_default_name, keeps_column as the_keeps_column, keeps_path as the_keeps_path, joined_names as the_joined_names};
 ghost use Rattle.kq_grammar.specs.Trees.{path, member};
 ghost use Rattle.kq_grammar.specs.Views.{tree_of, step_of, steps_of};
-ghost use Rattle.kq_spelled.specs.Names.{name_said};
+ghost use Rattle.kq_bind_expression.specs.kq_spelled.Names.{name_said};
 
 use crate::naming::is_taken;
-use kq_fn::{Function, find};
-use kq_grammar::{Expression, Name, Step};
-use kq_spelled::{name_text, piece};
-use kq_syntax::Symbol;
+use kq_bind_expression::{Function, find, name_text, piece};
+use kq_grammar::{Expression, Name, Step, Symbol};
 use kq_value::{Field, Memory, Text};
 use std::alloc::Global;
 

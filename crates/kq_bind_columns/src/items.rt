@@ -10,10 +10,9 @@ ghost use Rattle.kq_grammar.specs.Views.{tree_of, item_view};
 use crate::defaults::default_name;
 use crate::naming::{free_name, is_taken, numbered};
 use crate::places::first_token;
-use kq_bind_expression::{BindFault, Scope, bind_expression, unsupported};
+use kq_bind_expression::{BindFault, Scope, bind_expression, name_place, name_text, unsupported};
 use kq_expr::{Expr, Typed};
 use kq_grammar::{Expression, Item, Name};
-use kq_spelled::{name_place, name_text};
 use kq_value::{Field, Text, Ty};
 use std::alloc::Global;
 

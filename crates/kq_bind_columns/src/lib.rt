@@ -15,6 +15,10 @@ pub use defaults::default_name;
 pub use items::{
     Made, all_made, items_made, nothing_made, operand, unsupported_item, unsupported_items,
 };
+pub use kq_bind_expression::{
+    BindFault, Scope, bind_expression, first_named, literal_value, name_place, name_text, piece,
+    taken, ty_of, unsupported, valueless,
+};
 pub use laying::{Laid, as_they_are, over};
 pub use naming::{free_name, is_taken, numbered};
 pub use places::first_token;

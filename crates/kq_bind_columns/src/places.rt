@@ -3,8 +3,8 @@ ghost use Rattle.std.specs.Prelude.{◌≡◌};
 ghost use Rattle.kq_bind_columns.specs.Defaults.{first_token as token_of};
 ghost use Rattle.kq_grammar.specs.Views.{tree_of};
 
+use kq_bind_expression::name_place;
 use kq_grammar::Expression;
-use kq_spelled::name_place;
 
 /// Where an expression begins: the place of a fault that is the expression's as a whole.
 pub fn first_token(tree: &Expression) -> usize

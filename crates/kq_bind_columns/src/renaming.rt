@@ -4,9 +4,8 @@ ghost use Rattle.kq_bind_columns.specs.Chosen.{names_given as the_names_given, n
 ghost use Rattle.kq_bind_expression.specs.Verdicts.{AnswersVerdict};
 
 use crate::naming::is_taken;
-use kq_bind_expression::BindFault;
+use kq_bind_expression::{BindFault, name_place, name_text};
 use kq_grammar::Name;
-use kq_spelled::{name_place, name_text};
 use kq_value::{Field, Memory, Text, Ty};
 use std::alloc::Global;
 

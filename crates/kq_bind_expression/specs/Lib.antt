@@ -6,3 +6,5 @@ pub mod Apply
 pub mod Operators
 pub mod Bound
 pub mod Unsupported
+pub mod kq_spelled
+pub mod kq_fn

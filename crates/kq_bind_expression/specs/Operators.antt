@@ -2,7 +2,7 @@
 use Rattle.kq_fn.specs.declared.function.Function.{Function}
 use Rattle.kq_fn.specs.declared.function.Function.TheVariants as f
 use Rattle.kq_grammar.specs.Trees.{Precedence, disjunction, conjunction, sum, product}
-use Rattle.kq_strings.specs.declared.find.FindKind.TheVariants as find
+use Rattle.kq_fn.specs.kq_strings.TheVariants as find
 use Rattle.kq_syntax.specs.declared.kind.Kind.{Kind}
 use Rattle.kq_syntax.specs.declared.kind.Kind.TheVariants as kind
 use Rattle.kq_syntax.specs.declared.word.ReservedWord.{ReservedWord}

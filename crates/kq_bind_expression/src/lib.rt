@@ -13,6 +13,8 @@ mod scope;
 pub use apply::taken;
 pub use depth::bind_expression;
 pub use fault::BindFault;
+pub use kq_fn::{Function, find};
+pub use kq_spelled::{literal_value, name_place, name_text, piece, ty_of};
 pub use literals::{unsupported, valueless};
 pub use lookup::first_named;
 pub use scope::Scope;

@@ -3,9 +3,8 @@ ghost use Rattle.std.specs.Prelude.{◌≡◌};
 ghost use Rattle.kq_bind_expression.specs.Operators as the;
 ghost use Rattle.kq_grammar.specs.Views.{precedence_of};
 
-use kq_fn::Function;
+use kq_fn::{FindKind, Function};
 use kq_grammar::Level;
-use kq_strings::FindKind;
 use kq_syntax::{Kind, ReservedWord, Word};
 use kq_token::{Operator, WordOperator};
 

@@ -4,18 +4,17 @@ ghost use Rattle.std.specs.Option.{option_map};
 ghost use Rattle.kq_bind_supported.specs.Unsupported as the;
 ghost use Rattle.kq_bind_aggregates.specs.Unsupported.{unsupported_aggregates as aggregates_in};
 ghost use Rattle.kq_bind_clauses.specs.Tables.{unsupported_columns, unsupported_cells};
-ghost use Rattle.kq_bind_columns.specs.Items.{unsupported_items};
-ghost use Rattle.kq_bind_expression.specs.Unsupported.{or_later};
+ghost use Rattle.kq_bind_clauses.specs.kq_bind_columns.Items.{unsupported_items};
+ghost use Rattle.kq_bind_clauses.specs.kq_bind_expression.Unsupported.{or_later};
 ghost use Rattle.kq_grammar.specs.TabularViews.{tabular_of, source_of, from_of, union_of, arm_of, arms_of, operator_of, operators_of, body_of, join_of, right_of, let_of, query_of};
 ghost use Rattle.kq_grammar.specs.Views.{tree_of, item_view, aggregate_view, grouping_view};
 
 use kq_bind_aggregates::{unsupported_aggregate, unsupported_aggregates};
 use kq_bind_clauses::{
-    typeless, unsupported_cells as cells_unsupported, unsupported_columns as columns_unsupported,
-    unsupported_keys,
+    typeless, unsupported, unsupported_cells as cells_unsupported,
+    unsupported_columns as columns_unsupported, unsupported_item,
+    unsupported_items as items_unsupported, unsupported_keys, valueless,
 };
-use kq_bind_columns::{unsupported_item, unsupported_items as items_unsupported};
-use kq_bind_expression::{unsupported, valueless};
 use kq_grammar::{
     Aggregate, Arm, Cell, Column, Expression, Grouping, Item, Join, Let, LetRight, Operator,
     OperatorBody, Query, Source, SourceBody, Tabular, Union,

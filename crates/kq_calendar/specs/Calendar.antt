@@ -4,7 +4,7 @@ use Rattle.kq_computed.specs.Computed.{Computed, Is, Overflow}
 use Rattle.kq_value.specs.declared.ty.Ty.TheVariants as ty
 use Rattle.kq_value.specs.declared.value.Value.{Value}
 use Rattle.kq_value.specs.declared.value.Value.TheVariants.{Null, Long, Moment, Span}
-use Rattle.kq_written.specs.Datetimes.{is_moment, ticks_per_day}
+use Rattle.kq_time.specs.kq_written.Datetimes.{is_moment, ticks_per_day}
 use Rattle.kq_time.specs.declared.unit.Unit.{Unit}
 use Rattle.kq_time.specs.declared.unit.Unit.TheVariants.{Year, Month, Week, Day, Hour}
 use Rattle.kq_time.specs.Units.{unit_start, unit_part}

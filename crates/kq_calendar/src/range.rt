@@ -2,7 +2,7 @@
 ghost use Rattle.std.specs.Prelude.{◌≡◌, IfErr};
 ghost use Rattle.kq_computed.specs.Computed.{Answers};
 ghost use Rattle.kq_computed.specs.declared.fault.EvalFault.TheVariants.{Overflow};
-ghost use Rattle.kq_written.specs.Datetimes.{is_moment};
+ghost use Rattle.kq_time.specs.kq_written.Datetimes.{is_moment};
 ghost use Rattle.kq_calendar.specs.Calendar.{moment_of};
 
 use kq_computed::EvalFault;

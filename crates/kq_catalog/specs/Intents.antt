@@ -1,6 +1,6 @@
 -- The commits that intents ask for.
 use Rattle.std.specs.Prelude.{ℕ, [], map, Option, None, Some}
-use Rattle.kq_grouping.specs.Bodies.{StandsFor}
+use Rattle.kq_model.specs.kq_grouping.Bodies.{StandsFor}
 use Rattle.kq_plan.specs.Plans.{planned_of}
 use Rattle.kq_model.specs.declared.batch.Batch.{Batch}
 use Rattle.kq_model.specs.declared.event.By.{By}

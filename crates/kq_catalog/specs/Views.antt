@@ -5,7 +5,7 @@ use Rattle.std.specs.List.{slice_get}
 use Rattle.std.specs.List.Sorted.{IsPermutation}
 use Rattle.std.specs.Option.{option_map}
 use Rattle.kq_group.specs.Groups.{Grouping}
-use Rattle.kq_grouping.specs.Bodies.{StandsFor}
+use Rattle.kq_model.specs.kq_grouping.Bodies.{StandsFor}
 use Rattle.kq_names.specs.Places.{place_of}
 use Rattle.kq_plan.specs.Plans.{Planned, planned_of}
 use Rattle.kq_value.specs.declared.value.Value.{Value}

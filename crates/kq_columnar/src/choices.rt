@@ -8,7 +8,7 @@ ghost use Rattle.kq_columnar.specs.Seen.{merged_by};
 
 use crate::vector::Vector;
 use kq_arithmetic::is_yes;
-use kq_conversions::empty_test;
+use kq_scalar::empty_test;
 use kq_value::{Memory, Value};
 use std::alloc::Global;
 

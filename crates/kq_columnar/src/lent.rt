@@ -3,7 +3,7 @@ ghost use Rattle.std.specs.Prelude.{◌≡◌, ◌<◌, length, get_or, map, IfO
 ghost use Rattle.kq_computed.specs.Computed.{Is, each};
 ghost use Rattle.kq_value.specs.declared.value.Value.TheVariants.{Bool as Truth};
 ghost use Rattle.kq_expr.specs.declared.expr.Expr.TheVariants.{Column, Literal};
-ghost use Rattle.kq_texts.specs.Texts.{found};
+ghost use Rattle.kq_scalar.specs.kq_texts.Texts.{found};
 ghost use Rattle.kq_scalar.specs.Val.{cell_of};
 ghost use Rattle.kq_columnar.specs.declared.vector.Vector.TheVariants.{Cells};
 ghost use Rattle.kq_columnar.specs.Vectors.{cells_of};
@@ -13,8 +13,7 @@ use crate::piece::Piece;
 use crate::vector::Vector;
 use kq_arithmetic::{at_least, at_most, equal, greater, less, unequal};
 use kq_expr::Expr;
-use kq_fn::Function;
-use kq_strings::{FindKind, find_text};
+use kq_fn::{FindKind, Function, find_text};
 use kq_value::{Memory, Value};
 use std::alloc::Global;
 

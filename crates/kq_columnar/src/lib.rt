@@ -12,4 +12,6 @@ mod truths;
 mod vector;
 
 pub use eval::eval_column;
+pub use kq_arithmetic::is_yes;
+pub use kq_scalar::eval;
 pub use vector::Vector;

@@ -5,3 +5,4 @@ pub mod Controls
 pub mod Following
 pub mod Statements
 pub mod Symbols
+pub mod kq_parse

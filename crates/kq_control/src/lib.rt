@@ -8,6 +8,7 @@ mod symbols;
 mod tree;
 mod views;
 
+pub use kq_parse::ParseFault;
 pub use statement::parse_statement;
 pub use tree::{
     Body, ColumnList, Control, ExportDefinition, Property, PropertyList, Statement, ViewDefinition,

@@ -3,7 +3,7 @@ use Rattle.std.proofs.Common.{◌≡◌, ◌+◌, inl, inr, ℕ, Bool, true, fal
 use Rattle.std.specs.Cmp.Lexicographic.{pointwise}
 use Rattle.std.specs.Option.{option_map, option_or}
 use Rattle.std.proofs.lemmas.Slice.Eq.{bytes_eq-Decides}
-use Rattle.kq_bind.specs.Queries.{query_bound}
+use Rattle.kq_bind_body.specs.kq_bind.Queries.{query_bound}
 use Rattle.kq_bind_body.specs.Answers.{AnswersBody}
 use Rattle.kq_bind_body.specs.declared.fault.ViewFault.{ViewFault}
 use Rattle.kq_bind_body.specs.declared.fault.ViewFault.TheVariants as unbound
@@ -12,7 +12,7 @@ use Rattle.kq_body.specs.Parts.{query_parts}
 use Rattle.kq_bind_expression.specs.Verdicts.{unsupported, unknown, mistyped}
 use Rattle.kq_catalog.specs.Intents.{commit_of}
 use Rattle.kq_command.specs.declared.definition.NewView.{NewView}
-use Rattle.kq_grouping.specs.Bodies.{IsBody}
+use Rattle.kq_bind_body.specs.kq_grouping.Bodies.{IsBody}
 use Rattle.kq_model.specs.declared.limits.Limits.{Limits}
 use Rattle.kq_model.specs.declared.table.Table.{Table}
 use Rattle.kq_model.specs.History.{History, NumberedTable, log, numbered_from, table_numbered, tables}

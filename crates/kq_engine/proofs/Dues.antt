@@ -8,7 +8,7 @@ use Rattle.std.proofs.lemmas.List.{length-map}
 use Rattle.kq_bind_expression.specs.Verdicts.{Verdict}
 use Rattle.kq_catalog.proofs.Viewing.{placed}
 use Rattle.kq_command.specs.declared.definition.NewView.{NewView}
-use Rattle.kq_grouping.specs.Bodies.{IsBody}
+use Rattle.kq_bind_body.specs.kq_grouping.Bodies.{IsBody}
 use Rattle.kq_model.specs.declared.view.View.{View}
 use Rattle.kq_names.specs.Places.{place_from, place_of}
 use Rattle.kq_plan.specs.Plans.{Planned}

@@ -22,7 +22,7 @@ use Rattle.kq_command.specs.Columns.{schema_of}
 use Rattle.kq_command.specs.Widening.{first_clash, new_columns}
 use Rattle.kq_reply.specs.declared.refusal.Refusal.TheVariants as refusals
 use Rattle.kq_reply.specs.declared.reply.Reply.TheVariants as replies
-use Rattle.kq_bind_supported.specs.Unsupported.{unsupported_query}
+use Rattle.kq_bind_body.specs.kq_bind_supported.Unsupported.{unsupported_query}
 use Rattle.kq_command.specs.declared.definition.NewView.{NewView}
 use Rattle.kq_engine.specs.Folds.{FoldsNamed, view_number}
 use Rattle.kq_engine.specs.Due.{Due, Says, Commits, IsDueByText, IsViewDue, IsIngestDue, tree_in, clash_due, counted, lacking_due, made_due, named_due, refused, repeated_place, widening_due, IsPolicyDue}

@@ -32,15 +32,15 @@ use Rattle.kq_reply.specs.declared.refusal.Refusal.{Refusal}
 use Rattle.kq_reply.specs.declared.refusal.Refusal.TheVariants as refusals
 use Rattle.kq_reply.specs.declared.reply.Reply.{Reply}
 use Rattle.kq_reply.specs.declared.reply.Reply.TheVariants as replies
-use Rattle.kq_bind.specs.Queries.{query_bound}
+use Rattle.kq_bind_body.specs.kq_bind.Queries.{query_bound}
 use Rattle.kq_bind_body.specs.declared.fault.ViewFault.{ViewFault}
 use Rattle.kq_bind_body.specs.declared.fault.ViewFault.TheVariants as unbound
 use Rattle.kq_bind_expression.specs.Verdicts.{Verdict}
-use Rattle.kq_bind_supported.specs.Unsupported.{unsupported_query}
+use Rattle.kq_bind_body.specs.kq_bind_supported.Unsupported.{unsupported_query}
 use Rattle.kq_body.specs.Bodies.{IsBodyFault, is_body}
 use Rattle.kq_body.specs.Parts.{query_parts}
 use Rattle.kq_command.specs.declared.definition.NewView.{NewView}
-use Rattle.kq_grouping.specs.Bodies.{IsBody}
+use Rattle.kq_bind_body.specs.kq_grouping.Bodies.{IsBody}
 use Rattle.kq_grammar.specs.TabularViews.{query_of}
 use Rattle.kq_grammar.specs.Trees.{QueryTree}
 use Rattle.kq_entries.specs.declared.fault.EntriesFault.{EntriesFault}

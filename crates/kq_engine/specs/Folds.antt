@@ -6,7 +6,7 @@ use Rattle.kq_catalog.specs.Views.{IsPart, fold_event}
 use Rattle.kq_command.specs.declared.columns.Identifier.{Identifier}
 use Rattle.kq_command.specs.declared.command.Command.{Command}
 use Rattle.kq_command.specs.declared.command.Command.TheVariants.{Fold}
-use Rattle.kq_grouping.specs.Bodies.{OverflowsAt}
+use Rattle.kq_bind_body.specs.kq_grouping.Bodies.{OverflowsAt}
 use Rattle.kq_model.specs.declared.event.By.{By}
 use Rattle.kq_model.specs.History.{History, Viewed, cursor, log, view_cursor, names_of_views, views}
 use Rattle.kq_model.specs.Views.{covered}

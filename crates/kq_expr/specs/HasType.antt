@@ -2,9 +2,9 @@
 use Rattle.std.specs.Prelude.{◌≡◌, ℕ, zero, suc, List, [], ◌∷◌, Some}
 use Rattle.kq_expr.specs.Terms.{Term, literal, column, cell, call, Terms, no_term, and_term}
 use Rattle.kq_fn.specs.Table.{typing, given}
-use Rattle.kq_value.specs.declared.schema.Field.{Field}
-use Rattle.kq_value.specs.declared.ty.Ty.{Ty}
-use Rattle.kq_value.specs.Typed.{type_of, IsProper}
+use Rattle.kq_fn.specs.kq_value.Field.{Field}
+use Rattle.kq_fn.specs.kq_value.Ty.{Ty}
+use Rattle.kq_fn.specs.kq_value.Typed.{type_of, IsProper}
 
 -- there is one of this number, and it has this type
 abbrev pub IsPlace : List Field → ℕ → Ty → Type 0

@@ -1,2 +1,4 @@
 pub mod HasType
 pub mod Terms
+pub mod kq_fn
+pub mod kq_value

@@ -1,7 +1,7 @@
 -- Expressions as plain trees.
 use Rattle.std.specs.Prelude.{ℕ, List, [], ◌∷◌}
-use Rattle.kq_value.specs.declared.ty.Ty.{Ty}
-use Rattle.kq_value.specs.declared.value.Value.{Value}
+use Rattle.kq_fn.specs.kq_value.Ty.{Ty}
+use Rattle.kq_fn.specs.kq_value.Value.{Value}
 use Rattle.kq_fn.specs.declared.function.Function.{Function}
 use Rattle.kq_expr.specs.declared.expr.Expr.{Expr, fold-Expr}
 use Rattle.kq_expr.specs.declared.expr.Expr.TheOpen.{Expr-F}

@@ -1,6 +1,5 @@
 // Expressions.
-use kq_fn::Function;
-use kq_value::{Ty, Value};
+use kq_fn::{Function, Ty, Value};
 
 /// An expression over the columns of a row and the cells of scalar lets, both by number from 0. Each int among the arguments of a
 /// call that takes none is made a long by a call of its own.

@@ -4,3 +4,4 @@
 mod expr;
 
 pub use expr::{Expr, Typed};
+pub use kq_fn::{Field, Schema, Text, Ty, Value};

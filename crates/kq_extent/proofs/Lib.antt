@@ -5,3 +5,4 @@ pub mod Named
 pub mod Sent
 pub mod Walked
 pub mod Wide
+pub mod kq_shared

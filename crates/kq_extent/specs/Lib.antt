@@ -4,3 +4,4 @@ pub mod Runs
 pub mod Seen
 pub mod Split
 pub mod Wide
+pub mod kq_widened

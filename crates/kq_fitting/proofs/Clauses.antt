@@ -2,10 +2,10 @@
 use Rattle.std.proofs.Common.{◌≡◌, ℕ, zero, suc, Bool, true, false, cond, List, [], ◌∷◌, ◌++◌, length, map, All, Option, Some, None, Ok, Err, refl, ap, ◌∙◌, subst}
 use Rattle.std.specs.Prelude.{slice_set}
 use Rattle.std.proofs.lemmas.List.Elements.{All-nil, All-cons}
-use Rattle.kq_bind_steps.specs.Clauses.{range_made, range_rows, sorted_by, topped_by, part_type as part_said, or_dynamic, item_name, item_value, if_dynamic, expanded_at, expanded_as, parts_of}
-use Rattle.kq_bind_steps.specs.Flows.{Progressing, Flowing, columns, after}
-use Rattle.kq_bind_steps.specs.Operators.{row_number}
-use Rattle.kq_bind_steps.specs.Scopes.{Scoping, names}
+use Rattle.kq_bind.specs.kq_bind_steps.Clauses.{range_made, range_rows, sorted_by, topped_by, part_type as part_said, or_dynamic, item_name, item_value, if_dynamic, expanded_at, expanded_as, parts_of}
+use Rattle.kq_bind.specs.kq_bind_steps.Flows.{Progressing, Flowing, columns, after}
+use Rattle.kq_bind.specs.kq_bind_steps.Operators.{row_number}
+use Rattle.kq_bind.specs.kq_bind_steps.Scopes.{Scoping, names}
 use Rattle.kq_bind_clauses.specs.Ranges.{step_type, Ranging, as_long, of_this_type, range_typed, ranged, range_column}
 use Rattle.kq_bind_clauses.specs.Sorts.{sorting, sort_key, sort_keys}
 use Rattle.kq_bind_columns.specs.Defaults.{first_token}

@@ -1,11 +1,11 @@
 -- A bound plan fits the names that it is bound over.
 use Rattle.std.proofs.Common.{◌≡◌, ℕ, ◌+◌, Bool, true, false, cond, List, [], ◌∷◌, ◌++◌, Option, Some, None, Result, Ok, Err, IfOk, refl, ap, ◌∙◌, subst}
 use Rattle.std.proofs.lemmas.List.Elements.{All-nil, All-push, All-weaker}
-use Rattle.kq_bind_steps.specs.Flows.{Flowing, columns_at}
+use Rattle.kq_bind.specs.kq_bind_steps.Flows.{Flowing, columns_at}
 use Rattle.kq_bind.specs.Pipes.{tabular}
 use Rattle.kq_bind.specs.Queries.{Letting, nothing_let, scope_of, is_let, scalar_put, tabular_put, if_new, scalar_let, tabular_let, bare_name, is_tabular, let_made, lets_made, planned, query_walked, query_bound}
-use Rattle.kq_bind_steps.specs.Scopes.{Tabling, names}
-use Rattle.kq_bind_supported.specs.Unsupported.{unsupported_query}
+use Rattle.kq_bind.specs.kq_bind_steps.Scopes.{Tabling, names}
+use Rattle.kq_bind.specs.kq_bind_supported.Unsupported.{unsupported_query}
 use Rattle.kq_bind_columns.specs.Items.{field}
 use Rattle.kq_bind_expression.specs.declared.fault.BindFault.{BindFault}
 use Rattle.kq_bind_expression.specs.Bound.{bound}

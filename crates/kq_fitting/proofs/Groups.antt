@@ -1,8 +1,8 @@
 -- What a summarize adds is a step that fits.
 use Rattle.std.proofs.Common.{◌≡◌, ◌≢◌, ℕ, Bool, true, false, cond, List, [], ◌∷◌, ◌++◌, map, Option, Some, None, Ok, Err, refl, sym, ap, ◌∙◌, subst, append_assoc, append-nil}
-use Rattle.kq_bind_steps.specs.Clauses.{summarized_by, grouped}
-use Rattle.kq_bind_steps.specs.Flows.{Flowing, columns}
-use Rattle.kq_bind_steps.specs.Scopes.{Scoping, names}
+use Rattle.kq_bind.specs.kq_bind_steps.Clauses.{summarized_by, grouped}
+use Rattle.kq_bind.specs.kq_bind_steps.Flows.{Flowing, columns}
+use Rattle.kq_bind.specs.kq_bind_steps.Scopes.{Scoping, names}
 use Rattle.kq_bind_aggregates.specs.Arguments.{all_argued, unkeyed}
 use Rattle.kq_bind_aggregates.specs.Functions.{aggregate_named}
 use Rattle.kq_bind_aggregates.specs.Gathered.{Gathering, no_aggregate, put_defaults, put_named, put_columns, gathered, aggregate_made, each_made, aggregates_made}

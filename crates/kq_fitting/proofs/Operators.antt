@@ -1,8 +1,8 @@
 -- Each operator adds a step that fits.
 use Rattle.std.proofs.Common.{◌≡◌, ℕ, Bool, true, false, cond, List, [], map, Ok, Err, refl, subst}
-use Rattle.kq_bind_steps.specs.Flows.{Progressing, Flowing, columns, after}
-use Rattle.kq_bind_steps.specs.Operators.{row_made, printed_row, where_true, filtered, row_number, taken, count_column, laid_after, projected, extended, dropped, old_name, new_name, renamed, distinct_rows, all_distinct}
-use Rattle.kq_bind_steps.specs.Scopes.{Scoping, names}
+use Rattle.kq_bind.specs.kq_bind_steps.Flows.{Progressing, Flowing, columns, after}
+use Rattle.kq_bind.specs.kq_bind_steps.Operators.{row_made, printed_row, where_true, filtered, row_number, taken, count_column, laid_after, projected, extended, dropped, old_name, new_name, renamed, distinct_rows, all_distinct}
+use Rattle.kq_bind.specs.kq_bind_steps.Scopes.{Scoping, names}
 use Rattle.kq_bind_columns.specs.Chosen.{chosen, all_chosen, columns_at as columns_chosen, without, names_given, renamed as fields_renamed}
 use Rattle.kq_bind_columns.specs.Defaults.{first_token}
 use Rattle.kq_bind_columns.specs.Items.{nothing_made, items_made}

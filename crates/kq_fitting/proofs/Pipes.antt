@@ -1,11 +1,11 @@
 -- Each form of a pipe adds steps that fit.
 use Rattle.std.proofs.Common.{◌≡◌, ℕ, ◌+◌, List, [], ◌∷◌, ◌++◌, All, Option, Ok, subst}
 use Rattle.std.proofs.lemmas.List.Elements.{All-nil, All-cons, All-push, All-weaker}
-use Rattle.kq_bind_steps.specs.Clauses.{grouping_items, joined_on, all_together}
-use Rattle.kq_bind_steps.specs.Flows.{Progressing, Flowing, after, next_stage}
-use Rattle.kq_bind_steps.specs.Operators.{count_column}
+use Rattle.kq_bind.specs.kq_bind_steps.Clauses.{grouping_items, joined_on, all_together}
+use Rattle.kq_bind.specs.kq_bind_steps.Flows.{Progressing, Flowing, after, next_stage}
+use Rattle.kq_bind.specs.kq_bind_steps.Operators.{count_column}
 use Rattle.kq_bind.specs.Pipes.{tabular, sourced, from_word, united_with, gathered, armed, piped, operated}
-use Rattle.kq_bind_steps.specs.Scopes.{Scoping}
+use Rattle.kq_bind.specs.kq_bind_steps.Scopes.{Scoping}
 use Rattle.kq_bind_clauses.specs.Joins.{join_kind}
 use Rattle.kq_grammar.specs.Trees.{TabularTree, pipeline, SourceTree, table, nested, worded, FromTree, view, print, range, datatable, union, UnionTree, arms, ArmTree, named_arm, nested_arm, Arms, no_arm, and_arm, Operators, no_operator, and_operator, BodyTree, filter, extend, project, project_away, project_rename, take, count, sort, top, distinct, distinct_all, summarize, summarize_by, join, unite, mv_expand}
 use Rattle.kq_plan.specs.Plans.{Stepping, counted}

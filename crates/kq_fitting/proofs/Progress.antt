@@ -1,8 +1,8 @@
 -- Steps that fit, with one that fits after them: they fit, what they gave is kept, and so are the lets.
 use Rattle.std.proofs.Common.{◌≡◌, ℕ, zero, suc, ◌+◌, List, [], ◌∷◌, ◌++◌, All, Option, Some, None, Ok, Err, length, refl, sym, ap, ◌∙◌, subst, append_assoc, append-nil}
 use Rattle.std.specs.Prelude.{slice_get, slice_index_or, option_and_then}
-use Rattle.kq_bind_steps.specs.Flows.{Progressing, Flowing, columns_of, columns_at, next_stage, added, following, after}
-use Rattle.kq_bind_steps.specs.Scopes.{Scoping, Tabling}
+use Rattle.kq_bind.specs.kq_bind_steps.Flows.{Progressing, Flowing, columns_of, columns_at, next_stage, added, following, after}
+use Rattle.kq_bind.specs.kq_bind_steps.Scopes.{Scoping, Tabling}
 use Rattle.kq_bind_expression.specs.Verdicts.{Verdict, and_then}
 use Rattle.kq_plan.specs.Fits.{cells_in, lets_of, rows_in, columns_given, GivesColumns, FitsStep, FitAfter}
 use Rattle.kq_plan.specs.Names.{Known}

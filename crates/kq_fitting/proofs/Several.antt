@@ -2,9 +2,9 @@
 use Rattle.std.proofs.Common.{◌≡◌, ℕ, Bool, true, false, not, ◌&&◌, cond, List, [], ◌∷◌, ◌++◌, map, All, Option, Some, None, Ok, Err, refl, sym, ap, ◌∙◌, subst, append_assoc, append-nil}
 use Rattle.std.proofs.lemmas.List.{map-append}
 use Rattle.std.proofs.lemmas.List.Elements.{All-nil, All-cons, All-head, All-tail}
-use Rattle.kq_bind_steps.specs.Clauses.{joined_on, arms_with, all_together}
-use Rattle.kq_bind_steps.specs.Flows.{Progressing, Flowing, columns, columns_at, added}
-use Rattle.kq_bind_steps.specs.Scopes.{Scoping}
+use Rattle.kq_bind.specs.kq_bind_steps.Clauses.{joined_on, arms_with, all_together}
+use Rattle.kq_bind.specs.kq_bind_steps.Flows.{Progressing, Flowing, columns, columns_at, added}
+use Rattle.kq_bind.specs.kq_bind_steps.Scopes.{Scoping}
 use Rattle.kq_bind_clauses.specs.Joins.{is_key, matched, on_key, on_keys, beside, join_columns}
 use Rattle.kq_bind_clauses.specs.Unions.{is_inner, is_mixed, typed_name, names_made, union_columns, of_type, filling, arms_filled, columns_in, union_sources, keep_names}
 use Rattle.kq_bind_columns.specs.Chosen.{place_in}

@@ -3,8 +3,8 @@ use Rattle.std.proofs.Common.{◌≡◌, ℕ, Bool, true, false, cond, List, [],
 use Rattle.std.specs.Prelude.{nat_eq}
 use Rattle.std.specs.Cmp.Lexicographic.{pointwise}
 use Rattle.std.proofs.lemmas.List.Elements.{All-head, All-tail}
-use Rattle.kq_bind_steps.specs.Flows.{Progressing, Flowing, following, again}
-use Rattle.kq_bind_steps.specs.Scopes.{Scoping, Tabling, tabling_named, leaf_kind, leaf_of, named_rows, source_named, part_of, part_named}
+use Rattle.kq_bind.specs.kq_bind_steps.Flows.{Progressing, Flowing, following, again}
+use Rattle.kq_bind.specs.kq_bind_steps.Scopes.{Scoping, Tabling, tabling_named, leaf_kind, leaf_of, named_rows, source_named, part_of, part_named}
 use Rattle.kq_bind_columns.specs.Naming.{is_taken}
 use Rattle.kq_bind_expression.specs.Verdicts.{unknown}
 use Rattle.kq_grammar.specs.declared.expression.Name.{Name}

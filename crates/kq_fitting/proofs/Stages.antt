@@ -21,11 +21,11 @@ use Rattle.kq_bind_expression.specs.Bound.{bound}
 use Rattle.kq_bind_expression.specs.Lookup.{first_named}
 use Rattle.kq_bind_expression.specs.declared.fault.BindFault.{BindFault}
 use Rattle.kq_bind_expression.specs.Verdicts.{AnswersVerdict, Verdict, and_then, mistyped, unknown, supported_or}
-use Rattle.kq_bind_steps.specs.Clauses.{range_made, range_rows, table_rows, sorted_by, topped_by, summarized_by, grouped, grouping_items, part_type, or_dynamic, item_name, item_value, if_dynamic, expanded_at, expanded_as, parts_of, joined_on, arms_with, all_together}
-use Rattle.kq_bind_steps.specs.Flows.{Progressing, Flowing, columns, columns_at, after, added, following, again, next_stage}
-use Rattle.kq_bind_steps.specs.Operators.{row_made, printed_row, where_true, filtered, row_number, taken, count_column, laid_after, projected, extended, dropped, new_name, old_name, renamed, distinct_rows, all_distinct}
-use Rattle.kq_bind_steps.specs.Scopes.{Scoping, Tabling, names, leaf_kind, leaf_of, tabling_named, named_rows, source_named, part_of, part_named}
-use Rattle.kq_bind_supported.specs.Unsupported.{unsupported_query}
+use Rattle.kq_bind.specs.kq_bind_steps.Clauses.{range_made, range_rows, table_rows, sorted_by, topped_by, summarized_by, grouped, grouping_items, part_type, or_dynamic, item_name, item_value, if_dynamic, expanded_at, expanded_as, parts_of, joined_on, arms_with, all_together}
+use Rattle.kq_bind.specs.kq_bind_steps.Flows.{Progressing, Flowing, columns, columns_at, after, added, following, again, next_stage}
+use Rattle.kq_bind.specs.kq_bind_steps.Operators.{row_made, printed_row, where_true, filtered, row_number, taken, count_column, laid_after, projected, extended, dropped, new_name, old_name, renamed, distinct_rows, all_distinct}
+use Rattle.kq_bind.specs.kq_bind_steps.Scopes.{Scoping, Tabling, names, leaf_kind, leaf_of, tabling_named, named_rows, source_named, part_of, part_named}
+use Rattle.kq_bind.specs.kq_bind_supported.Unsupported.{unsupported_query}
 use Rattle.kq_expr.specs.Terms.{Bound}
 use Rattle.kq_grammar.specs.declared.clause.Cell.{Cell}
 use Rattle.kq_grammar.specs.declared.clause.Column.{Column}

@@ -2,8 +2,8 @@
 use Rattle.std.proofs.Common.{◌≡◌, ◌⊎◌, inl, inr, ℕ, zero, suc, ◌+◌, ◌<◌, ◌≤◌, List, [], ◌∷◌, ◌++◌, length, length-append, All, Some, refl, sym, ap, ◌∙◌, subst, arith, append_assoc, append-nil}
 use Rattle.std.specs.Prelude.{slice_get}
 use Rattle.std.proofs.lemmas.List.Elements.{All-nil, All-cons, All-head, All-tail, All-append, All-push, All-pop, All-weaker}
-use Rattle.kq_bind_steps.specs.Flows.{Progressing, Flowing, added, following, next_stage, again}
-use Rattle.kq_bind_steps.specs.Scopes.{Scoping, Tabling}
+use Rattle.kq_bind.specs.kq_bind_steps.Flows.{Progressing, Flowing, added, following, next_stage, again}
+use Rattle.kq_bind.specs.kq_bind_steps.Scopes.{Scoping, Tabling}
 use Rattle.kq_plan.specs.Plans.{Doing, Stepping}
 use Rattle.kq_value.specs.declared.schema.Field.{Field}
 use Rattle.kq_fitting.specs.Staged.{Takes, IsStageBelow, IsStageAbove, IsPlaced, ArePlaced, HaveOwnStages}

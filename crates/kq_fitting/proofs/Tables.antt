@@ -5,9 +5,9 @@ use Rattle.std.proofs.lemmas.List.Elements.{All-nil, All-cons}
 use Rattle.kq_arithmetic.specs.Arithmetic.{negated}
 use Rattle.kq_arithmetic.specs.Numbers.{GivesType}
 use Rattle.kq_arithmetic.proofs.Typed.{negated-typed}
-use Rattle.kq_bind_steps.specs.Clauses.{table_rows}
-use Rattle.kq_bind_steps.specs.Flows.{Progressing, Flowing, following}
-use Rattle.kq_bind_steps.specs.Scopes.{Scoping}
+use Rattle.kq_bind.specs.kq_bind_steps.Clauses.{table_rows}
+use Rattle.kq_bind.specs.kq_bind_steps.Flows.{Progressing, Flowing, following}
+use Rattle.kq_bind.specs.kq_bind_steps.Scopes.{Scoping}
 use Rattle.kq_bind_clauses.specs.Tables.{takes_sign, if_value, with_sign, as_int, of_column, place_of, signed_in, cell_made, none_left, rows_made, Tabled, table_columns, tabled}
 use Rattle.kq_bind_expression.specs.Verdicts.{and_then, or_fault, mistyped, unsupported}
 use Rattle.kq_computed.specs.Computed.{Computed, Is, Overflow}

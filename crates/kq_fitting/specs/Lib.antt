@@ -5,3 +5,10 @@ pub mod Staged
 pub mod United
 pub mod Counted
 pub mod Written
+pub mod kq_bind
+pub mod kq_bind_supported
+pub mod kq_bind_steps
+pub mod kq_bind_aggregates
+pub mod kq_spelled
+pub mod kq_bind_columns
+pub mod kq_bind_expression

@@ -1,6 +1,6 @@
 // Queries that are bound to plans that fit.
 ghost use Rattle.std.specs.Prelude.{◌≡◌, All, Ok, IfOk};
-ghost use Rattle.kq_bind_steps.specs.Flows.{columns_at};
+ghost use Rattle.kq_bind.specs.kq_bind_steps.Flows.{columns_at};
 ghost use Rattle.kq_bind.specs.Queries.{query_bound};
 ghost use Rattle.kq_bind_expression.specs.Verdicts.{AnswersVerdict};
 ghost use Rattle.kq_grammar.specs.TabularViews.{query_of};

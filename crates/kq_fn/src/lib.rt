@@ -7,5 +7,7 @@ mod rules;
 mod typing;
 
 pub use function::Function;
+pub use kq_strings::{FindKind, find_text};
+pub use kq_value::{Field, Schema, Text, Ty, Value};
 pub use names::find;
 pub use typing::{Choice, choose, result_type};

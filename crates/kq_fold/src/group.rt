@@ -6,8 +6,7 @@ ghost use Rattle.kq_fold.specs.Folds.{Arrives, GroupsTo};
 
 use crate::body::{aggregates_in, behind_source, keys_in, last_step};
 use kq_group::Groups;
-use kq_grouping::{Arrived, gather_groups, operators, stage_in};
-use kq_lent::Held;
+use kq_grouping::{Arrived, Held, gather_groups, operators, stage_in};
 use kq_plan::Plan;
 use kq_value::Memory;
 use std::alloc::Global;

@@ -5,3 +5,4 @@ pub mod TabularViews
 pub mod Tabulars
 pub mod Trees
 pub mod Views
+pub mod kq_syntax

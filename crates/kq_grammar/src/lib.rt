@@ -12,6 +12,7 @@ pub use build::{
 };
 pub use clause::{Aggregate, Argument, Cell, Column, Grouping, Item, JoinKey, Key};
 pub use expression::{Expression, Interval, Level, Link, Name, Step};
+pub use kq_syntax::Symbol;
 pub use tabular::{
     Arm, Join, Let, LetRight, Operator, OperatorBody, OperatorKey, Query, Source, SourceBody,
     Tabular, Union,

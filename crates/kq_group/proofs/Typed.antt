@@ -6,8 +6,8 @@ use Rattle.kq_agg.specs.Aggregates.{GivesTypes, HaveTheTypes, aggregate_kind}
 use Rattle.kq_agg.specs.Holds.{Cell}
 use Rattle.kq_agg.proofs.Typed.{finished-typed}
 use Rattle.kq_computed.specs.Computed.{Computed, Is, Overflow, and_then}
-use Rattle.kq_plan.specs.Fits.{FitsAggregate, ty_of}
-use Rattle.kq_plan.specs.Plans.{Aggregating as Planned, rows_counted, summed, least_of, greatest_of, at_greatest, at_least, any_of, set_of}
+use Rattle.kq_agg.specs.kq_plan.Fits.{FitsAggregate, ty_of}
+use Rattle.kq_agg.specs.kq_plan.Plans.{Aggregating as Planned, rows_counted, summed, least_of, greatest_of, at_greatest, at_least, any_of, set_of}
 use Rattle.kq_value.proofs.SameLemmas.{All-Same, Same-sym, rest_of}
 use Rattle.kq_value.proofs.Types.{HasTypes-append}
 use Rattle.kq_value.specs.Same.{NoOftener}

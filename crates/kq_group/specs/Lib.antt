@@ -3,3 +3,5 @@ pub mod Groups
 pub mod Keys
 pub mod Typed
 pub mod Merges
+pub mod kq_agg
+pub mod kq_arithmetic

@@ -1,8 +1,8 @@
 -- The aggregates of a plan, over arguments of the types that they ask for.
 use Rattle.std.specs.Prelude.{◌≡◌, List, [], ◌∷◌, ◌++◌, map}
 use Rattle.kq_agg.specs.Aggregates.{HaveTheTypes, aggregate_kind}
-use Rattle.kq_plan.specs.Fits.{FitsAggregate, ty_of}
-use Rattle.kq_plan.specs.Plans as plan
+use Rattle.kq_agg.specs.kq_plan.Fits.{FitsAggregate, ty_of}
+use Rattle.kq_agg.specs.kq_plan.Plans as plan
 use Rattle.kq_value.specs.declared.schema.Field.{Field}
 use Rattle.kq_value.specs.declared.value.Value.{Value}
 use Rattle.kq_group.specs.Grouped.{AggregateShape}

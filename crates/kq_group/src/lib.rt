@@ -10,3 +10,4 @@ mod merged;
 
 pub use aggregated::Aggregated;
 pub use groups::{Groups, group_rows};
+pub use kq_agg::Kind;

@@ -10,20 +10,20 @@ use Rattle.kq_expr.specs.Terms.{Term}
 use Rattle.kq_group.specs.Grouped.{AggregateShape as Aggregated, FitArgs, Grouped}
 use Rattle.kq_group.specs.Groups.{EndsWide, Grouping, HasAllGroups, Stands, Starts, args_at, beside, rows_from, shape_of}
 use Rattle.kq_group.proofs.Finishing.{EndsWide-Stands, Grouped-Stands}
-use Rattle.kq_piecewise.proofs.Laws.{each_append}
-use Rattle.kq_piecewise.specs.Operators.{Row, values_at}
+use Rattle.kq_lent.proofs.kq_piecewise.Laws.{each_append}
+use Rattle.kq_lent.specs.kq_piecewise.Operators.{Row, values_at}
 use Rattle.kq_plan.specs.Fits.{ty_of}
 use Rattle.kq_plan.specs.Plans.{Aggregating}
-use Rattle.kq_scalar.specs.Val.{Surroundings}
+use Rattle.kq_lent.specs.kq_scalar.Val.{Surroundings}
 use Rattle.kq_lent.specs.Flowing.{Flowing}
 use Rattle.kq_lent.specs.Sources.{source_rows}
 use Rattle.kq_lent.specs.Yielded.{Yields}
 use Rattle.kq_lent.specs.declared.flow.Next.{Next}
 use Rattle.kq_lent.specs.declared.flow.Next.TheVariants as next
 use Rattle.kq_lent.specs.declared.source.Source.{Source}
-use Rattle.kq_stretch.specs.Pieces.{rows_in}
-use Rattle.kq_stretch.specs.Ran.{Ran, came, failed, joined}
-use Rattle.kq_stretch.specs.declared.piece.Piece.{Piece}
+use Rattle.kq_lent.specs.kq_stretch.Pieces.{rows_in}
+use Rattle.kq_lent.specs.kq_stretch.Ran.{Ran, came, failed, joined}
+use Rattle.kq_lent.specs.kq_stretch.Piece.{Piece}
 use Rattle.kq_value.specs.declared.schema.Field.{Field}
 use Rattle.kq_value.specs.declared.ty.Ty.{Ty}
 use Rattle.kq_grouping.specs.declared.arriving.Arrived.{Arrived}

@@ -1,8 +1,8 @@
 -- What comes through row operators of rows that are read in parts.
 use Rattle.std.proofs.Common.{◌≡◌, ◌<◌, ℕ, min, List, [], length, take, sym, ap, ◌∙◌, arith, length-append}
 use Rattle.std.proofs.lemmas.List.{length-take}
-use Rattle.kq_piecewise.specs.Operators.{Row}
-use Rattle.kq_scalar.specs.Val.{Surroundings}
+use Rattle.kq_stretch.specs.kq_piecewise.Operators.{Row}
+use Rattle.kq_stretch.specs.kq_scalar.Val.{Surroundings}
 use Rattle.kq_stretch.specs.Operators.{Rowwise}
 use Rattle.kq_stretch.specs.Ran.{Ran, came, failed, joined, ran, width_in_end}
 use Rattle.kq_stretch.proofs.Laws.{joined_assoc, ran_append, ran_failed, ran_none, ran_take, ran_wide}

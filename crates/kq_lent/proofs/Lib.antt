@@ -3,3 +3,7 @@ mod Flown
 mod Sought
 mod Walks
 mod Widths
+pub mod kq_stretch
+pub mod kq_piecewise
+pub mod kq_reshape
+pub mod kq_scalar

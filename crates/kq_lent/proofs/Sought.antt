@@ -6,9 +6,9 @@ use Rattle.std.proofs.lemmas.List.Elements.{All-drop, All-take}
 use Rattle.std.proofs.lemmas.Option.{get_or_from_slice_get, none-some, same_Some}
 use Rattle.kq_extent.specs.Seen.{ExtentView, held_extents, records_in, row_of}
 use Rattle.kq_extent.proofs.Walked.{rows_by}
-use Rattle.kq_piecewise.specs.Operators.{Row}
+use Rattle.kq_stretch.specs.kq_piecewise.Operators.{Row}
 use Rattle.kq_rows.specs.Chunks.{HasWidth}
-use Rattle.kq_piecewise.specs.Pieces.{piece_of}
+use Rattle.kq_stretch.specs.kq_piecewise.Pieces.{piece_of}
 use Rattle.kq_lent.specs.Held.{IsReadable, rows_in, sources_in}
 use Rattle.kq_lent.specs.Lent.{rows_held, rows_of}
 use Rattle.kq_lent.specs.Unread.{BeginsAt, IsRead, UnreadView, rows_among, rows_from, width_of}

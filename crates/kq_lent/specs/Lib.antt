@@ -6,3 +6,7 @@ pub mod ReadParts
 pub mod Sources
 pub mod Unread
 pub mod Yielded
+pub mod kq_stretch
+pub mod kq_piecewise
+pub mod kq_reshape
+pub mod kq_scalar

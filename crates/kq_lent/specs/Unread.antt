@@ -1,7 +1,7 @@
 -- Rows that are read in parts, from sources one after another.
 use Rattle.std.specs.Prelude.{◌≡◌, ◌<◌, ◌++◌, ℕ, suc, List, [], ◌∷◌, length, drop, get_or}
 use Rattle.std.specs.List.{All, flat_map}
-use Rattle.kq_piecewise.specs.Operators.{Row}
+use Rattle.kq_stretch.specs.kq_piecewise.Operators.{Row}
 use Rattle.kq_rows.specs.Chunks.{HasWidth}
 
 -- the rows that are left, and how many cells each of all rows has

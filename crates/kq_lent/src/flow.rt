@@ -1,7 +1,7 @@
 // Rows as they come through row operators, a piece at a time.
 ghost use Rattle.std.specs.Prelude.{◌≡◌, ◌<◌, ◌≤◌, IfOk, length, map};
 ghost use Rattle.kq_rows.specs.Chunks.{same_width};
-ghost use Rattle.kq_scalar.specs.Val.{surroundings};
+ghost use Rattle.kq_stretch.specs.kq_scalar.Val.{surroundings};
 ghost use Rattle.kq_stretch.specs.Operators.{rowwise_of};
 ghost use Rattle.kq_stretch.specs.Pieces.{rows_in as piece_rows};
 ghost use Rattle.kq_stretch.specs.Ran.{failure_of, ran};
@@ -32,7 +32,7 @@ impl<'a> Model for Flow<'a> {
     ghost use Rattle.std.specs.Prelude.{map};
     ghost use Rattle.std.specs.Coded.{codes};
     ghost use Rattle.kq_value.specs.contracts.value.Value as cell;
-    ghost use Rattle.kq_scalar.specs.Val.{surroundings};
+    ghost use Rattle.kq_stretch.specs.kq_scalar.Val.{surroundings};
     ghost use Rattle.kq_stretch.specs.Operators.{rowwise_of};
     ghost use Rattle.kq_lent.specs.Flowing.{Flowing, flowing};
 

@@ -1,6 +1,6 @@
 // The rows that a query reads.
 ghost use Rattle.std.specs.Prelude.{◌≡◌, ◌<◌, ◌^◌, IfOk, length, map, take};
-ghost use Rattle.kq_scalar.specs.Val.{surroundings};
+ghost use Rattle.kq_stretch.specs.kq_scalar.Val.{surroundings};
 ghost use Rattle.kq_lent.specs.Gathered.{gathered};
 ghost use Rattle.kq_extent.specs.Wide.{wide_held};
 ghost use Rattle.kq_lent.specs.Lent.{AreLent, rows_held};

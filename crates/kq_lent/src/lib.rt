@@ -15,5 +15,8 @@ mod unread;
 pub use flow::{Flow, Next};
 pub use gathered::Gathered;
 pub use held::Held;
+pub use kq_stretch::{
+    Operator, RangeFault, Relation, append_arm, distinct_rows, eval, map_rows, range_rows,
+};
 pub use records::Records;
 pub use source::Source;

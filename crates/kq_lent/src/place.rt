@@ -6,8 +6,8 @@ ghost use Rattle.kq_lent.specs.Unread.{BeginsAt, rows_from};
 
 use crate::lending::Lending;
 use crate::source::Source;
-use kq_piecewise::Relation;
 use kq_rows::Rows;
+use kq_stretch::Relation;
 
 // Rows are one source, and each extent is one.
 #[derive(Drop)]

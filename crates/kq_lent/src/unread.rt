@@ -6,8 +6,7 @@ ghost use Rattle.kq_lent.specs.Unread.{width_of};
 
 use crate::place::{Place, Spot};
 use crate::source::Source;
-use kq_piecewise::Relation;
-use kq_stretch::Piece;
+use kq_stretch::{Piece, Relation};
 use std::marker::Model;
 
 // The most rows of a part.

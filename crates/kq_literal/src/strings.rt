@@ -8,8 +8,7 @@ ghost use Rattle.kq_token.specs.Delimited.{closes, step};
 ghost use Rattle.kq_literal.specs.Strings.{SpellsText, escape_len, escape_of, is_string_token, letter_of, long_text_of, quoted_text_of, string_text_of, undoubled, unescaped, verbatim_text_of};
 
 use crate::ascii::ascii_text;
-use kq_token::TokenKind;
-use kq_value::{Memory, Text};
+use kq_token::{Memory, Text, TokenKind};
 use std::alloc::Global;
 
 /// The text that a string's token of this kind stands for.

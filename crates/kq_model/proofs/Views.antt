@@ -7,7 +7,7 @@ use Rattle.std.proofs.lemmas.Bool.Decides.{eqb_tells}
 use Rattle.std.proofs.lemmas.List.{length_push}
 use Rattle.std.proofs.lemmas.List.Elements.{filter-append}
 use Rattle.std.proofs.lemmas.Option.{slice_get_within}
-use Rattle.kq_grouping.specs.Bodies.{IsBody, columns_of, columns_read}
+use Rattle.kq_pipe.specs.kq_grouping.Bodies.{IsBody, columns_of, columns_read}
 use Rattle.kq_plan.specs.Plans.{Planned, planned_of}
 use Rattle.kq_rows.specs.Numbered.{numbered}
 use Rattle.kq_value.specs.declared.record.Record.{Record}

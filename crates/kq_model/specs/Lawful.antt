@@ -1,7 +1,7 @@
 -- What may stand in a journal.
 use Rattle.std.specs.Prelude.{◌≡◌, ◌⊎◌, ◌<◌, ◌≤◌, ◌+◌, ℕ, Bool, false, take, List, [], ◌∷◌, ◌++◌, length, Option, Some, None, option_map, All, if◌then◌else◌, nat_lt}
 use Rattle.std.specs.List.{slice_get}
-use Rattle.kq_grouping.specs.Bodies.{IsBody}
+use Rattle.kq_pipe.specs.kq_grouping.Bodies.{IsBody}
 use Rattle.kq_plan.specs.declared.names.NameKind.TheVariants as name
 use Rattle.kq_plan.specs.Fits.{FitsNames}
 use Rattle.kq_plan.specs.Names.{Known}

@@ -19,3 +19,4 @@ pub mod Tables
 pub mod Tagged
 pub mod Typed
 pub mod Views
+pub mod kq_grouping

@@ -1,9 +1,9 @@
 -- What asks for the moment of a command: a call of now or ago.
 use Rattle.std.specs.Prelude.{Bool, true, false, ◌||◌}
 use Rattle.std.specs.List.{list_any}
-use Rattle.kq_expr.specs.Terms.{Term, literal, column, cell, call, Terms, no_term, and_term, terms_of}
-use Rattle.kq_fn.specs.declared.function.Function.{Function}
-use Rattle.kq_fn.specs.declared.function.Function.TheVariants as f
+use Rattle.kq_pipe.specs.kq_expr.Terms.{Term, literal, column, cell, call, Terms, no_term, and_term, terms_of}
+use Rattle.kq_plan.specs.kq_fn.Function.{Function}
+use Rattle.kq_plan.specs.kq_fn.TheVariants as f
 use Rattle.kq_plan.specs.Plans.{Sorting, Aggregating, rows_counted, summed, least_of, greatest_of, at_greatest, at_least, any_of, set_of, Doing, leaf, one_row, numbers, written, scalar, kept, mapped, cut, counted, sorted, topped, apart, summarized, joined, united, expanded}
 
 abbrev pub is_moment : Function → Bool

@@ -1,7 +1,7 @@
 -- What views cover.
 use Rattle.std.specs.Prelude.{ℕ, Bool, not, ◌&&◌, List, length, map, take, nat_lt}
 use Rattle.std.specs.List.{filter}
-use Rattle.kq_grouping.specs.Bodies.{columns_read}
+use Rattle.kq_pipe.specs.kq_grouping.Bodies.{columns_read}
 use Rattle.kq_plan.specs.Plans.{planned_of}
 use Rattle.kq_value.specs.declared.record.Record.{Record}
 use Rattle.kq_value.specs.declared.value.Value.{Value}

@@ -28,7 +28,7 @@ impl Model for SharedView {
     ghost use Rattle.std.specs.Arc.{arc_value};
     ghost use Rattle.std.specs.Coded.{codes};
     ghost use Rattle.kq_value.specs.contracts.value.Value as cell;
-    ghost use Rattle.kq_expr.specs.contracts.expr.Expr as expr;
+    ghost use Rattle.kq_pipe.specs.kq_expr.Expr as expr;
     ghost use Rattle.kq_model.specs.declared.view.View.{View as Seen};
 
     ghost Value = { Seen };

@@ -1,9 +1,9 @@
 -- What keys and what is kept of them have side by side.
 use Rattle.std.proofs.Common.{◌≡◌, ◌<◌, ◌+◌, ℕ, zero, suc, List, [], ◌∷◌, ◌++◌, length, map, get_or, refl, sym, ap, ◌∙◌, arith, length-append}
 use Rattle.std.proofs.lemmas.List.{get_or-map, length-map}
-use Rattle.kq_agg.specs.Holds.{Kept}
-use Rattle.kq_agg.specs.Steps.{kept_at}
-use Rattle.kq_agg.specs.Tables.{Numbered}
+use Rattle.kq_group.specs.kq_agg.Holds.{Kept}
+use Rattle.kq_group.specs.kq_agg.Steps.{kept_at}
+use Rattle.kq_group.specs.kq_agg.Tables.{Numbered}
 use Rattle.kq_rows.specs.Chunks.{row_at}
 use Rattle.kq_value.specs.declared.value.Value.{Value}
 use Rattle.kq_group.specs.Grouped.{AggregateShape}

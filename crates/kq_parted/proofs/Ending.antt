@@ -3,9 +3,9 @@ use Rattle.std.proofs.Common.{◌≡◌, ◌<◌, ◌+◌, ℕ, zero, suc, List,
 use Rattle.std.specs.List.{All}
 use Rattle.std.proofs.lemmas.List.{get_or_append_left, get_or-append-add, drop_more}
 use Rattle.std.proofs.lemmas.List.Elements.{All-append, All-cons, All-nil}
-use Rattle.kq_agg.specs.Holds.{Kept, finished}
-use Rattle.kq_agg.specs.Steps.{kept_at}
-use Rattle.kq_agg.specs.Tables.{Numbered}
+use Rattle.kq_group.specs.kq_agg.Holds.{Kept, finished}
+use Rattle.kq_group.specs.kq_agg.Steps.{kept_at}
+use Rattle.kq_group.specs.kq_agg.Tables.{Numbered}
 use Rattle.kq_computed.specs.Computed.{Answers, Computed, Is, Overflow, and_then}
 use Rattle.kq_computed.specs.declared.fault.EvalFault.{EvalFault}
 use Rattle.kq_computed.specs.declared.fault.EvalFault.TheVariants as fault

@@ -5,10 +5,10 @@ use Rattle.std.proofs.lemmas.Bool.{cases_lt, false≢true}
 use Rattle.std.proofs.lemmas.Bool.Decides.{Decides-eqb}
 use Rattle.std.proofs.lemmas.List.{get_or-map, get_or-replicate, get_or_append_left, get_or_push, length-map, length-replicate, replicate_more}
 use Rattle.std.proofs.lemmas.List.Elements.{All-append, All-cons, All-nil}
-use Rattle.kq_agg.specs.Holds.{Kept, Holds}
-use Rattle.kq_agg.specs.Steps.{kept_at}
-use Rattle.kq_agg.specs.Tables.{Numbered}
-use Rattle.kq_agg.specs.declared.kind.Kind.{Kind}
+use Rattle.kq_group.specs.kq_agg.Holds.{Kept, Holds}
+use Rattle.kq_group.specs.kq_agg.Steps.{kept_at}
+use Rattle.kq_group.specs.kq_agg.Tables.{Numbered}
+use Rattle.kq_group.specs.kq_agg.Kind.{Kind}
 use Rattle.kq_rows.specs.Chunks.{HasWidth, row_at}
 use Rattle.kq_value.specs.Same.{times}
 use Rattle.kq_value.specs.Values.{is_same_row}

@@ -1,8 +1,8 @@
 -- Groups in shards, by the hashes of their keys.
 use Rattle.std.specs.Prelude.{◌≡◌, ◌<◌, ◌≤◌, ◌+◌, ◌%◌, ℕ, min, Bool, nat_eq, List, [], ◌∷◌, ◌++◌, length, map, get_or, Result}
 use Rattle.std.specs.List.{All, flat_map}
-use Rattle.kq_agg.specs.Holds.{Kept}
-use Rattle.kq_agg.specs.Tables.{Numbered}
+use Rattle.kq_group.specs.kq_agg.Holds.{Kept}
+use Rattle.kq_group.specs.kq_agg.Tables.{Numbered}
 use Rattle.kq_computed.specs.Computed.{Computed, Is, and_then}
 use Rattle.kq_computed.specs.declared.fault.EvalFault.{EvalFault}
 use Rattle.kq_rows.specs.Chunks.{HasWidth}

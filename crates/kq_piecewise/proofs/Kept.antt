@@ -3,13 +3,13 @@ use Rattle.std.proofs.Common.{◌≡◌, ◌<◌, ◌≤◌, ◌+◌, ◌-◌, �
 use Rattle.std.proofs.lemmas.List.Elements.{All-nil, All-cons}
 use Rattle.std.specs.List.{All}
 use Rattle.kq_value.specs.declared.value.Value.{Value}
-use Rattle.kq_arithmetic.specs.Logic.{is_yes}
+use Rattle.kq_columnar.specs.kq_arithmetic.Logic.{is_yes}
 use Rattle.kq_computed.specs.Computed.{Computed, Is, Overflow, and_then, each, Answers, AnswersAs}
 use Rattle.kq_computed.specs.declared.fault.EvalFault.{EvalFault}
 use Rattle.kq_computed.specs.declared.fault.EvalFault.TheVariants as faults
 use Rattle.kq_expr.specs.Terms.{Term}
 use Rattle.kq_rows.specs.Chunks.{row_at}
-use Rattle.kq_scalar.specs.Val.{Surroundings, meaning, cell_of}
+use Rattle.kq_columnar.specs.kq_scalar.Val.{Surroundings, meaning, cell_of}
 use Rattle.kq_piecewise.specs.Operators.{filtered}
 use Rattle.kq_piecewise.specs.Pieces.{places_true, places_where}
 use Rattle.kq_piecewise.proofs.Laws.{up_to, each_long, piece_counts}

@@ -5,3 +5,4 @@ pub mod Laws
 pub mod Mapped
 pub mod Reading
 pub mod Standing
+pub mod kq_scalar

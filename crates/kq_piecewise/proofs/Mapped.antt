@@ -12,7 +12,7 @@ use Rattle.kq_columnar.specs.Vectors.{cells_of, rows_at}
 use Rattle.kq_expr.specs.declared.expr.Expr.{Expr}
 use Rattle.kq_expr.specs.Terms.{Term, column, term_of}
 use Rattle.kq_rows.specs.Chunks.{row_at as row_of}
-use Rattle.kq_scalar.specs.Val.{Meaning, Surroundings, meaning, val, values, cell_of}
+use Rattle.kq_columnar.specs.kq_scalar.Val.{Meaning, Surroundings, meaning, val, values, cell_of}
 use Rattle.kq_piecewise.specs.declared.sources.Source.{Source}
 use Rattle.kq_piecewise.specs.declared.sources.Source.TheVariants.{Column, Made}
 use Rattle.kq_piecewise.specs.Operators.{values_at}

@@ -4,17 +4,17 @@ use Rattle.std.specs.List.{All, concat}
 use Rattle.std.proofs.lemmas.List.Elements.{All-nil, All-cons, All-head, All-tail}
 use Rattle.kq_value.specs.declared.value.Value.{Value}
 use Rattle.kq_computed.specs.Computed.{Is, and_then}
-use Rattle.kq_fn.specs.declared.function.Function.{Function}
-use Rattle.kq_fn.specs.declared.function.Function.TheVariants as f
+use Rattle.kq_columnar.specs.kq_fn.Function.{Function}
+use Rattle.kq_columnar.specs.kq_fn.TheVariants as f
 use Rattle.kq_expr.specs.declared.expr.Expr.{Expr}
 use Rattle.kq_expr.specs.declared.expr.Expr.TheOpen.{Expr-F}
 use Rattle.kq_expr.specs.declared.expr.Expr.TheViews.{roll-Expr}
 use Rattle.kq_expr.specs.declared.expr.Expr.TheFolds.{ind-Expr, fold-roll-Expr, map-Expr}
-use Rattle.kq_arithmetic.specs.Logic.{is_yes}
-use Rattle.kq_conversions.specs.Converted.{empty_test}
+use Rattle.kq_columnar.specs.kq_arithmetic.Logic.{is_yes}
+use Rattle.kq_columnar.specs.kq_conversions.Converted.{empty_test}
 use Rattle.std.specs.Prelude.{if◌then◌else◌}
-use Rattle.kq_scalar.specs.Applied.{applied}
-use Rattle.kq_scalar.specs.Val.{Surroundings, Meaning, val, val_step, values, first_chosen, first_present, called, cell_of}
+use Rattle.kq_columnar.specs.kq_scalar.Applied.{applied}
+use Rattle.kq_columnar.specs.kq_scalar.Val.{Surroundings, Meaning, val, val_step, values, first_chosen, first_present, called, cell_of}
 use Rattle.kq_piecewise.specs.Pieces.{reads_step, columns_read}
 
 module _ {X : Type 0} (P : X → Type 0) where

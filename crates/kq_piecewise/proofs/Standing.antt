@@ -13,8 +13,8 @@ use Rattle.kq_columnar.specs.Vectors.{cells_of, row_at, rows_at}
 use Rattle.kq_expr.specs.declared.expr.Expr.{Expr}
 use Rattle.kq_expr.specs.Terms.{term_of}
 use Rattle.kq_rows.specs.Chunks.{row_at as row_of}
-use Rattle.kq_scalar.proofs.Meant.{val_is_meaning}
-use Rattle.kq_scalar.specs.Val.{Meaning, Surroundings, val, meaning, cell_of}
+use Rattle.kq_columnar.proofs.kq_scalar.Meant.{val_is_meaning}
+use Rattle.kq_columnar.specs.kq_scalar.Val.{Meaning, Surroundings, val, meaning, cell_of}
 use Rattle.kq_piecewise.specs.Pieces.{Hold, column_of, columns_read, piece_of}
 use Rattle.kq_piecewise.proofs.Reading.{Same, reads_alone}
 

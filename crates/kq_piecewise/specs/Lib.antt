@@ -1,3 +1,6 @@
 pub mod Operators
 pub mod Pieces
 pub mod Sources
+pub mod kq_scalar
+pub mod kq_arithmetic
+pub mod kq_expr

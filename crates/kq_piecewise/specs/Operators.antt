@@ -3,8 +3,8 @@ use Rattle.std.specs.Prelude.{List, [], ◌∷◌, if◌then◌else◌, map}
 use Rattle.kq_value.specs.declared.value.Value.{Value}
 use Rattle.kq_computed.specs.Computed.{Computed, Is, and_then}
 use Rattle.kq_expr.specs.Terms.{Term}
-use Rattle.kq_arithmetic.specs.Logic.{is_yes}
-use Rattle.kq_scalar.specs.Val.{Surroundings, meaning, values}
+use Rattle.kq_columnar.specs.kq_arithmetic.Logic.{is_yes}
+use Rattle.kq_columnar.specs.kq_scalar.Val.{Surroundings, meaning, values}
 
 abbrev pub Row : Type 0
 Row = List Value

@@ -2,14 +2,14 @@
 use Rattle.std.specs.Prelude.{◌≡◌, ◌+◌, ◌-◌, if◌then◌else◌, ℕ, Bool, true, false, List, [], ◌∷◌, map, get_or, take, drop}
 use Rattle.std.specs.List.{All, concat}
 use Rattle.kq_value.specs.declared.value.Value.{Value}
-use Rattle.kq_arithmetic.specs.Logic.{is_yes}
+use Rattle.kq_columnar.specs.kq_arithmetic.Logic.{is_yes}
 use Rattle.kq_computed.specs.Computed.{Computed, Is, and_then, each}
 use Rattle.kq_columnar.specs.declared.vector.Vector.{Vector}
 use Rattle.kq_columnar.specs.Vectors.{cells_of}
 use Rattle.kq_expr.specs.declared.expr.Expr.{Expr, fold-Expr}
 use Rattle.kq_expr.specs.declared.expr.Expr.TheOpen.{Expr-F}
 use Rattle.kq_expr.specs.Terms.{Term, column, term_of}
-use Rattle.kq_scalar.specs.Val.{cell_of}
+use Rattle.kq_columnar.specs.kq_scalar.Val.{cell_of}
 
 abbrev pub reads_step : Expr-F (List ℕ) → List ℕ
 reads_step (Expr-F.Literal v) = []

@@ -7,7 +7,7 @@ use Rattle.kq_computed.specs.Computed.{AnswersAs, Computed, Is, Overflow, each}
 use Rattle.kq_computed.specs.declared.fault.EvalFault.{EvalFault}
 use Rattle.kq_computed.specs.declared.fault.EvalFault.TheVariants as fault
 use Rattle.kq_expr.specs.Terms.{Term, column}
-use Rattle.kq_scalar.specs.Val.{Surroundings, cell_of}
+use Rattle.kq_columnar.specs.kq_scalar.Val.{Surroundings, cell_of}
 use Rattle.kq_piecewise.specs.Operators.{values_at}
 use Rattle.kq_piecewise.specs.Pieces.{is_column}
 use Rattle.kq_piecewise.specs.declared.sources.Source.{Source}

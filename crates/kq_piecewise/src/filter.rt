@@ -3,13 +3,12 @@ ghost use Rattle.std.specs.Prelude.{◌≡◌, ◌++◌, ◌+◌, [], ◌∷◌,
 ghost use Rattle.kq_computed.specs.Computed.{AnswersAs};
 ghost use Rattle.kq_columnar.specs.Vectors.{cells_of};
 ghost use Rattle.kq_expr.specs.Terms.{term_of};
-ghost use Rattle.kq_scalar.specs.Val.{meaning, surroundings};
+ghost use Rattle.kq_columnar.specs.kq_scalar.Val.{meaning, surroundings};
 ghost use Rattle.kq_piecewise.specs.Pieces.{places_true, places_where};
 
 use crate::piece::{PIECE, eval_piece};
 use crate::relation::Relation;
-use kq_arithmetic::is_yes;
-use kq_columnar::Vector;
+use kq_columnar::{Vector, is_yes};
 use kq_computed::EvalFault;
 use kq_expr::Expr;
 use kq_value::{Memory, Value};

@@ -14,6 +14,8 @@ mod values;
 
 pub use copy::copy_row;
 pub use filter::places_kept;
+pub use kq_columnar::eval;
+pub use kq_expr::Expr;
 pub use map::map_rows;
 pub use numbers::Number;
 pub use relation::Relation;

@@ -4,7 +4,7 @@ ghost use Rattle.std.specs.List.{All};
 ghost use Rattle.kq_computed.specs.Computed.{Answers, AnswersAs, each};
 ghost use Rattle.kq_expr.specs.Terms.{term_of};
 ghost use Rattle.kq_rows.specs.Chunks.{HasWidth, row_at};
-ghost use Rattle.kq_scalar.specs.Val.{surroundings};
+ghost use Rattle.kq_columnar.specs.kq_scalar.Val.{surroundings};
 ghost use Rattle.kq_piecewise.specs.Operators.{values_at};
 ghost use Rattle.kq_piecewise.specs.Pieces.{piece_of};
 ghost use Rattle.kq_piecewise.specs.Sources.{GiveBehind, MakeRows, row_from, rows_from};

@@ -4,7 +4,7 @@ ghost use Rattle.std.specs.List.{range_with_len};
 ghost use Rattle.kq_computed.specs.Computed.{AnswersAs, each};
 ghost use Rattle.kq_columnar.specs.Vectors.{cells_of};
 ghost use Rattle.kq_expr.specs.Terms.{term_of};
-ghost use Rattle.kq_scalar.specs.Val.{meaning, surroundings};
+ghost use Rattle.kq_columnar.specs.kq_scalar.Val.{meaning, surroundings};
 ghost use Rattle.kq_piecewise.specs.Pieces.{piece_of};
 
 use crate::columns::columns_in;

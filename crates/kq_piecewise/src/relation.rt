@@ -1,7 +1,7 @@
 // Where rows stand.
 ghost use Rattle.std.specs.Prelude.{◌≡◌, ◌<◌, ◌^◌, IfOk, IfSome, length, slice_get};
 ghost use Rattle.kq_rows.specs.Chunks.{row_at};
-ghost use Rattle.kq_scalar.specs.Val.{cell_of};
+ghost use Rattle.kq_columnar.specs.kq_scalar.Val.{cell_of};
 
 use crate::numbers::Number;
 use kq_rows::Rows;

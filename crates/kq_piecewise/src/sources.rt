@@ -5,7 +5,7 @@ ghost use Rattle.kq_columnar.specs.Vectors.{cells_of, rows_at};
 ghost use Rattle.kq_computed.specs.Computed.{each};
 ghost use Rattle.kq_expr.specs.Terms.{term_of};
 ghost use Rattle.kq_rows.specs.Chunks.{row_at};
-ghost use Rattle.kq_scalar.specs.Val.{cell_of, surroundings, val};
+ghost use Rattle.kq_columnar.specs.kq_scalar.Val.{cell_of, surroundings, val};
 ghost use Rattle.kq_piecewise.specs.Sources.{Sourced, StandBehind, cell_from};
 
 use crate::reads::column_alone;

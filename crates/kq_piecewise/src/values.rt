@@ -3,7 +3,7 @@ ghost use Rattle.std.specs.Prelude.{◌≡◌, ◌++◌, IfOk, OnOk, length};
 ghost use Rattle.kq_computed.specs.Computed.{AnswersAs, each};
 ghost use Rattle.kq_columnar.specs.Vectors.{cells_of};
 ghost use Rattle.kq_expr.specs.Terms.{term_of};
-ghost use Rattle.kq_scalar.specs.Val.{meaning, surroundings};
+ghost use Rattle.kq_columnar.specs.kq_scalar.Val.{meaning, surroundings};
 
 use crate::columns::cells_in;
 use crate::piece::{PIECE, eval_piece};

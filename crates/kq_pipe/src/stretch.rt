@@ -1,7 +1,7 @@
 // Stretches: steps in a row that take rows of one another, and run as one.
 ghost use Rattle.std.specs.Prelude.{◌≡◌, ◌-◌, ◌<◌, ℕ, IfOk, Some, false, true, length, map};
 ghost use Rattle.kq_plan.specs.Plans.{counted, doing_of, stepping_of};
-ghost use Rattle.kq_scalar.specs.Val.{surroundings};
+ghost use Rattle.kq_grouping.specs.kq_scalar.Val.{surroundings};
 ghost use Rattle.kq_pipe.specs.declared.outcome.Outcome.TheVariants as outcome;
 ghost use Rattle.kq_pipe.specs.Ended.{EndsAs};
 ghost use Rattle.kq_pipe.specs.Gives.{around};
@@ -15,8 +15,7 @@ use crate::outcome::{Outcome, cells, order_at, rows_at};
 use crate::single::tally_row;
 use crate::sinks::{Ended, count_all, group_all, keep_all};
 use crate::step::run_step;
-use kq_grouping::{operators, stage_in};
-use kq_lent::{Flow, Held};
+use kq_grouping::{Flow, Held, operators, stage_in};
 use kq_plan::{Step, Work};
 use kq_rows::Rows;
 use kq_value::{Memory, Value};

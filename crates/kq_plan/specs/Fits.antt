@@ -9,10 +9,10 @@ use Rattle.kq_plan.specs.declared.work.LeafKind.{LeafKind}
 use Rattle.kq_plan.specs.declared.work.LeafKind.TheVariants as kind
 use Rattle.kq_plan.specs.Names.{Known}
 use Rattle.kq_plan.specs.Plans.{Sorting, Aggregating, rows_counted, summed, least_of, greatest_of, at_greatest, at_least, any_of, set_of, Filling, Doing, leaf, one_row, numbers, written, scalar, kept, mapped, cut, counted, sorted, topped, apart, summarized, joined, united, expanded, Stepping, Planned}
-use Rattle.kq_value.specs.declared.schema.Field.{Field}
-use Rattle.kq_value.specs.declared.ty.Ty.{Ty}
-use Rattle.kq_value.specs.declared.ty.Ty.TheVariants as ty
-use Rattle.kq_value.specs.Typed.{HasTypes}
+use Rattle.kq_expr.specs.kq_value.Field.{Field}
+use Rattle.kq_expr.specs.kq_value.Ty.{Ty}
+use Rattle.kq_expr.specs.kq_value.TheVariants as ty
+use Rattle.kq_expr.specs.kq_value.Typed.{HasTypes}
 
 -- ---- what earlier steps give
 

@@ -13,9 +13,9 @@ use Rattle.kq_plan.specs.declared.work.LeafKind.{LeafKind}
 use Rattle.kq_plan.specs.declared.work.SortKey.{SortKey}
 use Rattle.kq_plan.specs.declared.work.Work.{Work}
 use Rattle.kq_plan.specs.declared.work.Work.TheVariants as work
-use Rattle.kq_value.specs.declared.schema.Field.{Field}
-use Rattle.kq_value.specs.declared.ty.Ty.{Ty}
-use Rattle.kq_value.specs.declared.value.Value.{Value}
+use Rattle.kq_expr.specs.kq_value.Field.{Field}
+use Rattle.kq_expr.specs.kq_value.Ty.{Ty}
+use Rattle.kq_expr.specs.kq_value.Value.{Value}
 
 -- a key of a sort: its value, whether it descends, and whether nulls come first
 pub record Sorting : Type 0 where

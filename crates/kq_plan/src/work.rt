@@ -1,7 +1,6 @@
 // What a step does. Columns are named by their numbers, from 0.
 
-use kq_expr::Expr;
-use kq_value::{Text, Ty, Value};
+use kq_expr::{Expr, Text, Ty, Value};
 
 /// Which rows a leaf gives.
 #[derive(Clone, Copy, Debug, PartialEq, Eq)]

@@ -9,7 +9,7 @@ use Rattle.kq_computed.specs.Computed.{Is}
 use Rattle.kq_extent.specs.Seen.{HeldExtents, held_records, row_of}
 use Rattle.kq_extent.specs.Wide.{wide_held}
 use Rattle.kq_extent.proofs.Wide.{held_records-wide}
-use Rattle.kq_lent.specs.Lent.{AreLent, rows_held}
+use Rattle.kq_pipe.specs.kq_lent.Lent.{AreLent, rows_held}
 use Rattle.kq_model.specs.declared.table.Table.{Table}
 use Rattle.kq_model.specs.Beside.{TableBeside, cut_to, rows_beside}
 use Rattle.kq_model.specs.Derived.{Row}

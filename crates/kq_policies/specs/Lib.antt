@@ -2,3 +2,4 @@ pub mod Over
 pub mod Quiet
 pub mod Reading
 pub mod World
+pub mod kq_cascade

@@ -9,6 +9,8 @@ mod policies;
 mod quiet;
 mod running;
 
+pub use kq_cascade::{BatchRows, CascadeFault, Derived};
+pub use kq_pipe::Held;
 pub use lookups::looked;
 pub use policies::derive;
 pub use quiet::is_quiet_since;

@@ -6,7 +6,7 @@ use Rattle.std.proofs.lemmas.List.Elements.{recursion_from_All}
 use Rattle.kq_world.specs.Outside.{Contents, Rose}
 use Rattle.kq_model.specs.declared.limits.Limits.{Limits}
 use Rattle.kq_model.specs.History.{History}
-use Rattle.kq_catalog.specs.Seen.{CatalogView, hist}
+use Rattle.kq_workers.specs.kq_catalog.Seen.{CatalogView, hist}
 use Rattle.kq_words.specs.Words.{Asked}
 use Rattle.kq_session.specs.Complete.{IsComplete}
 use Rattle.kq_session.specs.Objects.{Objects, SessionView}

@@ -6,8 +6,8 @@ use Rattle.kq_world.specs.Outside.{Contents, Rose}
 use Rattle.kq_model.specs.declared.limits.Limits.{Limits}
 use Rattle.kq_model.specs.Limits.{AreFull}
 use Rattle.kq_model.specs.History.{History, cursor}
-use Rattle.kq_catalog.specs.Seen.{CatalogView, hist, Sound}
-use Rattle.kq_engine.specs.Shared.{PassView}
+use Rattle.kq_workers.specs.kq_catalog.Seen.{CatalogView, hist, Sound}
+use Rattle.kq_workers.specs.kq_engine.Shared.{PassView}
 use Rattle.kq_session.specs.declared.end.End.{End}
 use Rattle.kq_session.specs.declared.end.End.TheVariants.{Finished, Short, SourceFault, SinkFault, InputLimit}
 use Rattle.kq_session.specs.declared.receipt.Receipt.{Receipt}

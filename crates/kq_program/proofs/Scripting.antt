@@ -6,7 +6,7 @@ use Rattle.kq_world.specs.Outside.{Contents, SourceView}
 use Rattle.kq_world.proofs.Faults.{same-later}
 use Rattle.kq_model.specs.declared.limits.Limits.{Limits}
 use Rattle.kq_model.specs.History.{History}
-use Rattle.kq_engine.specs.Shared.{PassView}
+use Rattle.kq_workers.specs.kq_engine.Shared.{PassView}
 use Rattle.kq_session.specs.declared.end.End.{End}
 use Rattle.kq_session.specs.declared.end.End.TheVariants as ends
 use Rattle.kq_session.specs.Ends.{status_of}

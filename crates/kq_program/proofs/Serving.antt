@@ -6,7 +6,7 @@ use Rattle.kq_turn.specs.Passes.{TurnId}
 use Rattle.kq_turn.proofs.Beginnings.{IsPrefix-trans}
 use Rattle.kq_model.specs.declared.limits.Limits.{Limits}
 use Rattle.kq_model.specs.History.{History}
-use Rattle.kq_engine.specs.Shared.{PassView}
+use Rattle.kq_workers.specs.kq_engine.Shared.{PassView}
 use Rattle.kq_session.specs.Session.{Explained, owns}
 use Rattle.kq_session.proofs.Serving.{Explained-later}
 use Rattle.kq_program.specs.Together.{IsServed, AreServed, Passed, ServedOne, ServedAll, all_owns}

@@ -5,10 +5,10 @@ use Rattle.std.proofs.lemmas.List.Elements.{All-cons, All-nil}
 use Rattle.std.proofs.lemmas.Bool.Decides.{nat_tests}
 use Rattle.kq_model.specs.declared.limits.Limits.{Limits}
 use Rattle.kq_model.specs.History.{History, CommitAt, cursor, commits_at}
-use Rattle.kq_engine.specs.Fits.{own_commit}
-use Rattle.kq_engine.specs.Shared.{commit_count}
-use Rattle.kq_engine.proofs.Counting.{length-commits_at}
-use Rattle.kq_engine.proofs.Owning.{IsIn, IsRising, commits_at-rising}
+use Rattle.kq_workers.specs.kq_engine.Fits.{own_commit}
+use Rattle.kq_workers.specs.kq_engine.Shared.{commit_count}
+use Rattle.kq_workers.proofs.kq_engine.Counting.{length-commits_at}
+use Rattle.kq_workers.proofs.kq_engine.Owning.{IsIn, IsRising, commits_at-rising}
 use Rattle.kq_session.specs.declared.receipt.Receipt.{Receipt}
 use Rattle.kq_session.specs.Objects.{Objects, SessionView}
 use Rattle.kq_session.specs.Session.{Explained, owns, own_commits}

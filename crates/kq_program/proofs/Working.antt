@@ -2,7 +2,7 @@
 use Rattle.std.proofs.Common.{◌∙◌, ℕ, Bool, [], refl, sym, add-zero}
 use Rattle.kq_turn.proofs.Beginnings.{IsPrefix-refl}
 use Rattle.kq_model.specs.declared.limits.Limits.{Limits}
-use Rattle.kq_engine.specs.Shared.{PassView}
+use Rattle.kq_workers.specs.kq_engine.Shared.{PassView}
 use Rattle.kq_workers.specs.Rounds.{Works}
 use Rattle.kq_program.specs.Together.{Passed}
 

@@ -4,7 +4,7 @@ use Rattle.kq_world.specs.Outside.{Contents, Rose}
 use Rattle.kq_model.specs.declared.limits.Limits.{Limits}
 use Rattle.kq_model.specs.Limits.{AreFull}
 use Rattle.kq_model.specs.History.{History}
-use Rattle.kq_catalog.specs.Seen.{CatalogView, hist, Sound}
+use Rattle.kq_workers.specs.kq_catalog.Seen.{CatalogView, hist, Sound}
 use Rattle.kq_words.specs.Words.{Asked}
 use Rattle.kq_session.specs.Complete.{IsComplete, IsUntroubled}
 use Rattle.kq_session.specs.Objects.{Objects}

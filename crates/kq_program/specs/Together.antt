@@ -5,7 +5,7 @@ use Rattle.kq_world.specs.Outside.{SourceView}
 use Rattle.kq_world.specs.declared.outside.Parts.{Parts}
 use Rattle.kq_model.specs.declared.limits.Limits.{Limits}
 use Rattle.kq_model.specs.History.{History}
-use Rattle.kq_engine.specs.Shared.{PassView}
+use Rattle.kq_workers.specs.kq_engine.Shared.{PassView}
 use Rattle.kq_session.specs.Objects.{Objects, objects}
 use Rattle.kq_session.specs.Session.{Explained, owns}
 use Rattle.kq_session.specs.Exchanges.{Rises}

@@ -1,7 +1,7 @@
 -- What contracts see of a run and its sessions.
 use Rattle.std.specs.Prelude.{ℕ, List, Option}
 use Rattle.kq_world.specs.Outside.{Contents}
-use Rattle.kq_catalog.specs.Seen.{CatalogView}
+use Rattle.kq_workers.specs.kq_catalog.Seen.{CatalogView}
 use Rattle.kq_session.specs.Objects.{Objects, SessionView}
 
 -- what a session is given: of how many rows its script is generated, where it is, and what its objects tell at first

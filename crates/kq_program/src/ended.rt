@@ -1,7 +1,7 @@
 // What the program hands back.
-use kq_catalog::Catalog;
 use kq_session::Receipts;
 use kq_value::Text;
+use kq_workers::Catalog;
 use kq_world::{Clock, Sink, Source, World};
 use std::marker::Model;
 

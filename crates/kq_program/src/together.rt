@@ -6,10 +6,10 @@ ghost use Rattle.kq_program.specs.Together.{ServedOne, ServedAll, scripted, unse
 use crate::ended::EndedSession;
 use crate::opened::OpenedSession;
 use crate::program::MEMORY;
-use kq_engine::{Pass, Shared};
 use kq_gen::ScriptSource;
 use kq_session::{Receipts, Served, serve};
 use kq_value::Text;
+use kq_workers::{Pass, Shared};
 use kq_world::{Clock, Gate, Parts, Sink, Source};
 use std::alloc::Global;
 use std::sync::Wait;

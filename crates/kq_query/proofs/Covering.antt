@@ -9,7 +9,7 @@ use Rattle.std.proofs.lemmas.List.Sorted.{sum_by-IsPermutation}
 use Rattle.kq_extent.proofs.Wide.{held_records-wide}
 use Rattle.kq_extent.specs.Seen.{HeldExtents, held_records, row_of}
 use Rattle.kq_extent.specs.Wide.{wide_held}
-use Rattle.kq_grouping.specs.Bodies.{columns_read}
+use Rattle.kq_pipe.specs.kq_grouping.Bodies.{columns_read}
 use Rattle.kq_model.specs.declared.view.View.{View}
 use Rattle.kq_model.specs.History.{Log}
 use Rattle.kq_model.specs.Records.{records, schema_of}

@@ -6,8 +6,8 @@ use Rattle.std.proofs.lemmas.Bool.{false≢true}
 use Rattle.kq_computed.specs.Computed.{Computed, Is, Overflow}
 use Rattle.kq_computed.specs.declared.fault.EvalFault.{EvalFault}
 use Rattle.kq_computed.specs.declared.fault.EvalFault.TheVariants as fault
-use Rattle.kq_grouping.specs.Bodies.{AnswersMade, IsBody, MadeOf, columns_made, is_summarize, known_alone}
-use Rattle.kq_grouping.specs.Steps.{last_of}
+use Rattle.kq_pipe.specs.kq_grouping.Bodies.{AnswersMade, IsBody, MadeOf, columns_made, is_summarize, known_alone}
+use Rattle.kq_pipe.specs.kq_grouping.Steps.{last_of}
 use Rattle.kq_pipe.proofs.Bodied.{body_gives, body_lost}
 use Rattle.kq_pipe.proofs.Typed.{gives_typed}
 use Rattle.kq_pipe.specs.declared.outcome.Outcome.{Outcome}

@@ -7,8 +7,8 @@ use Rattle.std.proofs.lemmas.List.Sorted.{IsPermutation-map, IsPermutation-sym, 
 use Rattle.kq_computed.specs.Computed.{Is}
 use Rattle.kq_extent.specs.Seen.{HeldExtents, held_records, row_of}
 use Rattle.kq_extent.specs.Wide.{wide_held}
-use Rattle.kq_grouping.specs.Bodies.{columns_made}
-use Rattle.kq_lent.specs.Lent.{AreLent, rows_held}
+use Rattle.kq_pipe.specs.kq_grouping.Bodies.{columns_made}
+use Rattle.kq_pipe.specs.kq_lent.Lent.{AreLent, rows_held}
 use Rattle.kq_model.specs.declared.table.Table.{Table}
 use Rattle.kq_model.specs.History.{History, NumberedTable, log, tables}
 use Rattle.kq_model.specs.Records.{records, rows_in, schema_of}

@@ -12,8 +12,8 @@ use Rattle.kq_computed.specs.declared.fault.EvalFault.{EvalFault}
 use Rattle.kq_extent.proofs.Wide.{held_records-wide}
 use Rattle.kq_extent.specs.Seen.{HeldExtents, held_records}
 use Rattle.kq_extent.specs.Wide.{wide_held}
-use Rattle.kq_group.specs.Groups.{Grouping}
-use Rattle.kq_grouping.specs.Bodies.{AnswersMade, IsViewBody, StandsFor, columns_read}
+use Rattle.kq_catalog.specs.kq_group.Groups.{Grouping}
+use Rattle.kq_pipe.specs.kq_grouping.Bodies.{AnswersMade, IsViewBody, StandsFor, columns_read}
 use Rattle.kq_model.specs.declared.table.Table.{Table}
 use Rattle.kq_model.specs.declared.view.View.{View}
 use Rattle.kq_model.specs.History.{History, Log, Viewed, cursor, log, view_cursor, tables, views}

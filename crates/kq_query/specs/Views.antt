@@ -3,7 +3,7 @@ use Rattle.std.specs.Prelude.{◌≡◌, ℕ, pos, Bool, List, All, Option, leng
 use Rattle.std.specs.List.{list_any, slice_get}
 use Rattle.std.specs.Option.{option_map}
 use Rattle.kq_computed.specs.Computed.{Computed, Is, Overflow}
-use Rattle.kq_grouping.specs.Bodies.{columns_made}
+use Rattle.kq_pipe.specs.kq_grouping.Bodies.{columns_made}
 use Rattle.kq_model.specs.declared.view.View.{View}
 use Rattle.kq_model.specs.History.{History, Viewed, cursor, log, view_cursor, views}
 use Rattle.kq_model.specs.Records.{ExtentItem, extents}

@@ -2,7 +2,7 @@
 use Rattle.std.specs.Prelude.{ℕ, List, All, Option, Some, None}
 use Rattle.std.specs.Option.{option_and_then, option_map, option_or}
 use Rattle.kq_computed.specs.Computed.{Computed, Is, Overflow}
-use Rattle.kq_grouping.specs.Bodies.{columns_made}
+use Rattle.kq_pipe.specs.kq_grouping.Bodies.{columns_made}
 use Rattle.kq_model.specs.declared.view.View.{View}
 use Rattle.kq_model.specs.History.{History, NumberedTable, log, names_of_views, tables, table_numbered, views}
 use Rattle.kq_model.specs.Records.{rows_in}

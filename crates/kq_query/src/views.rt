@@ -1,7 +1,7 @@
 // The rows of views.
 ghost use Rattle.std.specs.Prelude.{◌≡◌, ◌<◌, ◌≤◌, ◌+◌, ◌^◌, IfOk, Some, if◌then◌else◌, length, nat_lt};
 ghost use Rattle.kq_extent.specs.Seen.{held_extents, held_records};
-ghost use Rattle.kq_grouping.specs.Bodies.{columns_read};
+ghost use Rattle.kq_pipe.specs.kq_grouping.Bodies.{columns_read};
 ghost use Rattle.kq_model.specs.declared.view.View.{View as Seen};
 ghost use Rattle.kq_model.specs.History.{log, view_count};
 ghost use Rattle.kq_pipe.specs.Operators.{AnswersOne};
@@ -13,8 +13,8 @@ use kq_catalog::Snapshot;
 use kq_computed::EvalFault;
 use kq_extent::TableExtents;
 use kq_fold::view_rows;
-use kq_lent::Held;
 use kq_model::View;
+use kq_pipe::Held;
 use kq_plan::{LeafKind, Plan};
 use kq_rows::Rows;
 use kq_scan::delta;

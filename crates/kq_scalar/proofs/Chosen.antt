@@ -4,7 +4,7 @@ use Rattle.std.specs.Prelude.{not}
 use Rattle.kq_value.specs.declared.value.Value.{Value}
 use Rattle.kq_computed.specs.Computed.{Computed, Is, and_then}
 use Rattle.kq_arithmetic.specs.Logic.{is_yes}
-use Rattle.kq_conversions.specs.Converted.{empty_test}
+use Rattle.kq_texts.specs.kq_conversions.Converted.{empty_test}
 use Rattle.kq_expr.specs.declared.expr.Expr.{Expr}
 use Rattle.kq_scalar.specs.Val.{Surroundings, val, first_chosen, first_present}
 

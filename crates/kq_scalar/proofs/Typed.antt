@@ -20,10 +20,10 @@ use Rattle.kq_arithmetic.specs.Numbers.{GivesType}
 use Rattle.kq_arithmetic.proofs.Typed.{plus-typed, minus-typed, times-typed, divided-typed, remainder-typed, bin_of-typed, negated-typed, absolute-typed}
 use Rattle.kq_arithmetic.proofs.Typed.{compared-typed, equal-typed, unequal-typed, conjunction-typed, disjunction-typed, negation-typed, in_list-typed, between_of-typed}
 use Rattle.kq_arithmetic.specs.Logic.{between_of}
-use Rattle.kq_time.specs.declared.unit.Unit.TheVariants.{Hour, Day, Week, Month, Year}
+use Rattle.kq_calendar.specs.kq_time.TheVariants.{Hour, Day, Week, Month, Year}
 use Rattle.kq_calendar.specs.Calendar.{start_of_day, start_of_week, start_of_month, start_of_year}
 use Rattle.kq_calendar.proofs.Typed.{start-typed, day_of_week-typed, part-typed}
-use Rattle.kq_conversions.proofs.Typing.{as_long-typed, as_int-typed, as_bool-typed, as_moment-typed, as_span-typed, empty_test-typed, not_empty_test-typed, member_of-typed, array_length_of-typed, sorted_of-typed, keys_of-typed}
+use Rattle.kq_texts.proofs.kq_conversions.Typing.{as_long-typed, as_int-typed, as_bool-typed, as_moment-typed, as_span-typed, empty_test-typed, not_empty_test-typed, member_of-typed, array_length_of-typed, sorted_of-typed, keys_of-typed}
 use Rattle.kq_texts.specs.Texts.{found, equal_folded}
 use Rattle.kq_texts.proofs.Typing.{str_len-typed, lowered-typed, uppered-typed, sub_text-typed, sub_text_to-typed, index_in-typed, pieces-typed, replaced-typed}
 use Rattle.kq_scalar.specs.Applied.{applied, among}

@@ -11,8 +11,8 @@ use Rattle.kq_arithmetic.specs.Comparing.{equal, unequal, less, at_most, greater
 use Rattle.kq_arithmetic.specs.Logic.{conjunction, disjunction, negation, in_list, between_of}
 use Rattle.kq_calendar.specs.Calendar.{start_of_day, start_of_week, start_of_month, start_of_year}
 use Rattle.kq_calendar.specs.Calendar.{day_of_week, year_of, month_of, day_of_month, hour_of}
-use Rattle.kq_conversions.specs.Converted.{as_text, as_long, as_int, as_bool, as_moment, as_span, as_dynamic, null_test, not_null_test, empty_test, not_empty_test}
-use Rattle.kq_conversions.specs.Parts.{member_of, array_length_of, sorted_of, keys_of}
+use Rattle.kq_texts.specs.kq_conversions.Converted.{as_text, as_long, as_int, as_bool, as_moment, as_span, as_dynamic, null_test, not_null_test, empty_test, not_empty_test}
+use Rattle.kq_texts.specs.kq_conversions.Parts.{member_of, array_length_of, sorted_of, keys_of}
 use Rattle.kq_texts.specs.Texts.{found, equal_folded, str_len, lowered, uppered, joined, sub_text, sub_text_to, index_in, pieces, replaced}
 
 -- what stands for a call with a number of arguments that the function doesn't take

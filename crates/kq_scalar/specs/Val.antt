@@ -10,7 +10,7 @@ use Rattle.kq_expr.specs.declared.expr.Expr.{Expr, fold-Expr}
 use Rattle.kq_expr.specs.declared.expr.Expr.TheOpen.{Expr-F}
 use Rattle.kq_expr.specs.Terms.{Term, literal, column, cell, call, Terms, no_term, and_term}
 use Rattle.kq_arithmetic.specs.Logic.{is_yes}
-use Rattle.kq_conversions.specs.Converted.{empty_test}
+use Rattle.kq_texts.specs.kq_conversions.Converted.{empty_test}
 use Rattle.kq_scalar.specs.Applied.{nothing, applied}
 
 -- what stands around a row: the command's moment, and the cells of the scalar lets

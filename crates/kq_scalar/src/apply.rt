@@ -17,14 +17,11 @@ use kq_calendar::{
     start_of_year, year_of,
 };
 use kq_computed::EvalFault;
-use kq_conversions::{
-    array_length_of, as_bool, as_dynamic, as_int, as_long, as_moment, as_span, as_text, empty_test,
-    keys_of, member_of, not_empty_test, not_null_test, null_test, sorted_of,
-};
 use kq_fn::Function;
 use kq_texts::{
-    equal_folded, found, index_in, joined, lowered, pieces, replaced, str_len, sub_text,
-    sub_text_to, uppered,
+    array_length_of, as_bool, as_dynamic, as_int, as_long, as_moment, as_span, as_text, empty_test,
+    equal_folded, found, index_in, joined, keys_of, lowered, member_of, not_empty_test,
+    not_null_test, null_test, pieces, replaced, sorted_of, str_len, sub_text, sub_text_to, uppered,
 };
 use kq_value::{Memory, Ty, Value};
 use std::alloc::Global;

@@ -4,4 +4,5 @@
 pub mod apply;
 mod rows;
 
+pub use kq_texts::empty_test;
 pub use rows::eval;

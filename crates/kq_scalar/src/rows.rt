@@ -2,16 +2,16 @@
 ghost use Rattle.std.specs.Prelude.{◌≡◌, IfOk, map, not};
 ghost use Rattle.kq_computed.specs.Computed.{Is, and_then, Answers, AnswersAs};
 ghost use Rattle.kq_arithmetic.specs.Logic.{is_yes as the_is_yes};
-ghost use Rattle.kq_conversions.specs.Converted.{empty_test as the_empty_test};
+ghost use Rattle.kq_texts.specs.kq_conversions.Converted.{empty_test as the_empty_test};
 ghost use Rattle.kq_scalar.specs.Val.{val, values, surroundings, cell_of, first_chosen, first_present};
 ghost use Rattle.kq_scalar.specs.Seen.{seen};
 
 use crate::apply::apply;
 use kq_arithmetic::is_yes;
 use kq_computed::EvalFault;
-use kq_conversions::empty_test;
 use kq_expr::Expr;
 use kq_fn::Function;
+use kq_texts::empty_test;
 use kq_value::{Memory, Ty, Value};
 use std::alloc::Global;
 

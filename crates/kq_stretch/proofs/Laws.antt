@@ -4,11 +4,11 @@ use Rattle.std.proofs.lemmas.List.{drop_more, drop_all}
 use Rattle.std.specs.List.{All}
 use Rattle.kq_value.specs.declared.ty.Ty.{Ty}
 use Rattle.kq_value.specs.declared.value.Value.{Value}
-use Rattle.kq_arithmetic.specs.Logic.{is_yes}
+use Rattle.kq_piecewise.specs.kq_arithmetic.Logic.{is_yes}
 use Rattle.kq_computed.specs.Computed.{Computed, Is, Overflow, and_then, each}
-use Rattle.kq_expr.specs.Terms.{Term}
+use Rattle.kq_piecewise.specs.kq_expr.Terms.{Term}
 use Rattle.kq_rows.specs.Chunks.{HasWidth}
-use Rattle.kq_scalar.specs.Val.{Surroundings, meaning}
+use Rattle.kq_piecewise.specs.kq_scalar.Val.{Surroundings, meaning}
 use Rattle.kq_piecewise.specs.Operators.{Row, filtered, values_at}
 use Rattle.kq_piecewise.proofs.Laws.{each_append, each_long}
 use Rattle.kq_reshape.specs.Expand.{expanded, with_parts}

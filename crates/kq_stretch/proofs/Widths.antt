@@ -5,12 +5,12 @@ use Rattle.std.proofs.lemmas.List.{length-append, length-map, length-set}
 use Rattle.std.proofs.lemmas.List.Elements.{All-nil, All-cons, All-head, All-tail, All-append, All-map}
 use Rattle.kq_value.specs.declared.ty.Ty.{Ty}
 use Rattle.kq_value.specs.declared.value.Value.{Value}
-use Rattle.kq_arithmetic.specs.Logic.{is_yes}
+use Rattle.kq_piecewise.specs.kq_arithmetic.Logic.{is_yes}
 use Rattle.kq_computed.specs.Computed.{Computed, Is, Overflow, and_then, each}
-use Rattle.kq_expr.specs.Terms.{Term}
+use Rattle.kq_piecewise.specs.kq_expr.Terms.{Term}
 use Rattle.kq_rows.specs.Chunks.{HasWidth, same_width}
 use Rattle.kq_rows.proofs.Typed.{same_width-wide}
-use Rattle.kq_scalar.specs.Val.{Meaning, Surroundings, meaning, values}
+use Rattle.kq_piecewise.specs.kq_scalar.Val.{Meaning, Surroundings, meaning, values}
 use Rattle.kq_piecewise.specs.Operators.{Row, filtered}
 use Rattle.kq_reshape.specs.Expand.{expanded, part_as, parts_of, with_cell, with_parts, width_with}
 use Rattle.kq_stretch.specs.Operators.{Rowwise, keeping, making, spreading, applied, width_after}

@@ -2,7 +2,7 @@
 use Rattle.std.specs.Prelude.{ℕ, suc, min, List, [], ◌∷◌, ◌++◌, Option, Some, None}
 use Rattle.kq_computed.specs.Computed.{Computed, Is, Overflow}
 use Rattle.kq_piecewise.specs.Operators.{Row}
-use Rattle.kq_scalar.specs.Val.{Surroundings}
+use Rattle.kq_piecewise.specs.kq_scalar.Val.{Surroundings}
 use Rattle.kq_stretch.specs.Operators.{Rowwise, applied, width_after}
 
 -- the rows that came, or the number of the operator that overflowed first, from 0

@@ -2,7 +2,7 @@
 ghost use Rattle.std.specs.Prelude.{◌≡◌, ◌<◌, ◌^◌, IfOk, IfSome, length, map, slice_get};
 ghost use Rattle.kq_rows.specs.Chunks.{row_at, same_width};
 ghost use Rattle.kq_piecewise.specs.Pieces.{piece_of};
-ghost use Rattle.kq_scalar.specs.Val.{cell_of};
+ghost use Rattle.kq_piecewise.specs.kq_scalar.Val.{cell_of};
 ghost use Rattle.kq_stretch.specs.Pieces.{rows_in};
 
 use crate::copies::copy_rows;

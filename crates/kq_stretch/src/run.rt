@@ -1,7 +1,7 @@
 // Operators over a piece of rows.
 ghost use Rattle.std.specs.Prelude.{◌≡◌, IfOk, map};
 ghost use Rattle.kq_rows.specs.Chunks.{same_width};
-ghost use Rattle.kq_scalar.specs.Val.{surroundings};
+ghost use Rattle.kq_piecewise.specs.kq_scalar.Val.{surroundings};
 ghost use Rattle.kq_stretch.specs.Operators.{rowwise_of};
 ghost use Rattle.kq_stretch.specs.Pieces.{ran_in, rows_in};
 ghost use Rattle.kq_stretch.specs.Ran.{ran};

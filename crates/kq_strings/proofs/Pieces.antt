@@ -5,7 +5,7 @@ use Rattle.std.specs.Str.Pattern.{LacksTextAt}
 use Rattle.std.proofs.Math.Seq.{drop-append_seam, take-append_seam}
 use Rattle.std.proofs.lemmas.Slice.Eq.{bytes_eq-Decides}
 use Rattle.std.proofs.lemmas.List.{take-append-drop}
-use Rattle.kq_value.specs.Tree.{string, Trees, no_items, item, items_of}
+use Rattle.kq_written.specs.kq_value.Tree.{string, Trees, no_items, item, items_of}
 use Rattle.kq_written.specs.Members.{strings}
 use Rattle.kq_written.specs.Strings.{pieces_from, split, joined_by, replace_string}
 

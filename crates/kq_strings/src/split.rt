@@ -1,11 +1,11 @@
 // Splitting and replacing.
 ghost use Rattle.std.specs.Prelude.{◌≡◌, ◌<◌, [], ◌∷◌, IfOk, IfSome, MatchOption, length};
-ghost use Rattle.kq_value.specs.Tree.{array};
-ghost use Rattle.kq_value.specs.Seen.{tree_of};
+ghost use Rattle.kq_written.specs.kq_value.Tree.{array};
+ghost use Rattle.kq_written.specs.kq_value.Seen.{tree_of};
 ghost use Rattle.kq_written.specs.Members.{strings};
 ghost use Rattle.kq_written.specs.Strings.{split, replace_string};
 
-use kq_value::{Dyn, DynList, Memory, Text};
+use kq_written::{Dyn, DynList, Memory, Text};
 use std::alloc::Global;
 
 // What stands before the first occurrence of `part` and what after it, or none where there is none or `part` is empty.

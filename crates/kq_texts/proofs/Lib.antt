@@ -1,3 +1,4 @@
 pub mod Places
 pub mod Same
 pub mod Typing
+pub mod kq_conversions

@@ -9,7 +9,7 @@ ghost use Rattle.kq_written.specs.Datetimes.{after_date as after_value, clock_ti
 use crate::day::{TICKS_PER_DAY, TICKS_PER_HOUR, TICKS_PER_MINUTE, TICKS_PER_SECOND};
 use crate::digits;
 use jiff_core::civil::Date;
-use kq_value::is_moment;
+use kq_written::is_moment;
 
 // The days of `jiff`, which count from -9999-01-01, before 0000-01-01.
 const DAYS_BEFORE_YEAR_0: u32 = 3_652_059;

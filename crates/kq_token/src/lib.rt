@@ -13,6 +13,7 @@ mod token;
 mod words;
 
 pub use kind::{DashedWord, LiteralWord, Operator, Punctuation, Side, TokenKind, WordOperator};
+pub use kq_value::{Memory, Text};
 pub use read::tokens;
 pub use strings::{is_long_string, is_string, is_verbatim_string};
 pub use token::{LexFault, Token, Tokens};

@@ -8,3 +8,4 @@ pub mod Numerals
 pub mod Strings
 pub mod Ticks
 pub mod Timespans
+pub mod kq_value

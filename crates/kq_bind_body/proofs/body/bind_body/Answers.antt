@@ -1,7 +1,7 @@
 -- What is bound and has the form is a body.
 use Rattle.std.proofs.Common.{◌≡◌, true, Err, subst}
 use Rattle.std.proofs.lemmas.Result.{err_from_is_err_and}
-use Rattle.kq_bind.specs.Queries.{query_bound}
+use Rattle.kq_fitting.specs.kq_bind.Queries.{query_bound}
 use Rattle.kq_body.specs.Bodies.{is_body, JudgesBody}
 use Rattle.kq_body.specs.Parts.{query_parts}
 use Rattle.kq_grammar.specs.TabularViews.{query_of}

@@ -1,5 +1,5 @@
 use Rattle.std.proofs.Common.{◌∙◌, Err, List, Ok, Some, ap, subst, sym, ℕ}
-use Rattle.kq_bind.specs.Queries.{query_bound}
+use Rattle.kq_bind_body.specs.kq_bind.Queries.{query_bound}
 use Rattle.kq_bind_body.specs.Answers.{AnswersBody}
 use Rattle.kq_body.specs.Parts.{query_parts}
 use Rattle.kq_catalog.specs.Seen.{CatalogView}

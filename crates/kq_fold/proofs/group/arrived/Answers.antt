@@ -3,7 +3,7 @@ use Rattle.std.proofs.lemmas.List.{length-map}
 use Rattle.kq_expr.specs.Terms.{term_of}
 use Rattle.kq_grouping.specs.Steps.{operators_of}
 use Rattle.kq_plan.specs.Plans.{aggregating_of, planned_of, stepping_of}
-use Rattle.kq_stretch.specs.Operators.{rowwise_of}
+use Rattle.kq_grouping.specs.kq_stretch.Operators.{rowwise_of}
 use Rattle.kq_fold.proofs.Folding.{arrives_so, columns_so}
 use Rattle.kq_fold.proofs.group.arrived.Goals as goal
 

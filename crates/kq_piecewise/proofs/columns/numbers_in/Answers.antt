@@ -2,7 +2,7 @@ use Rattle.std.proofs.Common.{◌≡◌, ◌∷◌, [], ◌++◌, ℤ, Option, I
 use Rattle.std.proofs.lemmas.Int.{to_z-of_z}
 use Rattle.std.proofs.lemmas.List.{map-append}
 use Rattle.kq_rows.specs.Chunks.{row_at}
-use Rattle.kq_scalar.specs.Val.{cell_of}
+use Rattle.kq_columnar.specs.kq_scalar.Val.{cell_of}
 use Rattle.kq_piecewise.proofs.Standing.{column_next}
 use Rattle.kq_piecewise.proofs.columns.numbers_in.Goals as goal
 

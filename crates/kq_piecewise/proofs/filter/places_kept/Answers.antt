@@ -4,7 +4,7 @@ use Rattle.std.proofs.lemmas.Result.{err_from_is_err_and}
 use Rattle.kq_computed.specs.Computed.{AnswersAs, Is}
 use Rattle.kq_columnar.specs.Vectors.{cells_of}
 use Rattle.kq_expr.specs.Terms.{term_of}
-use Rattle.kq_scalar.specs.Val.{meaning, surroundings}
+use Rattle.kq_columnar.specs.kq_scalar.Val.{meaning, surroundings}
 use Rattle.kq_piecewise.specs.Pieces.{places_where}
 use Rattle.kq_piecewise.proofs.Kept.{places_more, places_fault, places_end}
 use Rattle.kq_piecewise.proofs.filter.places_kept.Goals as goal

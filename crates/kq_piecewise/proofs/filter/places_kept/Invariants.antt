@@ -1,6 +1,6 @@
 use Rattle.std.proofs.Common.{◌≡◌, ◌≤◌, ◌-◌, length}
 use Rattle.kq_expr.specs.Terms.{term_of}
-use Rattle.kq_scalar.specs.Val.{meaning, surroundings}
+use Rattle.kq_columnar.specs.kq_scalar.Val.{meaning, surroundings}
 use Rattle.kq_piecewise.specs.Pieces.{places_where}
 use Rattle.kq_piecewise.proofs.Kept.{rest_of}
 use Rattle.kq_piecewise.proofs.filter.places_kept.Given as goal

@@ -6,7 +6,7 @@ use Rattle.kq_value.specs.declared.value.Value.{Value}
 use Rattle.kq_computed.specs.Computed.{AnswersAs, each}
 use Rattle.kq_expr.specs.Terms.{term_of}
 use Rattle.kq_rows.specs.Chunks.{HasWidth}
-use Rattle.kq_scalar.specs.Val.{surroundings}
+use Rattle.kq_columnar.specs.kq_scalar.Val.{surroundings}
 use Rattle.kq_piecewise.specs.declared.sources.Source.{Source}
 use Rattle.kq_piecewise.specs.Operators.{values_at}
 use Rattle.kq_piecewise.specs.Pieces.{piece_of}

@@ -3,7 +3,7 @@ use Rattle.std.specs.List.{All}
 use Rattle.kq_computed.specs.Computed.{Is, and_then, each}
 use Rattle.kq_expr.specs.Terms.{term_of}
 use Rattle.kq_rows.specs.Chunks.{HasWidth}
-use Rattle.kq_scalar.specs.Val.{surroundings}
+use Rattle.kq_columnar.specs.kq_scalar.Val.{surroundings}
 use Rattle.kq_piecewise.specs.Operators.{values_at}
 use Rattle.kq_piecewise.proofs.map.map_rows.Given as goal
 

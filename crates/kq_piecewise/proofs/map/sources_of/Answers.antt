@@ -5,7 +5,7 @@ use Rattle.std.proofs.lemmas.Result.{err_from_is_err_and}
 use Rattle.kq_computed.specs.Computed.{Is, each}
 use Rattle.kq_columnar.specs.Vectors.{rows_at}
 use Rattle.kq_expr.specs.Terms.{term_of}
-use Rattle.kq_scalar.specs.Val.{surroundings, val}
+use Rattle.kq_columnar.specs.kq_scalar.Val.{surroundings, val}
 use Rattle.kq_piecewise.specs.declared.sources.Source.{Source}
 use Rattle.kq_piecewise.specs.Operators.{values_at}
 use Rattle.kq_piecewise.specs.Pieces.{piece_of}

@@ -1,7 +1,7 @@
 use Rattle.std.proofs.Common.{◌≡◌, length, map, take}
 use Rattle.kq_computed.specs.Computed.{Is, each}
 use Rattle.kq_expr.specs.Terms.{term_of}
-use Rattle.kq_scalar.specs.Val.{surroundings}
+use Rattle.kq_columnar.specs.kq_scalar.Val.{surroundings}
 use Rattle.kq_piecewise.specs.Operators.{values_at}
 use Rattle.kq_piecewise.specs.Pieces.{piece_of}
 use Rattle.kq_piecewise.specs.Sources.{rows_from}

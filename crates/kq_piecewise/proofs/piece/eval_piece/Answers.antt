@@ -6,7 +6,7 @@ use Rattle.kq_computed.specs.Computed.{Computed, AnswersAs, each}
 use Rattle.kq_columnar.specs.Vectors.{cells_of, rows_at}
 use Rattle.kq_expr.specs.declared.expr.Expr.{Expr}
 use Rattle.kq_expr.specs.Terms.{term_of}
-use Rattle.kq_scalar.specs.Val.{meaning, surroundings, val}
+use Rattle.kq_columnar.specs.kq_scalar.Val.{meaning, surroundings, val}
 use Rattle.kq_piecewise.specs.Pieces.{Hold, columns_read, piece_of}
 use Rattle.kq_piecewise.proofs.Standing.{piece_long, reads_one, stands_for}
 use Rattle.kq_piecewise.proofs.piece.eval_piece.Goals as goal

@@ -6,7 +6,7 @@ use Rattle.kq_value.specs.declared.value.Value.{Value}
 use Rattle.kq_computed.specs.Computed.{AnswersAs, each}
 use Rattle.kq_columnar.specs.Vectors.{cells_of}
 use Rattle.kq_expr.specs.Terms.{term_of}
-use Rattle.kq_scalar.specs.Val.{meaning, surroundings}
+use Rattle.kq_columnar.specs.kq_scalar.Val.{meaning, surroundings}
 use Rattle.kq_piecewise.proofs.Laws.{piece_more, piece_faults, piece_counts}
 use Rattle.kq_piecewise.proofs.values.values_by_pieces.Goals as goal
 

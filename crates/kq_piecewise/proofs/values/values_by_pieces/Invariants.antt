@@ -1,7 +1,7 @@
 use Rattle.std.proofs.Common.{◌≡◌, ◌≤◌, ◌-◌, ◌++◌, drop, length}
 use Rattle.kq_computed.specs.Computed.{Is, and_then, each}
 use Rattle.kq_expr.specs.Terms.{term_of}
-use Rattle.kq_scalar.specs.Val.{meaning, surroundings}
+use Rattle.kq_columnar.specs.kq_scalar.Val.{meaning, surroundings}
 use Rattle.kq_piecewise.proofs.values.values_by_pieces.Given as goal
 
 abbrev pub invariant-loop-from : goal.invariant-loop-from

@@ -3,7 +3,7 @@ use Rattle.std.proofs.lemmas.Int.{to_z-of_z}
 use Rattle.kq_value.specs.declared.value.Value.{Value}
 use Rattle.kq_computed.specs.Computed.{AnswersAs, Is, each}
 use Rattle.kq_expr.specs.Terms.{Term, term_of}
-use Rattle.kq_scalar.specs.Val.{meaning, surroundings}
+use Rattle.kq_columnar.specs.kq_scalar.Val.{meaning, surroundings}
 use Rattle.kq_piecewise.proofs.Mapped.{column_whole}
 use Rattle.kq_piecewise.proofs.values.values_over.Goals as goal
 

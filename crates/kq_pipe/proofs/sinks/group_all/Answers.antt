@@ -5,7 +5,7 @@ use Rattle.kq_expr.specs.Terms.{term_of}
 use Rattle.kq_grouping.specs.Arriving.{ArriveAs}
 use Rattle.kq_grouping.specs.Grouping.{all_made}
 use Rattle.kq_plan.specs.Plans.{aggregating_of}
-use Rattle.kq_scalar.specs.Val.{surroundings}
+use Rattle.kq_grouping.specs.kq_scalar.Val.{surroundings}
 use Rattle.kq_pipe.proofs.Grouped.{ends_in_failure, ends_in_groups, ends_in_overflow, groups_end}
 use Rattle.kq_pipe.proofs.sinks.group_all.Goals as goal
 

@@ -1,9 +1,9 @@
 use Rattle.std.proofs.Common.{◌≡◌, ◌∙◌, ℤ, ap, map, rules, subst, w64, to_z, of_z}
 use Rattle.std.proofs.lemmas.Int.{to_z-of_z}
 use Rattle.kq_plan.specs.Plans.{Stepping, stepping_of}
-use Rattle.kq_scalar.specs.Val.{surroundings}
-use Rattle.kq_stretch.specs.Operators.{rowwise_of}
-use Rattle.kq_stretch.specs.Ran.{ran}
+use Rattle.kq_grouping.specs.kq_scalar.Val.{surroundings}
+use Rattle.kq_grouping.specs.kq_stretch.Operators.{rowwise_of}
+use Rattle.kq_grouping.specs.kq_stretch.Ran.{ran}
 use Rattle.kq_pipe.specs.declared.outcome.Outcome.TheVariants as outcome
 use Rattle.kq_grouping.proofs.Stepped.{last_step}
 use Rattle.kq_grouping.specs.Steps.{HasColumns, operators_of}

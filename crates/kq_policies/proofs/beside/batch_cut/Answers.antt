@@ -1,6 +1,6 @@
 use Rattle.std.proofs.Common.{◌≡◌, List, length, map, take, arith}
 use Rattle.kq_extent.specs.Wide.{wide_held}
-use Rattle.kq_lent.specs.Lent.{rows_held}
+use Rattle.kq_pipe.specs.kq_lent.Lent.{rows_held}
 use Rattle.kq_model.specs.Derived.{Row}
 use Rattle.kq_policies.proofs.Records.{batch_lent, batch_whole, of_given}
 use Rattle.kq_policies.proofs.beside.batch_cut.Goals as goal

@@ -1,7 +1,7 @@
 use Rattle.std.proofs.Common.{◌≡◌, All, List, length, map, take, ap, sym, ◌∙◌, subst, arith}
 use Rattle.kq_extent.specs.Seen.{held_records, row_of}
 use Rattle.kq_extent.specs.Wide.{wide_held}
-use Rattle.kq_lent.specs.Lent.{rows_held}
+use Rattle.kq_pipe.specs.kq_lent.Lent.{rows_held}
 use Rattle.kq_model.specs.Beside.{cut_to}
 use Rattle.kq_model.specs.Derived.{Row}
 use Rattle.kq_model.specs.Records.{rows_in}

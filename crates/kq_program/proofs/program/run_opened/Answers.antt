@@ -1,6 +1,6 @@
 use Rattle.std.proofs.Common.{◌∙◌, ap, refl, sym, subst}
 use Rattle.kq_model.specs.Limits.{AreFull}
-use Rattle.kq_engine.specs.Shared.{PassView}
+use Rattle.kq_workers.specs.kq_engine.Shared.{PassView}
 use Rattle.kq_program.specs.Headline.{first_status}
 use Rattle.kq_program.proofs.Running.{RanSessions-all, first-of-sessions}
 use Rattle.kq_program.proofs.program.run_opened.Goals as goal

@@ -3,7 +3,7 @@ use denote.Param.Send.{IsSend, IsSync, sendable}
 use Rattle.std.proofs.Crossing.{crosses}
 use Rattle.std.proofs.Common.{arith, rules, length, ◌≡◌, ◌≤◌, ◌+◌, ap, ◌∙◌}
 use Rattle.std.proofs.lemmas.List.{length_push}
-use Rattle.kq_engine.proofs.Crossing.{pass_send, shared_sync}
+use Rattle.kq_workers.proofs.kq_engine.Crossing.{pass_send, shared_sync}
 use Rattle.kq_program.proofs.Serving.{served_count, ServedAll-more}
 use Rattle.kq_program.proofs.together.+fn-serve_all-join+arg3+serve_all.Goals as goal
 

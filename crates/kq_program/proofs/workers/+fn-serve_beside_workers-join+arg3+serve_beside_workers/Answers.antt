@@ -2,7 +2,7 @@ use denote.Param.{param}
 use denote.Param.Send.{IsSync, sendable}
 use Rattle.std.proofs.Crossing.{crosses}
 use Rattle.std.proofs.Common.{arith, rules, ◌≤◌}
-use Rattle.kq_engine.proofs.Crossing.{pass_send, shared_sync}
+use Rattle.kq_workers.proofs.kq_engine.Crossing.{pass_send, shared_sync}
 use Rattle.kq_program.proofs.Serving.{ServedAll-worker}
 use Rattle.kq_program.proofs.workers.+fn-serve_beside_workers-join+arg3+serve_beside_workers.Goals as goal
 

@@ -2,7 +2,7 @@ use Rattle.std.proofs.Common.{◌≡◌, Ok, map, ◌∙◌, arith}
 use Rattle.std.proofs.lemmas.List.Sorted.{length_permutation}
 use Rattle.kq_extent.specs.Seen.{held_records, row_of}
 use Rattle.kq_extent.specs.Wide.{wide_held}
-use Rattle.kq_lent.specs.Lent.{AreLent}
+use Rattle.kq_pipe.specs.kq_lent.Lent.{AreLent}
 use Rattle.kq_model.specs.History.{NumberedTable, log}
 use Rattle.kq_model.specs.Records.{records}
 use Rattle.kq_rows.proofs.Typed.{same_width-typed}

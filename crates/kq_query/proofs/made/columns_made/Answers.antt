@@ -2,8 +2,8 @@ use Rattle.std.proofs.Common.{◌≡◌, ◌-◌, List, Some, length, map, ap, s
 use Rattle.std.specs.List.{slice_get}
 use Rattle.std.specs.Option.{option_copied}
 use Rattle.std.proofs.lemmas.Option.{get_or_from_slice_get, slice_get_within}
-use Rattle.kq_grouping.proofs.Stepped.{last_step}
-use Rattle.kq_grouping.specs.Steps.{last_of}
+use Rattle.kq_pipe.proofs.kq_grouping.Stepped.{last_step}
+use Rattle.kq_pipe.specs.kq_grouping.Steps.{last_of}
 use Rattle.kq_plan.specs.declared.plan.Step.{Step}
 use Rattle.kq_plan.specs.Plans.{Stepping, stepping_of}
 use Rattle.kq_query.proofs.made.columns_made.Goals as goal

@@ -1,6 +1,6 @@
 use Rattle.std.proofs.Common.{◌≡◌, ◌++◌, ◌∙◌, ℕ, List, ap, subst, arith}
 use Rattle.kq_extent.specs.Seen.{held_records}
-use Rattle.kq_grouping.specs.Bodies.{AnswersMade, columns_read}
+use Rattle.kq_pipe.specs.kq_grouping.Bodies.{AnswersMade, columns_read}
 use Rattle.kq_model.specs.History.{log, view_cursor}
 use Rattle.kq_pipe.specs.Outcomes.{Row}
 use Rattle.kq_plan.specs.Plans.{planned_of}

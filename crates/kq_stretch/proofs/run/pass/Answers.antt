@@ -1,7 +1,7 @@
 use Rattle.std.proofs.Common.{◌≡◌, ◌<◌, ℤ, length, get_or, map, rules, arith, subst, sym, ap, ◌∙◌, w64, to_z, of_z}
 use Rattle.std.proofs.lemmas.Int.{to_z-of_z}
 use Rattle.std.proofs.lemmas.List.{get_or-map, length-map}
-use Rattle.kq_scalar.specs.Val.{surroundings}
+use Rattle.kq_piecewise.specs.kq_scalar.Val.{surroundings}
 use Rattle.kq_stretch.specs.Operators.{applied, rowwise_of}
 use Rattle.kq_stretch.specs.Pieces.{rows_in}
 use Rattle.kq_stretch.specs.Ran.{failed, ran}

@@ -1,6 +1,6 @@
 use Rattle.std.proofs.Common.{◌≡◌, drop, map}
 use Rattle.kq_rows.specs.Chunks.{same_width}
-use Rattle.kq_scalar.specs.Val.{surroundings}
+use Rattle.kq_piecewise.specs.kq_scalar.Val.{surroundings}
 use Rattle.kq_stretch.specs.Operators.{rowwise_of}
 use Rattle.kq_stretch.specs.Pieces.{rows_in}
 use Rattle.kq_stretch.specs.Ran.{ran}

@@ -1,7 +1,7 @@
 use Rattle.std.proofs.Common.{◌≡◌, ℕ, List, [], ◌∷◌, ◌++◌, map, sym, ap, ◌∙◌, append_assoc, subst, Option, Bor, rules}
 use Rattle.std.specs.Prelude.{MatchOption}
 use Rattle.std.proofs.lemmas.List.{map-append}
-use Rattle.kq_value.specs.Tree.{string, array}
+use Rattle.kq_written.specs.kq_value.Tree.{string, array}
 use Rattle.kq_written.specs.Strings.{split}
 use Rattle.kq_strings.proofs.Pieces.{strings-from}
 use Rattle.kq_strings.proofs.split.split_text.Goals as goal

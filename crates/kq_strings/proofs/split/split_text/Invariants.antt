@@ -1,7 +1,7 @@
 use Rattle.std.proofs.Common.{◌≡◌, ℕ, List, ◌++◌, length, map}
 use denote.Text.{Utf8}
 use denote.Shadow.{shadow}
-use Rattle.kq_value.specs.Tree.{items_of, string}
+use Rattle.kq_written.specs.kq_value.Tree.{items_of, string}
 use Rattle.kq_written.specs.Strings.{split}
 use Rattle.kq_strings.proofs.split.split_text.Given as goal
 

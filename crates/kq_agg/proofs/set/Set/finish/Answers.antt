@@ -5,7 +5,7 @@ use Rattle.kq_conversions.proofs.Trees.{trees_from-items_of}
 use Rattle.kq_value.specs.Tree.{Trees, items_of}
 use Rattle.kq_value.specs.declared.dynamic.Dyn.TheVariants as dyn
 use Rattle.kq_value.specs.declared.value.Value.TheVariants.{Dynamic}
-use Rattle.kq_written.specs.Members.{trees_from_list}
+use Rattle.kq_conversions.specs.kq_written.Members.{trees_from_list}
 use Rattle.kq_agg.specs.Holds.{set_of, tree_in}
 use Rattle.kq_agg.proofs.set.Set.finish.Goals as goal
 

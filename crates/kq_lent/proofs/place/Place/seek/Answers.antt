@@ -1,6 +1,6 @@
 use Rattle.std.proofs.Common.{◌≡◌, ◌≤◌, [], List, length, get_or, subst, sym, ◌∙◌, arith}
 use Rattle.std.proofs.lemmas.Option.{get_or_from_slice_get}
-use Rattle.kq_piecewise.specs.Operators.{Row}
+use Rattle.kq_stretch.specs.kq_piecewise.Operators.{Row}
 use Rattle.kq_lent.specs.Held.{sources_in}
 use Rattle.kq_lent.specs.Sources.{source_rows}
 use Rattle.kq_lent.proofs.Sought.{ended, passed}

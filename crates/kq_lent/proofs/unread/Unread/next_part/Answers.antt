@@ -1,5 +1,5 @@
 use Rattle.std.proofs.Common.{◌≤◌, length, subst, arith}
-use Rattle.kq_piecewise.specs.Pieces.{piece_of}
+use Rattle.kq_stretch.specs.kq_piecewise.Pieces.{piece_of}
 use Rattle.kq_lent.specs.Sources.{source_rows}
 use Rattle.kq_lent.specs.Unread.{IsRead, UnreadView}
 use Rattle.kq_lent.proofs.Sought.{left_at, part_read}

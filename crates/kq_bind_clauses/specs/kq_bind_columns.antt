@@ -1,0 +1,2 @@
+-- What callers of this crate name of `kq_bind_columns`.
+pub use Rattle.kq_bind_columns.specs.Items

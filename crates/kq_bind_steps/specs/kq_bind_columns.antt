@@ -1,0 +1,3 @@
+-- What callers of this crate name of `kq_bind_columns`.
+pub use Rattle.kq_bind_columns.specs.Items
+pub use Rattle.kq_bind_columns.specs.Naming

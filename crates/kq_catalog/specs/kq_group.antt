@@ -1,0 +1,2 @@
+-- What callers of this crate name of `kq_group`.
+pub use Rattle.kq_group.specs.Groups

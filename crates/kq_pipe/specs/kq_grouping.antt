@@ -1,0 +1,3 @@
+-- What callers of this crate name of `kq_grouping`.
+pub use Rattle.kq_grouping.specs.Bodies
+pub use Rattle.kq_grouping.specs.Steps

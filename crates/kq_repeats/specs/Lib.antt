@@ -1,0 +1,1 @@
+pub mod kq_model

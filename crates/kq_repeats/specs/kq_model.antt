@@ -1,0 +1,2 @@
+-- What callers of this crate name of `kq_model`.
+pub use Rattle.kq_model.specs.Names

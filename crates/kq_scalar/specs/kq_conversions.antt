@@ -1,0 +1,2 @@
+-- What callers of this crate name of `kq_conversions`.
+pub use Rattle.kq_texts.specs.kq_conversions.Converted

@@ -1,0 +1,2 @@
+-- What callers of this crate name of `kq_written`.
+pub use Rattle.kq_written.specs.Datetimes
