@@ -5,7 +5,7 @@
 #   - each reply is the one that its command is due behind what came of those before it, or `refused Memory`;
 #   - the commits of the journal are just those that the replies of the two sessions tell of, with their cursors, but for a last one whose reply could not
 #     be written; what was written of that is a beginning of it;
-#   - the status is that of the first session that has one, as README.md says: 3 or 4 of the session whose read or write failed, 1 where a reply is
+#   - the status is that of the first session that has one, as docs/RUNNING.md says: 3 or 4 of the session whose read or write failed, 1 where a reply is
 #     `refused Memory` or a session ended for want of room, or where there is no catalogue, and then nothing was printed.
 # The journal is shown to a third session, which waits for the others; where that one is refused it is what the main script was shown at its end.
 # The last line counts the runs. It needs a C compiler and python3, and the proved program, which .ci/run builds; KQ_PROGRAM names another one.
