@@ -12,7 +12,7 @@ ghost use Rattle.kq_grammar.specs.Views.{tree_of};
 
 use crate::pipe::bind_tabular;
 use kq_bind_steps::{
-    BindFault, Flow, Progress, Scope, TabularLet, bind_expression, following,
+    BindFault, ExpressionScope, Flow, Progress, Scope, TabularLet, bind_expression, following,
     is_taken as field_is_taken, name_place, name_text, tabular_let,
 };
 use kq_expr::Typed;
@@ -100,7 +100,7 @@ fn scalar_let<N: Names>(
 ) -> Result<Lets, BindFault>
     ensures { AnswersVerdict letting_of (the.scalar_let text.now (N.known names.now) (letting_of lets) name (tree_of tree.now)) result }
 {
-    let scope = kq_bind_steps::Scope {
+    let scope = ExpressionScope {
         text,
         lets: &lets.scalars,
     };

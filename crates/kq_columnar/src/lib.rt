@@ -13,5 +13,5 @@ mod vector;
 
 pub use eval::eval_column;
 pub use kq_arithmetic::is_yes;
-pub use kq_scalar::eval;
+pub use kq_scalar::eval as eval_row;
 pub use vector::Vector;

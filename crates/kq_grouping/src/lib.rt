@@ -10,6 +10,6 @@ pub use arriving::{Arrived, gather_groups};
 pub use grouping::{add_piece, typed};
 pub use kq_group::Groups;
 pub use kq_lent::{
-    Flow, Held, Next, RangeFault, Relation, append_arm, distinct_rows, eval, range_rows,
+    Flow, Held, Next, RangeFault, Relation, append_arm, distinct_rows, eval_row, range_rows,
 };
 pub use steps::{operators, stage_in};

@@ -16,7 +16,7 @@ pub use flow::{Flow, Next};
 pub use gathered::Gathered;
 pub use held::Held;
 pub use kq_stretch::{
-    Operator, RangeFault, Relation, append_arm, distinct_rows, eval, map_rows, range_rows,
+    Operator, RangeFault, Relation, append_arm, distinct_rows, eval_row, map_rows, range_rows,
 };
 pub use records::Records;
 pub use source::Source;

@@ -14,7 +14,7 @@ mod values;
 
 pub use copy::copy_row;
 pub use filter::places_kept;
-pub use kq_columnar::eval;
+pub use kq_columnar::eval_row;
 pub use kq_expr::Expr;
 pub use map::map_rows;
 pub use numbers::Number;
