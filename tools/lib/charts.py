@@ -192,7 +192,7 @@ def cut(text, places):
 
 def bars(chart, places, colour):
     labels = labels_of(chart)
-    side = min(max(map(width, labels)), places // 3)
+    side = min(max(map(width, [chart.x_name, *labels])), places // 3)
     values = [y for one in chart.series for _, y in one.points]
     room = max(8, places - side - max(width(amount(y, chart.y_type)) for y in values) - 4)
     scale = room / (max(max(map(abs, values)), 1e-9))
@@ -232,6 +232,11 @@ class Canvas:
         for step in range(steps + 1):
             x, y = (round(a + (b - a) * step / steps) for a, b in zip(start, end))
             self.dot(x, y, owner)
+
+    def spot(self, point, owner):
+        """A point that no line leads to, as a full cell."""
+        cell = (point[0] // 2, point[1] // 4)
+        self.cells[cell], self.owners[cell] = 0xFF, owner
 
     def row(self, y, colour, marked):
         text = ""
@@ -273,8 +278,10 @@ def curves(chart, places, height, colour):
 
     for owner, one in enumerate(chart.series):
         points = [at(point) for point in one.points]
-        for start, end in zip(points, points[1:] or points):
+        for start, end in zip(points, points[1:]):
             canvas.line(start, end, owner)
+        if len(points) == 1:
+            canvas.spot(points[0], owner)
     marked = len(chart.series) > 1 and not colour
     lines = [f"{padded('', side)}   {chart.y_name}"]
     for y in range(height):

@@ -117,4 +117,4 @@ def explain(refusal, command=None, page=None):
         if place is not None:
             lines.append(("caret", " " * (9 + caret) + "^"))
     begin = command.text[:4096].decode("utf-8", "replace") if command is not None else None
-    return lines + [("sentence", "       " + sentence) for sentence in sentences(refusal, begin, page)]
+    return lines + [("sentence", "       " + sentence[len("refused ") :]) for sentence in sentences(refusal, begin, page)]

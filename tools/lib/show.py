@@ -15,7 +15,7 @@ ROWS_ON_A_TERMINAL = 1000
 
 
 class Look:
-    """How replies are shown, and where."""
+    """How replies are shown, and where. `is_whole` is lost where a chart couldn't be drawn."""
 
     def __init__(self, out, *, colour=None, limit=None, places=None, chart=None, told=None):
         self.out = out
@@ -24,6 +24,7 @@ class Look:
         self.places = places or shutil.get_terminal_size().columns
         self.chart = chart
         self.told = told or sys.stderr
+        self.is_whole = True
         self.has_rich = self.colour and has("rich", self.told, "tables have no colours")
 
     def reply(self, reply, command=None):
@@ -55,6 +56,7 @@ class Look:
             chart = charts.make(reply, **self.chart)
         except charts.ChartError as why:
             self.out.write(f"no chart: {why}\n")
+            self.is_whole = False
             return False
         self.out.write("\n".join(charts.draw(chart, self.places, colour=self.colour)) + "\n")
         return True

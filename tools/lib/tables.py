@@ -68,7 +68,7 @@ def write_rich(answer, out, limit=None, room=None):
     from rich.table import Table
     from rich.text import Text
 
-    table = Table(box=SIMPLE_HEAD, pad_edge=False, header_style="")
+    table = Table(box=SIMPLE_HEAD, show_edge=False, pad_edge=False, header_style="")
     for name, kind in answer.columns:
         head = Text(visible(name), style="bold")
         head.append("\n" + kind, style="dim")
