@@ -30,13 +30,13 @@ def heading_of(command):
 
 
 def rows_of(page):
-    """The rows of the tables under `### Refusals of X`: triples of X, the refusal's text and when it comes."""
+    """The rows of the tables under `### Refusals of X`: triples of X, the refusal's text or a word of it, and when it comes."""
     heading = None
     for line in page.split("\n"):
         if line.startswith("#"):
             found = re.fullmatch(r"### Refusals of (.*)", line)
             heading = found[1].replace("`", "") if found else None
-        elif heading and line.startswith("| `refused "):
+        elif heading and line.startswith("| `"):
             cells = line.strip("| ").split(" | ")
             yield heading, cells[0].strip("`"), cells[1]
 
@@ -50,15 +50,15 @@ def matches(pattern, refusal):
 
 
 def sentences(refusal, command=None, page=None):
-    """What docs/REPLIES.md says of a refusal, as `refused Type at N: sentence`. Without the command, of all commands."""
+    """What docs/REPLIES.md says of a refusal, as `Type at N: sentence`. Without the command, of all commands."""
     if page is None:
         page = PAGE.read_text(encoding="utf-8") if PAGE.exists() else ""
     heading = heading_of(command) if command is not None else None
     found = []
     for group, pattern, sentence in rows_of(page):
-        wanted = heading is None or group in (heading, EVERY)
-        line = f"{pattern}: {sentence}"
-        if wanted and matches(pattern, refusal) and line not in found:
+        line = f"{pattern[len('refused ') :] if pattern.startswith('refused ') else pattern}: {sentence}"
+        is_of_it = matches(pattern, refusal) or (refusal.startswith("refused BadPolicy ") and refusal.endswith(" " + pattern))
+        if (heading is None or group in (heading, EVERY)) and is_of_it and line not in found:
             found.append(line)
     return found
 
@@ -117,4 +117,4 @@ def explain(refusal, command=None, page=None):
         if place is not None:
             lines.append(("caret", " " * (9 + caret) + "^"))
     begin = command.text[:4096].decode("utf-8", "replace") if command is not None else None
-    return lines + [("sentence", "       " + sentence[len("refused ") :]) for sentence in sentences(refusal, begin, page)]
+    return lines + [("sentence", "       " + sentence) for sentence in sentences(refusal, begin, page)]

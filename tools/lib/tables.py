@@ -3,7 +3,7 @@
 import csv
 import json
 
-from replies import plain, value
+from replies import escape, plain, value
 from widths import padded, visible, width
 
 STYLES = {
@@ -45,7 +45,7 @@ def footer(answer, limit=None):
 def write_plain(answer, out, limit=None):
     """Aligned columns under names and types, with no colours."""
     rows = cells_of(answer, limit)
-    heads = [(visible(name), kind) for name, kind in answer.columns]
+    heads = [(visible(escape(name)), kind) for name, kind in answer.columns]
     places = [max([width(name), width(kind)] + [width(row[at]) for row in rows]) for at, (name, kind) in enumerate(heads)]
     right = [kind in AT_THE_RIGHT for _, kind in heads]
 
@@ -70,7 +70,7 @@ def write_rich(answer, out, limit=None, room=None):
 
     table = Table(box=SIMPLE_HEAD, show_edge=False, pad_edge=False, header_style="")
     for name, kind in answer.columns:
-        head = Text(visible(name), style="bold")
+        head = Text(visible(escape(name)), style="bold")
         head.append("\n" + kind, style="dim")
         side = "right" if kind in AT_THE_RIGHT else "left"
         table.add_column(head, justify=side, overflow="fold", style=STYLES.get(kind, ""))
@@ -107,7 +107,7 @@ def write_json(answer, out):
 
 def write_markdown(answer, out):
     """A table of Markdown."""
-    heads = [in_markdown(visible(name)) for name, _ in answer.columns]
+    heads = [in_markdown(visible(escape(name))) for name, _ in answer.columns]
     sides = ["---:" if kind in AT_THE_RIGHT else "---" for _, kind in answer.columns]
     for row in [heads, sides] + [list(map(in_markdown, row)) for row in cells_of(answer)]:
         out.write("| " + " | ".join(row) + " |\n")

@@ -41,7 +41,7 @@ class Sentences(unittest.TestCase):
         for refusal, command in EACH:
             found = refusals.sentences(refusal, command)
             self.assertTrue(found, (refusal, command))
-            self.assertTrue(all(sentence.startswith("refused ") and ": " in sentence for sentence in found))
+            self.assertTrue(all(sentence.startswith(refusal.split()[1]) for sentence in found[:1]), found)
 
     def test_each_heading_is_on_the_page(self):
         headings = {heading for heading, _, _ in refusals.rows_of(refusals.PAGE.read_text(encoding="utf-8"))}
@@ -49,13 +49,17 @@ class Sentences(unittest.TestCase):
 
     def test_a_sentence_is_that_of_the_command(self):
         exists = refusals.sentences("refused Exists at 14", "// first\n.create table T (a:long)")
-        self.assertEqual(exists, ["refused Exists at N: the name at N is that of a table with other columns, or of a view"])
+        self.assertEqual(exists, ["Exists at N: the name at N is that of a table with other columns, or of a view"])
         self.assertGreater(len(refusals.sentences("refused Type at 3")), 3)
         self.assertEqual(refusals.sentences("refused Exists at 3", "T"), [])
 
+    def test_the_word_of_a_bad_policy_is_explained(self):
+        found = refusals.sentences("refused BadPolicy entry 3 Schema", ".alter table T policy update ''")
+        self.assertEqual(found[1:], ["Schema: its columns aren't those of the table with the policy, in their order"])
+
     def test_the_numbers_of_limits_count(self):
         found = refusals.sentences("refused Full limit 256", ".create table T (a:long)")
-        self.assertEqual(found, ["refused Full limit 256: there are more than 256 columns"])
+        self.assertEqual(found, ["Full limit 256: there are more than 256 columns"])
 
 
 class Places(unittest.TestCase):
