@@ -85,10 +85,10 @@ def quoted(text):
 
 
 def status_of(path, minute, chance):
-    """The status of a request. From 11:20 to 11:40 the orders fail, since the database is slow."""
+    """The status of a request. From 11:20 to 11:40 orders and baskets fail, since the database is slow."""
     if path in PROBES:
         return 404
-    if path == "/orders" and 200 <= minute < 220:
+    if path in ("/orders", "/basket") and 200 <= minute < 220:
         return chance.weighted([(503, 70), (504, 20), (200, 10)])
     return chance.weighted([(200, 880), (304, 60), (302, 25), (404, 20), (499, 5), (500, 6), (403, 4)])
 
