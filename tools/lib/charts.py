@@ -105,7 +105,7 @@ def series_of(answer, kind, x, ys, by, notes):
     """The points of each series. Rows without an x or a y have none, which the notes say."""
     types = [type for _, type in answer.columns]
     found, missing = {}, 0
-    for row in answer.rows:
+    for row in answer.rows():
         if row[x] == "null" and types[x] != "string":
             missing += 1
             continue

@@ -22,7 +22,7 @@ class Column(NamedTuple):
 
 @dataclass
 class Reply:
-    """One reply. An answer has columns; `rows` holds its cells as they are printed.
+    """One reply. An answer has columns, and `lines` with a row each, in which tabs stand between the cells.
 
     It isn't whole where the text ended before the `announced` rows had come.
     """
@@ -30,7 +30,7 @@ class Reply:
     number: int
     first: str
     columns: Optional[List[Column]] = None
-    rows: List[List[str]] = field(default_factory=list)
+    lines: List[str] = field(default_factory=list)
     announced: int = 0
     is_whole: bool = True
 
@@ -42,13 +42,19 @@ class Reply:
     def is_refusal(self):
         return self.first.startswith("refused ")
 
+    def rows(self, limit=None):
+        """The rows, or the first of them, as lists of cells as they are printed."""
+        if not self.columns:
+            return [[] for _ in self.lines[:limit]]
+        lines = self.lines if limit is None else self.lines[:limit]
+        return (line.split("\t") for line in lines)
+
     def text(self):
         """The reply as the program printed it."""
         lines = [self.first]
         if self.is_answer:
             lines.append("\t".join(escape(name) + ":" + kind for name, kind in self.columns))
-            lines += ["\t".join(row) for row in self.rows]
-        return "\n".join(lines) + "\n\n"
+        return "\n".join(lines + self.lines) + "\n\n"
 
 
 class Command(NamedTuple):
@@ -75,7 +81,7 @@ def escape(text):
 def plain(cell, kind):
     """A cell as another program reads it from CSV: a string's own text, and nothing for null."""
     if kind == "string":
-        return unescape(cell)
+        return unescape(cell) if "\\" in cell else cell
     return "" if cell == "null" else cell
 
 
@@ -157,11 +163,11 @@ class Reader:
             line = self.line()
             if line is None:
                 break
-            cells = line.split("\t") if reply.columns else []
-            if len(cells) != len(reply.columns):
-                raise BadReply(f"line {self.at} has {len(cells)} cells where the header has {len(reply.columns)}")
-            reply.rows.append(cells)
-        return header is not None and len(reply.rows) == reply.announced
+            cells = line.count("\t") + 1 if reply.columns or line else 0
+            if cells != len(reply.columns):
+                raise BadReply(f"line {self.at} has {cells} cells where the header has {len(reply.columns)}")
+            reply.lines.append(line)
+        return header is not None and len(reply.lines) == reply.announced
 
 
 def read(text):

@@ -1,7 +1,9 @@
 """An answer as a table of a terminal or of a page, as CSV and as JSON."""
 
 import csv
+import itertools
 import json
+import re
 
 from replies import escape, plain, value
 from widths import padded, visible, width
@@ -17,21 +19,30 @@ STYLES = {
 }
 AT_THE_RIGHT = ("long", "int", "timespan")
 NO_FRACTION = ".0000000Z"
+SPECIAL = re.compile(r"[\\`*_\[\]<>|]")
+
+
+def shortened(answer, limit):
+    """The columns of datetimes that are all whole seconds: they are shown without fractions."""
+    left = {at for at, (_, kind) in enumerate(answer.columns) if kind == "datetime"}
+    for row in answer.rows(limit) if left else ():
+        left -= {at for at in left if not row[at].endswith(NO_FRACTION) and row[at] != "null"}
+    return left
 
 
 def cells_of(answer, limit=None):
-    """The cells of an answer for the eye, row by row: nothing in them steers a terminal, and a column of datetimes
-    that are all whole seconds has no fractions."""
-    columns = [[visible(row[at]) for row in answer.rows[:limit]] for at in range(len(answer.columns))]
-    for at, (_, kind) in enumerate(answer.columns):
-        if kind == "datetime" and all(cell.endswith(NO_FRACTION) or cell == "null" for cell in columns[at]):
-            columns[at] = [cell.replace(NO_FRACTION, "Z") for cell in columns[at]]
-    return list(zip(*columns)) if columns else []
+    """The cells of an answer for the eye, row by row. Nothing in them steers a terminal."""
+    short = shortened(answer, limit)
+    for row in answer.rows(limit):
+        cells = list(map(visible, row))
+        for at in short:
+            cells[at] = cells[at].replace(NO_FRACTION, "Z")
+        yield cells
 
 
 def footer(answer, limit=None):
     """How many rows an answer has, and how many of them aren't shown."""
-    count = len(answer.rows)
+    count = len(answer.lines)
     text = "1 row" if count == 1 else f"{count} rows"
     if not answer.columns:
         text += " without columns"
@@ -44,9 +55,10 @@ def footer(answer, limit=None):
 
 def write_plain(answer, out, limit=None):
     """Aligned columns under names and types, with no colours."""
-    rows = cells_of(answer, limit)
     heads = [(visible(escape(name)), kind) for name, kind in answer.columns]
-    places = [max([width(name), width(kind)] + [width(row[at]) for row in rows]) for at, (name, kind) in enumerate(heads)]
+    places = [max(width(name), width(kind)) for name, kind in heads]
+    for row in cells_of(answer, limit):
+        places = list(map(max, places, map(width, row)))
     right = [kind in AT_THE_RIGHT for _, kind in heads]
 
     def write(cells):
@@ -56,7 +68,7 @@ def write_plain(answer, out, limit=None):
         write([name for name, _ in heads])
         write([kind for _, kind in heads])
         out.write("  ".join("-" * count for count in places) + "\n")
-        for row in rows:
+        for row in cells_of(answer, limit):
             write(row)
     out.write(footer(answer, limit) + "\n")
 
@@ -93,30 +105,31 @@ def write_csv(answer, out):
     writer = csv.writer(out)
     kinds = [kind for _, kind in answer.columns]
     writer.writerow([name for name, _ in answer.columns])
-    writer.writerows([list(map(plain, row, kinds)) for row in answer.rows])
+    writer.writerows(map(plain, row, kinds) for row in answer.rows())
 
 
 def write_json(answer, out):
     """One array with an object for each row."""
     names = [name for name, _ in answer.columns]
     kinds = [kind for _, kind in answer.columns]
-    objects = (dict(zip(names, map(value, row, kinds))) for row in answer.rows)
-    lines = ",\n".join(json.dumps(found, ensure_ascii=False) for found in objects)
-    out.write(f"[\n{lines}\n]\n" if lines else "[]\n")
+    written = json.JSONEncoder(ensure_ascii=False).encode
+    before = "[\n"
+    for row in answer.rows():
+        out.write(before + written(dict(zip(names, map(value, row, kinds)))))
+        before = ",\n"
+    out.write("\n]\n" if answer.lines else "[]\n")
 
 
 def write_markdown(answer, out):
     """A table of Markdown."""
     heads = [in_markdown(visible(escape(name))) for name, _ in answer.columns]
     sides = ["---:" if kind in AT_THE_RIGHT else "---" for _, kind in answer.columns]
-    for row in [heads, sides] + [list(map(in_markdown, row)) for row in cells_of(answer)]:
+    for row in itertools.chain([heads, sides], (map(in_markdown, row) for row in cells_of(answer))):
         out.write("| " + " | ".join(row) + " |\n")
 
 
 def in_markdown(text):
-    for sign in "\\`*_[]<>|":
-        text = text.replace(sign, "\\" + sign)
-    return text
+    return SPECIAL.sub(r"\\\g<0>", text)
 
 
 WRITERS = {"csv": write_csv, "json": write_json, "markdown": write_markdown}

@@ -25,12 +25,12 @@ class Reading(unittest.TestCase):
 
     def test_a_row_may_be_an_empty_line(self):
         found = replies.read("rows 3\na:string\n\n\nx\n\ndone 2\n\n")
-        self.assertEqual(found[0].rows, [[""], [""], ["x"]])
+        self.assertEqual(list(found[0].rows()), [[""], [""], ["x"]])
         self.assertEqual(found[1].first, "done 2")
 
     def test_an_answer_may_have_no_columns(self):
         found = replies.read("rows 2\n\n\n\n\ndone 2\n\n")
-        self.assertEqual((found[0].columns, found[0].rows), ([], [[], []]))
+        self.assertEqual((found[0].columns, list(found[0].rows())), ([], [[], []]))
         self.assertEqual(found[1].first, "done 2")
 
     def test_names_may_hold_colons_and_tabs(self):
