@@ -4,6 +4,7 @@
 """
 
 import datetime
+import itertools
 import math
 from typing import Any, List, NamedTuple, Optional, Tuple
 
@@ -240,12 +241,13 @@ class Canvas:
 
     def row(self, y, colour, marked):
         text = ""
-        for x in range(self.columns):
-            owner = self.owners.get((x, y))
+        for owner, places in itertools.groupby(range(self.columns), lambda x: self.owners.get((x, y))):
             if owner is None:
-                text += " "
+                text += " " * len(list(places))
+            elif marked:
+                text += MARKS[owner] * len(list(places))
             else:
-                text += MARKS[owner] if marked else paint(chr(0x2800 + self.cells[x, y]), COLOURS[owner], colour)
+                text += paint("".join(chr(0x2800 + self.cells[x, y]) for x in places), COLOURS[owner], colour)
         return text.rstrip()
 
 
