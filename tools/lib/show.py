@@ -94,7 +94,7 @@ def show(reply_text, out, *, script=None, colour=None, limit=None, places=None, 
     chart    draws answers in place of tables: the arguments of charts.make, as {"kind": "bar", "x": "Host"}
     told     where to say that a module is missing; standard error where it isn't said
     """
-    text = script.encode("utf-8") if isinstance(script, str) else script or b""
+    text = script.encode("utf-8", "surrogateescape") if isinstance(script, str) else script or b""
     commands = replies.commands(io.BytesIO(text))
     look = Look(out, colour=colour, limit=limit, places=places, chart=chart, told=told)
     shown = replies.read(reply_text)

@@ -58,6 +58,10 @@ class Command(unittest.TestCase):
         self.assertEqual((status, out), (1, "a\r\n1\r\n"))
         self.assertIn("rows 3 were announced, and the text ends after 1", told)
 
+    def test_a_text_without_answers_is_told_where_one_is_asked_for(self):
+        self.assertEqual(look(text=""), (0, "", ""))
+        self.assertEqual(look("--csv", text="done 1\n\n"), (1, "", "look: there is no answer\n"))
+
     def test_another_text_is_told(self):
         status, _, told = look(text="one line\nand another\n")
         self.assertEqual(status, 1)
@@ -75,7 +79,7 @@ class Command(unittest.TestCase):
         self.assertRegex(out, "web-2 │ █+ 9")
 
     def test_options_that_do_not_fit_are_told(self):
-        for words in (("--x", "N"), ("--csv", "--json"), ("--answer", "0"), ("--chart", "pie"), ("--rows", "-1")):
+        for words in (("--x", "N"), ("--csv", "--json"), ("--answer", "0"), ("--chart", "pie"), ("--rows", "-1"), ("--rows", "1", "--csv")):
             self.assertEqual(look(*words)[0], 2, words)
 
     def test_rows_are_cut_where_it_is_asked_for(self):

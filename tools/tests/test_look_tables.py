@@ -104,6 +104,10 @@ class OnATerminal(unittest.TestCase):
         self.assertIn("\x1b[36m", out)
         self.assertEqual(told, "")
 
+    def test_a_question_may_hold_bytes_that_are_no_text(self):
+        out, _ = self.shown("refused NotText at 7\n\n", script="print '\udcff'")
+        self.assertIn("print '\\xff'", out)
+
     def test_refusals_are_red_and_pointed_at(self):
         out, _ = self.shown("done 1\n\nrefused Unknown at 4\n\n", script="a\n\n// no command\n\nb | c")
         self.assertIn("\x1b[1;31mrefused Unknown at 4\x1b[0m\n     5 | b | c\n\x1b[1;31m             ^\x1b[0m\n", out)
