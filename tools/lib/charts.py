@@ -6,6 +6,7 @@
 import datetime
 import itertools
 import math
+import warnings
 from typing import Any, List, NamedTuple, Optional, Tuple
 
 from replies import moment, seconds
@@ -304,10 +305,18 @@ def x_axis(chart, left, right, side, columns):
 
 
 def save(chart, path):
-    """Writes a chart as a picture; its form goes by the file's ending. The same chart gives the same bytes."""
+    """Writes a chart as a picture, and gives notes on it. Its form goes by the file's ending; the same chart gives the same bytes."""
     import matplotlib
 
     matplotlib.use("Agg")
+    with warnings.catch_warnings(record=True) as told:
+        warnings.simplefilter("always")
+        write_picture(chart, path)
+    lacks = any("missing from" in str(one.message) for one in told) and not str(path).endswith(".svg")
+    return [f"the font of {path} lacks characters of some labels"] if lacks else []
+
+
+def write_picture(chart, path):
     import matplotlib.pyplot as plt
 
     with plt.rc_context({"svg.hashsalt": "look", "svg.fonttype": "none", "axes.spines.top": False, "axes.spines.right": False}):
@@ -334,6 +343,14 @@ def axis_name(name, kind):
     return literal(f"{name} (seconds)" if kind == "timespan" else name)
 
 
+def plain_numbers(number, _):
+    """A number at an axis, short enough for its place: 2M in place of 2e6."""
+    for power, sign in ((1e12, "T"), (1e9, "G"), (1e6, "M"), (1e3, "k")):
+        if abs(number) >= max(power, 1e4):
+            return f"{number / power:.10g}{sign}"
+    return f"{number:,.10g}"
+
+
 def picture_bars(chart, axes):
     labels = labels_of(chart)
     thick = 0.8 / len(chart.series)
@@ -345,6 +362,7 @@ def picture_bars(chart, axes):
     axes.invert_yaxis()
     axes.set_xlabel(axis_name(chart.y_name, chart.y_type))
     axes.set_ylabel(literal(chart.x_name))
+    axes.xaxis.set_major_formatter(plain_numbers)
     axes.grid(axis="x", alpha=0.3)
     axes.set_axisbelow(True)
 
@@ -358,6 +376,9 @@ def picture_curves(chart, axes):
         import matplotlib.dates as dates
 
         axes.xaxis.set_major_formatter(dates.ConciseDateFormatter(axes.xaxis.get_major_locator()))
+    else:
+        axes.xaxis.set_major_formatter(plain_numbers)
+    axes.yaxis.set_major_formatter(plain_numbers)
     axes.set_ylim(bottom=min(0, axes.get_ylim()[0]) if limits(chart)[2] < 0 else 0)
     axes.set_xlabel(axis_name(chart.x_name, chart.x_type))
     axes.set_ylabel(axis_name(chart.y_name, chart.y_type))

@@ -89,6 +89,10 @@ class Drawing(unittest.TestCase):
 
 
 class Pictures(unittest.TestCase):
+    def test_numbers_at_an_axis_are_short(self):
+        numbers = (0, 0.25, 5000, 20000, -2e6, 1.5e9)
+        self.assertEqual([charts.plain_numbers(number, 0) for number in numbers], ["0", "0.25", "5,000", "20k", "-2M", "1.5G"])
+
     def test_a_picture_is_the_same_each_time(self):
         try:
             import matplotlib  # noqa: F401
