@@ -8,7 +8,7 @@ import zlib
 
 from problems import Stopped
 
-PIECE = 2**20
+PIECE = 2**17
 # No command has more bytes, so no record has.
 LONGEST = 2**24
 OTHERS = [

@@ -1,4 +1,5 @@
 """Loads files: finds the columns of their records, and writes the script that puts the rows into a table."""
+import gc
 import time
 
 import csvs
@@ -20,9 +21,18 @@ class Loading:
         self.progress = progress
         self.problems = Problems(options.choices, options.rejects)
         self.rows = 0
-        self.began = time.monotonic()
+        self.sent = 0  # batches
 
     def run(self):
+        """Reads the files, and writes the script."""
+        # Nothing here makes cycles, and the collector would look through all cells of a chunk again and again.
+        gc.disable()
+        try:
+            self.run_on()
+        finally:
+            gc.enable()
+
+    def run_on(self):
         sources = [Source(path, self.options, self.problems) for path in self.options.files]
         columns = self.columns(sources)
         if columns is None:
@@ -121,6 +131,7 @@ class Loading:
     def tell(self, source, seconds):
         given, batches = self.script.given, self.script.batches
         self.rows += given
+        self.sent += batches
         rate = f", {given / seconds:,.0f} rows/s" if seconds > 0 and given else ""
         self.say(f"{source.path}: {given:,} rows in {batches:,} batches, {seconds:.1f} s{rate}")
 
