@@ -20,9 +20,21 @@ FORMS = {
     "timespan": times.SPAN,
 }
 RANGES = {"long": (-(2**63), 2**63 - 1), "int": (-(2**31), 2**31 - 1)}
+# Most columns have few shapes, which are cells with a 0 for each digit. A cell of such a shape is written as it stands; a datetime's
+# digits need a look more.
+DIGITS = str.maketrans("123456789", "000000000")
+SHAPES = {
+    "long": "-?0{1,18}|",
+    "int": "-?0{1,9}|",
+    "timespan": f"{times.SPAN_UNIT}|",
+    "datetime": times.SHAPE,
+}
 WHOLE = re.compile("-?[0-9]+")
+DECIMAL = re.compile("[+-]?[0-9]*[.]?[0-9]+(?:[eE][+-]?[0-9]+)?")
+# Lines that are cells of a type, without a closer look.
+QUICK = {kind: re.compile(f"^(?:{FORMS[kind]})$", re.M) for kind in ("long", "datetime")}
 # What a cell has to be quoted for.
-SIGNS = re.compile('[",\r\n]')
+SIGNS = '",\r\n'
 # A blank line between two lines of a cell would end the command.
 BLANK_LINES = re.compile("\n(?:[ \t\r]*\n)+")
 
@@ -48,20 +60,31 @@ class Judge:
         pattern = pattern_of(kind, moments.zone)
         self.lines = re.compile(f"^{pattern}$", re.M)
         self.one = re.compile(pattern)
+        self.shape = re.compile(SHAPES.get(kind, "(?!)"))
         self.rewritten = 0
 
     def read(self, cells):
         """The cells as they are to be written, and the places of those that can't be, each with why."""
-        if self.scale is None:
-            text = "\n".join(cells)
-            if text.count("\n") == len(cells) - 1 and len(self.lines.findall(text)) == len(cells):
-                return cells, ()
+        if self.scale is None and self.are_plain(cells):
+            return cells, ()
         if self.kind == "datetime":
             found = self.moments.of_apache(cells)
             if found is not None:
                 self.rewritten += len(found)
                 return found, ()
         return self.each(cells)
+
+    def are_plain(self, cells):
+        """Whether all cells are written as they stand. It may be false where they are."""
+        text = "\n".join(cells)
+        if text.count("\n") != len(cells) - 1:
+            return False
+        if self.kind == "bool":
+            return all(map(self.one.fullmatch, set(cells)))
+        shapes = set(text.translate(DIGITS).split("\n"))
+        if all(map(self.shape.fullmatch, shapes)):
+            return self.kind != "datetime" or self.moments.are_plain(cells, shapes)
+        return len(self.lines.findall(text)) == len(cells)
 
     def each(self, cells):
         found, bad = list(cells), []
@@ -159,31 +182,29 @@ class Evidence:
 
     def __init__(self, moments):
         self.moments = moments
-        self.may = {"long", "bool", "timespan", "datetime", "dynamic", "decimal"}
+        self.may = ["long", "bool", "timespan", "datetime", "dynamic", "decimal", "epoch"]
         self.any = False
         self.decimals = 0
         self.padded = False
-        self.epochs = True
 
     def add(self, cells):
         """Takes texts into account."""
-        for cell in set(cells):
-            text = cell.strip(BLANKS)
-            if text:
-                self.any = True
-                self.weigh(text)
+        texts = list(filter(None, {cell.strip(BLANKS) for cell in cells}))
+        if texts:
+            self.any = True
+            self.may = [kind for kind in self.may if self.fits(kind, texts)]
 
-    def weigh(self, text):
-        for kind in tuple(self.may):
-            if not getattr(self, f"may_be_{kind}")(text):
-                self.may.discard(kind)
-        self.epochs = self.epochs and times.EPOCH.fullmatch(text) is not None
+    def fits(self, kind, texts):
+        """Whether all texts may be of a kind."""
+        if kind in QUICK and len(QUICK[kind].findall("\n".join(texts))) == len(texts):
+            return True
+        return all(map(getattr(self, f"may_be_{kind}"), texts))
 
     def may_be_long(self, text):
         least, most = RANGES["long"]
         if not WHOLE.fullmatch(text) or len(text) > 20 or not least <= int(text) <= most:
             return False
-        self.padded = self.padded or (text.lstrip("-")[0] == "0" and text != "0")
+        self.padded = self.padded or (text.lstrip("-")[0] == "0" and text not in ("0", "-0"))
         return True
 
     def may_be_bool(self, text):
@@ -198,8 +219,11 @@ class Evidence:
     def may_be_dynamic(self, text):
         return text[0] in "{[" and fault_of(text)[0] != "json"
 
+    def may_be_epoch(self, text):
+        return times.EPOCH.fullmatch(text) is not None
+
     def may_be_decimal(self, text):
-        if not re.fullmatch("[+-]?[0-9]*[.]?[0-9]+(?:[eE][+-]?[0-9]+)?", text):
+        if not DECIMAL.fullmatch(text):
             return False
         self.decimals = max(self.decimals, len(text.partition(".")[2]))
         return True
@@ -220,7 +244,7 @@ class Evidence:
         if self.padded and "long" in self.may:
             return f"{name} has whole numbers with leading zeros, which are kept as strings; --type {name}:long reads them as numbers"
         if "long" in self.may:
-            return f"{name} may count since 1970; --type {name}:datetime reads it as datetimes" if self.epochs else None
+            return f"{name} may count since 1970; --type {name}:datetime reads it as datetimes" if "epoch" in self.may else None
         if "decimal" in self.may:
             scale = max(1, self.decimals)
             return f"{name} has numbers with a fraction, which have no type here and are kept as strings; --scale {name}:{scale} reads them as longs, {10**scale:,} for each 1"

@@ -1,10 +1,6 @@
-"""CSV and its kin: records of the lines of a file, and lines that are handed on as they stand."""
+"""CSV and its kin: the records of the lines of a file."""
 import csv
 import io
-import re
-
-import cells as cell_rules
-import jsons
 
 csv.field_size_limit(2**24)
 
@@ -22,6 +18,22 @@ class Csv:
         """Reads records of a text whose lines end at LF alone."""
         quoting = csv.QUOTE_MINIMAL if self.quotes else csv.QUOTE_NONE
         return csv.reader(io.StringIO(text, newline="\n"), delimiter=self.delimiter, quoting=quoting, strict=True)
+
+    def columns(self, chunk, width):
+        """The columns of a chunk whose lines are records of this width without quotes; none where some line is anything else."""
+        text = chunk.text()
+        if '"' in text and self.quotes or not chunk.lines:
+            return None
+        if "\r" in text:
+            text = text[:-1] if text.endswith("\r") else text
+            text = text.replace("\r\n", "\n")
+        if "\r" in text or width == 1 and b"" in chunk.lines:
+            return None
+        sign, count = self.delimiter, len(chunk.lines)
+        cells = text.replace("\n", f"{sign}\n{sign}").split(sign)
+        if len(cells) != count * (width + 1) - 1 or cells[width :: width + 1].count("\n") != count - 1:
+            return None
+        return [cells[place :: width + 1] for place in range(width)]
 
     def records(self, chunk, problems):
         """The records of a chunk, and how many of its lines they are of; what is left goes on in the next chunk."""
@@ -68,57 +80,3 @@ class Csv:
             why = "a CR stands within a cell that has no quotes"
         problems.meet("quote", chunk.place(line), why)
         problems.reject(chunk.raw(line, line + 1))
-
-
-def line_pattern(kinds, zone=""):
-    """Matches the lines of a chunk that the engine reads as one record with cells of these types, as they stand. It has one group
-    for each dynamic cell."""
-    cells = []
-    for kind in kinds:
-        if kind in ("string", "dynamic"):
-            cell = '[^",\r\n]*|"[^"\r\n]*(?:""[^"\r\n]*)*"'
-            cells.append(f"({cell})" if kind == "dynamic" else f"(?:{cell})")
-        else:
-            form = cell_rules.pattern_of(kind, zone)
-            cells.append(f'(?:{form}|"{form}")')
-    return re.compile(f"^{','.join(cells)}\r?$".encode(), re.M)
-
-
-class Verbatim:
-    """Takes the lines of a chunk as they stand, where each is a record that the engine reads as it should."""
-
-    def __init__(self, kinds, zone=""):
-        self.pattern = line_pattern(kinds, zone)
-        self.dynamics = kinds.count("dynamic")
-        self.alone = len(kinds) == 1
-        self.judge = cell_rules.Dynamics()
-
-    def takes(self, chunk):
-        lines = chunk.lines
-        # Most files are alike throughout: where one line needs a closer look all do.
-        if self.alone or not lines or not self.pattern.fullmatch(lines[0]) or not self.pattern.fullmatch(lines[len(lines) // 2]):
-            return False
-        data = b"\n".join(lines)
-        found = self.pattern.findall(data)
-        if len(found) != len(lines) or not is_text(data):
-            return False
-        if self.dynamics == 0:
-            return True
-        columns = [found] if self.dynamics == 1 else zip(*found)
-        return all(map(self.are_plain, columns))
-
-    def are_plain(self, column):
-        """Whether the cells are JSON that the engine keeps as it stands."""
-        texts = [cell[1:-1].replace('""', '"') if cell[:1] == '"' else cell for cell in b"\n".join(column).decode().split("\n")]
-        nested = [text for text in texts if text]
-        if any(text.lstrip()[:1] not in ("{", "[") for text in nested):
-            return False
-        quick = self.judge.quick
-        return not nested or (quick.read(nested) is not None and not quick.inexact and all(map(jsons.is_shallow, nested)))
-
-
-def is_text(data):
-    try:
-        return data.isascii() or data.decode() is not None
-    except UnicodeDecodeError:
-        return False

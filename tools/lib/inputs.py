@@ -8,7 +8,7 @@ import zlib
 
 from problems import Stopped
 
-PIECE = 2**20
+PIECE = 2**17
 # No command has more bytes, so no record has.
 LONGEST = 2**24
 OTHERS = [
@@ -29,11 +29,20 @@ class Chunk:
         self.number = number  # of the first line, from 1
         self.lines = lines
         self.last = last
+        self.whole = None
+        self.is_text = True
 
     def text(self, start=0):
-        """The lines as text; a byte that is no UTF-8 is a lone surrogate."""
-        lines = self.lines[start:] if start else self.lines
-        return b"\n".join(lines).decode("utf-8", "surrogateescape")
+        """The lines as text; a byte that is no UTF-8 is a lone surrogate, and then `is_text` is false."""
+        if start:
+            return b"\n".join(self.lines[start:]).decode("utf-8", "surrogateescape")
+        if self.whole is None:
+            data = b"\n".join(self.lines)
+            try:
+                self.whole = data.decode()
+            except UnicodeDecodeError:
+                self.whole, self.is_text = data.decode("utf-8", "surrogateescape"), False
+        return self.whole
 
     def place(self, line):
         return f"{self.name}:{self.number + line:,}".replace(",", "")

@@ -1,7 +1,6 @@
 """JSON: texts that are dynamics of the engine, read and written a whole column at a time."""
 import json
 import os
-import re
 
 # How deep the engine's dynamics nest.
 DEEPEST = 127
@@ -9,7 +8,9 @@ DEEPEST = 127
 TOKEN = os.urandom(12).hex()
 BETWEEN = f',"{TOKEN}",'
 # What the quick reading can't vouch for: a whole number of 19 digits or more, and -0, which is no whole number of a dynamic.
-DOUBTFUL = re.compile(r"[0-9]{19}|-0")
+DIGITS = bytes.maketrans(b"123456789", b"000000000")
+LONG_NUMBER = b"0" * 19
+ZEROS = ("[-0", ",-0", ":-0", " -0", "\t-0")
 LEAST, MOST = -(2**63), 2**63 - 1
 
 
@@ -47,7 +48,7 @@ class Quick:
         """The values of the texts, or none where one of them needs a closer look."""
         self.inexact = False
         joined = BETWEEN.join(texts)
-        if DOUBTFUL.search(joined):
+        if any(zero in joined for zero in ZEROS) or LONG_NUMBER in joined.encode("utf-8", "surrogatepass").translate(DIGITS):
             return None
         try:
             values = self.decoder.decode(f"[{joined}]")

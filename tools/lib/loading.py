@@ -1,4 +1,5 @@
 """Loads files: finds the columns of their records, and writes the script that puts the rows into a table."""
+import gc
 import time
 
 import csvs
@@ -20,9 +21,18 @@ class Loading:
         self.progress = progress
         self.problems = Problems(options.choices, options.rejects)
         self.rows = 0
-        self.began = time.monotonic()
+        self.sent = 0  # batches
 
     def run(self):
+        """Reads the files, and writes the script."""
+        # Nothing here makes cycles, and the collector would look through all cells of a chunk again and again.
+        gc.disable()
+        try:
+            self.run_on()
+        finally:
+            gc.enable()
+
+    def run_on(self):
         sources = [Source(path, self.options, self.problems) for path in self.options.files]
         columns = self.columns(sources)
         if columns is None:
@@ -73,44 +83,39 @@ class Loading:
         self.script.begin(source.input.identity)
         if self.options.rejects is not None and source.heading:
             self.options.rejects.heading = source.heading_text
-        verbatim = self.verbatim(source)
         self.progress.begin(source.input)
-        waiting = None
-        for chunk in source.chunks():
-            if waiting is not None and waiting.lines:
-                chunk = type(chunk)(chunk.name, waiting.number, waiting.lines + chunk.lines, chunk.last)
-            if verbatim and verbatim.takes(chunk):
-                waiting = None
-                self.give(chunk.lines, lambda place: chunk.place(place), chunk)
-            else:
-                table, places, taken = source.table(chunk, self.problems)
-                waiting = chunk.without(taken)
-                self.give_table(table, places, source)
+        for table, places in source.tables(self.problems, source.chunks()):
+            if table.count:
+                self.give(table, places)
             self.progress.advance(source.input.taken, self.script.given + len(self.script.rows))
         self.script.close()
         self.progress.end()
         self.tell(source, time.monotonic() - began)
 
-    def verbatim(self, source):
-        """What takes lines as they stand, where the file's cells are those of the table, in order."""
-        columns = self.plan.columns
-        same = isinstance(source.reader, csvs.Csv) and source.fields == [column.name for column in columns]
-        if not same or source.reader.delimiter != "," or not source.reader.quotes or self.plan.nulls or any(column.scale is not None for column in columns):
-            return None
-        return csvs.Verbatim([column.kind for column in columns], self.options.moments.zone)
-
-    def give_table(self, table, places, source):
-        """Gives the rows of a table."""
-        if not table.count:
-            return
-        rejected = self.extra(table, places)
-        columns, refused = self.plan.cells(table, self.problems, places.at)
-        rejected |= refused
-        rows = plans.rows_of(columns, rejected, self.problems, places.at)
+    def give(self, table, places):
+        """Gives the records of a table as rows."""
+        refused = self.extra(table, places)
+        rows, rejected = self.plan.rows(table, self.problems, places.at)
+        if refused:
+            kept = (place for place in range(table.count) if place not in rejected)
+            rows = [row for place, row in zip(kept, rows) if place not in refused]
+            rejected |= refused
+        if rows and max(map(len, rows)) >= self.script.room:
+            rows = self.short_enough(rows, rejected, table, places)
         for place in sorted(rejected):
             self.problems.reject(places.raw(place))
-        kept = [place for place in range(table.count) if place not in rejected] if rejected else None
-        self.give(rows, lambda row: places.at(kept[row] if kept is not None else row), None, places, kept)
+        self.script.add(rows)
+
+    def short_enough(self, rows, rejected, table, places):
+        """The rows, those aside that are too long for a command."""
+        kept, found = [place for place in range(table.count) if place not in rejected], []
+        for place, row in zip(kept, rows):
+            if len(row) < self.script.room:
+                found.append(row)
+                continue
+            self.problems.meet("long", places.at(place), f"the record makes a row of {len(row):,} bytes, and a command has at most {LONGEST:,}")
+            rejected.add(place)
+        return found
 
     def extra(self, table, places):
         """The records that are rejected since they have fields that no column has."""
@@ -123,23 +128,10 @@ class Loading:
                         rejected.add(place)
         return rejected
 
-    def give(self, rows, at, chunk, places=None, kept=None):
-        """Gives rows, those aside that are too long for a command."""
-        room = self.script.room - 1
-        if rows and max(map(len, rows)) > room:
-            short = []
-            for place, row in enumerate(rows):
-                if len(row) <= room:
-                    short.append(row)
-                    continue
-                self.problems.meet("long", at(place), f"the record makes a row of {len(row):,} bytes, and a command has at most {LONGEST:,}")
-                self.problems.reject(row + b"\n" if chunk else places.raw(kept[place] if kept is not None else place))
-            rows = short
-        self.script.add(rows)
-
     def tell(self, source, seconds):
         given, batches = self.script.given, self.script.batches
         self.rows += given
+        self.sent += batches
         rate = f", {given / seconds:,.0f} rows/s" if seconds > 0 and given else ""
         self.say(f"{source.path}: {given:,} rows in {batches:,} batches, {seconds:.1f} s{rate}")
 

@@ -13,7 +13,7 @@ ACCESS = ["Timestamp", "Host", "Ident", "User", "Method", "Path", "Protocol", "S
 
 PRIORITY = r"<([0-9]{1,3})>"
 OLD = (
-    rf"(?:{PRIORITY})?({MONTH} [ 0-9]?[0-9] (?:[0-9]{{4}} )?[0-9:]{{8}}(?:\.[0-9]+)?|[0-9]{{4}}-[0-9]{{2}}-[0-9]{{2}}T[^ \n]+) ([^ \n]+)"
+    rf"(?:{PRIORITY})?({MONTH} [ 0-9]?[0-9] (?:[0-9]{{4}} )?[0-9:]{{8}}(?:\.[0-9]+)?|[0-9]{{4}}-[0-9]{{2}}-[0-9]{{2}}T[0-9:.]+(?:Z|[+-][0-9:]+)?) ([^ \n]+)"
     r"(?: ([^ :\[\]\n]+)(?:\[([^\]\n]*)\])?:(?= |$))?(?: ([^\n]*))?"
 )
 ELEMENT = r'\[[^ =\]"\n]+(?: [^ =\]"\n]+="[^"\\\n]*(?:\\.[^"\\\n]*)*")*\]'
@@ -65,7 +65,7 @@ class Access(Lines):
     def __init__(self, combined):
         self.name = "combined" if combined else "common"
         self.fields = ACCESS + (["Referer", "UserAgent"] if combined else [])
-        self.types = {"Timestamp": "datetime", "Status": "long", "Bytes": "long"}
+        self.types = {**dict.fromkeys(self.fields, "string"), "Timestamp": "datetime", "Status": "long", "Bytes": "long"}
         super().__init__(COMBINED if combined else COMMON)
 
     def columns(self, groups, count):
@@ -83,7 +83,7 @@ class OldSyslog(Lines):
 
     name = "syslog"
     fields = ["Timestamp", "Facility", "Severity", "Host", "Application", "Process", "Message"]
-    types = {"Timestamp": "datetime", "Facility": "long", "Severity": "long"}
+    types = {**dict.fromkeys(fields, "string"), "Timestamp": "datetime", "Facility": "long", "Severity": "long"}
 
     def __init__(self):
         super().__init__(OLD)
@@ -100,7 +100,7 @@ class NewSyslog(Lines):
 
     name = "syslog5424"
     fields = ["Timestamp", "Facility", "Severity", "Host", "Application", "Process", "MessageId", "Data", "Message"]
-    types = {"Timestamp": "datetime", "Facility": "long", "Severity": "long", "Data": "dynamic"}
+    types = {**dict.fromkeys(fields, "string"), "Timestamp": "datetime", "Facility": "long", "Severity": "long", "Data": "dynamic"}
 
     def __init__(self):
         super().__init__(NEW)

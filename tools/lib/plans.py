@@ -22,13 +22,14 @@ class Column:
 
 
 class Table:
-    """The records of a chunk: a list of values for each field, and where a record stands in its chunk."""
+    """The records of a chunk: a list of values for each field. `lines` are the records as CSV, where each is a line, or none."""
 
     def __init__(self, columns, count, native=False, clean=True):
         self.columns = columns
         self.count = count
         self.native = native
         self.clean = clean
+        self.lines = None
 
 
 class ObjectEvidence(cells.Evidence):
@@ -36,15 +37,16 @@ class ObjectEvidence(cells.Evidence):
 
     def __init__(self, moments):
         super().__init__(moments)
-        self.may = {"timespan", "datetime"}
+        self.may = ["timespan", "datetime"]
         self.kinds = set()
+        self.counts = True  # whether all numbers may count since 1970
 
     def add(self, values):
         found = set(map(type, values)) - {objects.NONE}
         self.kinds |= found
         if found & {int, jsons.Inexact}:
             numbers = [str(value) for value in values if type(value) in (int, jsons.Inexact)]
-            self.epochs = self.epochs and all(cells.times.EPOCH.fullmatch(number) for number in numbers)
+            self.counts = self.counts and all(map(self.may_be_epoch, numbers))
             self.decimals = max([self.decimals, *(len(number.partition(".")[2]) for number in numbers)])
         if self.kinds == {str}:
             super().add([value for value in values if type(value) is str])
@@ -61,7 +63,8 @@ class ObjectEvidence(cells.Evidence):
 
     def note(self, name):
         if self.kinds and self.kinds <= {int, jsons.Inexact}:
-            self.any, self.may = True, {"long"} if self.kinds == {int} else {"decimal"}
+            self.any = True
+            self.may = ["long", "epoch"][: 1 + self.counts] if self.kinds == {int} else ["decimal"]
             return super().note(name)
         return None
 
@@ -74,28 +77,38 @@ class Plan:
         self.rest = rest
         self.nulls = frozenset(nulls)
         self.reader = cells.Dynamics()
+        self.names = [column.name for column in columns]
         self.known = {column.name for column in columns if column.name != rest}
         # With --only or --rest the other fields are left out, or kept together, by will.
         self.open = not only and not rest
 
-    def cells(self, table, problems, at):
-        """The columns of a table as cells of CSV, and the places of the records that are rejected."""
-        rejected, found, faults = set(), [], []
+    def rows(self, table, problems, at):
+        """The records of a table as rows of CSV in UTF-8, and the places of those that are rejected, which have no row."""
+        found, faults, rejected, same = [], [], set(), True
         for column in self.columns:
             values = self.values(column, table)
-            if column.kind == "dynamic":
-                texts, refused = self.dynamics(column, values, table, problems, at)
-                rejected |= refused
-            else:
-                texts = objects.texts_of(values) if table.native else values
-                if column.kind != "string":
-                    texts, bad = column.judge.read(texts)
-                    faults += [(place, column, why) for place, why in bad]
+            texts, bad, refused = self.read(column, values, table, problems, at)
+            same = same and texts is values
+            faults += [(place, column, why) for place, why in bad]
+            rejected |= refused
             found.append(texts)
         for place, column, why in sorted(faults, key=lambda fault: fault[0]):
             if place not in rejected and problems.meet(column.judge.fault, at(place), f"{column.name}: {why}") == "reject":
                 rejected.add(place)
-        return [self.text_cells(column, texts, problems, at, rejected) for column, texts in zip(self.columns, found)], rejected
+        if same and not faults and not rejected and table.lines is not None and list(table.columns) == self.names:
+            return table.lines, rejected
+        columns = [self.text_cells(column, texts, problems, at, rejected) for column, texts in zip(self.columns, found)]
+        return rows_of(columns, rejected, problems, at), rejected
+
+    def read(self, column, values, table, problems, at):
+        """The cells of a column as texts; those that can't be read, each with why; and the records that are rejected."""
+        if column.kind == "dynamic":
+            texts, rejected = self.dynamics(column, values, table, problems, at)
+            return texts, (), rejected
+        texts = objects.texts_of(values) if table.native else values
+        if column.kind == "string":
+            return texts, (), set()
+        return (*column.judge.read(texts), set())
 
     def values(self, column, table):
         if self.rest and column.name == self.rest:
@@ -126,7 +139,7 @@ class Plan:
         if column.kind not in ("string", "dynamic"):
             return texts
         joined = "".join(texts)
-        if not cells.SIGNS.search(joined):
+        if not any(sign in joined for sign in cells.SIGNS):
             return texts
         if "\n" in joined:
             texts = [without_blank_lines(text, place, problems, at, rejected) if "\n" in text else text for place, text in enumerate(texts)]

@@ -109,28 +109,42 @@ class Source:
             self.fields = [f"Column{place}" for place in range(1, len(record) + 1)]
 
     def tables(self, problems, chunks):
-        """Each chunk, cut to the lines of its records, with its table, and where the lines of a record begin and end."""
+        """A table for each chunk, and what tells where its records stand. A record that goes on is read with the next chunk."""
         rest = None
         for chunk in chunks:
             if rest is not None and rest.lines:
                 chunk = type(chunk)(chunk.name, rest.number, rest.lines + chunk.lines, chunk.last)
             table, places, taken = self.table(chunk, problems)
             rest = chunk.without(taken)
-            yield chunk, table, places
+            yield table, places
 
     def table(self, chunk, problems):
         """The records of a chunk as a table; what tells their lines; and how many lines they are of."""
         if isinstance(self.reader, csvs.Csv):
-            records, taken = self.reader.records(chunk, problems)
-            keep = self.fit(records, chunk, problems)
-            columns = [list(column) for column in zip(*records)] or [[] for _ in self.fields]
-            return Table(dict(zip(self.fields, columns)), len(records)), Spans(chunk, self.reader, keep), taken
+            return self.csv_table(chunk, problems)
         found, lines = self.reader.read(chunk, problems)
+        places = Places(chunk, lines)
         if isinstance(self.reader, objects.Objects):
             fields = dict.fromkeys(itertools.chain.from_iterable(found))
             columns = {name: [record.get(name) for record in found] for name in fields}
-            return Table(columns, len(found), True, self.reader.clean), Places(chunk, lines), len(chunk.lines)
-        return Table(dict(zip(self.reader.fields, found)), len(found[0])), Places(chunk, lines), len(chunk.lines)
+            return Table(columns, len(found), native=True, clean=self.reader.clean), places, len(chunk.lines)
+        return Table(dict(zip(self.reader.fields, found)), len(found[0])), places, len(chunk.lines)
+
+    def csv_table(self, chunk, problems):
+        plain = self.reader.delimiter == "," and self.reader.quotes
+        columns = self.reader.columns(chunk, len(self.fields))
+        if columns is not None:
+            table = Table(dict(zip(self.fields, columns)), len(chunk.lines))
+            table.lines = chunk.lines if plain and chunk.is_text else None
+            return table, Places(chunk, None), len(chunk.lines)
+        records, taken = self.reader.records(chunk, problems)
+        count = len(records)
+        keep = self.fit(records, chunk, problems)
+        columns = list(zip(*records)) or [[] for _ in self.fields]
+        table = Table(dict(zip(self.fields, columns)), len(records))
+        if plain and chunk.is_text and keep is None and count == len(chunk.lines):
+            table.lines = chunk.lines
+        return table, Spans(chunk, self.reader, keep), taken
 
     def fit(self, records, chunk, problems):
         """Makes all records as wide as there are columns. Gives the places of those that are kept, or none where all are."""
@@ -158,9 +172,12 @@ class Source:
 
     def evidence(self, known):
         """Adds what the first records show of each field to what is known."""
+        if isinstance(self.reader, logs.Lines):
+            self.fields = list(self.reader.fields)
+            return
         seen = 0
         native = isinstance(self.reader, objects.Objects)
-        for _, table, _ in self.tables(Lenient(), self.skipped()):
+        for table, _ in self.tables(Lenient(), self.skipped()):
             for name, values in table.columns.items():
                 if name not in known:
                     known[name] = (ObjectEvidence if native else Evidence)(self.options.moments)
@@ -169,9 +186,7 @@ class Source:
             seen += table.count
             if seen >= SAMPLE:
                 break
-        if isinstance(self.reader, logs.Lines):
-            self.fields = list(self.reader.fields)
-        elif native:
+        if native:
             self.fields = list(known)
 
     def skipped(self):

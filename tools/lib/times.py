@@ -18,6 +18,11 @@ ZONE = "(?:Z|[+-](?:[01][0-9]|2[0-3]):[0-5][0-9])"
 PLAIN = f"{DATE}(?:[T ]{TIME}{ZONE}?)?"
 PLAIN_WITH_ZONE = f"{DATE}[T ]{TIME}{ZONE}"
 
+# The shape of a datetime, with a 0 for each digit, and what it begins with, up to the minutes and one sign more.
+SHAPE = "(?:0000-00-00(?:[T ]00:00(?::00(?:\\.0{1,9})?)?(?:Z|[+-]00:00)?)?)?"
+HEAD = re.compile(f"(?:{DATE}(?:[T ](?:[01][0-9]|2[0-3]):[0-5][0-9][:Z+-]?)?)?")
+OFFSET = re.compile("[+-](?:[01][0-9]|2[0-3]):[0-5][0-9]")
+
 CLOCK = "([0-9]{2}:[0-9]{2}(?::[0-9]{2}(?:[.,][0-9]+)?)?)"
 LOOSE = re.compile(f"([0-9]{{4}})([-/])([0-9]{{2}})\\2([0-9]{{2}})(?:[Tt _]{CLOCK} ?(Z|z|UTC|GMT|[+-][0-9]{{2}}(?::?[0-9]{{2}})?)?)?")
 APACHE = re.compile(f"([0-9]{{2}})/({MONTH})/([0-9]{{4}}):([0-9]{{2}}:[0-9]{{2}}:[0-9]{{2}}) ([+-][0-9]{{2}})([0-9]{{2}})")
@@ -26,6 +31,8 @@ SYSLOG = re.compile(f"({MONTH}) {{1,2}}([0-9]{{1,2}}) (?:([0-9]{{4}}) )?([0-9]{{
 HTTP = re.compile(f"(?:Mon|Tue|Wed|Thu|Fri|Sat|Sun), ([0-9]{{2}}) ({MONTH}) ([0-9]{{4}}) ([0-9]{{2}}:[0-9]{{2}}:[0-9]{{2}}) GMT")
 # Seconds, or thousandths, millionths or billionths of one, since 1970, told apart by their number of digits.
 EPOCH = re.compile("([0-9]{9,10}|[0-9]{12,13}|[0-9]{15,16}|[0-9]{18,19})(?:\\.([0-9]+))?")
+MOST_HEADS = 100_000
+SIXTIES = frozenset(("", "0", "1", "2", "3", "4", "5"))
 STRICT_TIME = re.compile(TIME)
 STRICT_ZONE = re.compile(ZONE)
 EPOCH_START = datetime.datetime(1970, 1, 1)
@@ -84,6 +91,22 @@ class Moments:
         self.zone = zone
         self.latest = latest or datetime.datetime.now()
         self.days = Days()
+        self.heads = set()
+
+    def are_plain(self, cells, shapes):
+        """Whether cells of these shapes are datetimes that are written as they stand. It may be false where they are."""
+        if self.zone:
+            return False
+        heads = {cell[:17] for cell in cells}
+        if not heads <= self.heads:
+            fresh = heads - self.heads
+            if not all(map(HEAD.fullmatch, fresh)):
+                return False
+            self.heads = heads if len(self.heads) > MOST_HEADS else self.heads | fresh
+        if not {cell[17:18] for cell in cells} <= SIXTIES:
+            return False
+        offsets = {cell[-6:] for cell in cells} if any(shape[-6:-5] in ("+", "-") and len(shape) > 10 for shape in shapes) else ()
+        return all(OFFSET.fullmatch(found) for found in offsets if found[:1] in ("+", "-"))
 
     def exact(self, text):
         """The text, rewritten where the engine reads no such form; or none. It has no blanks at its ends."""
