@@ -30,6 +30,7 @@ class Table:
         self.native = native
         self.clean = clean
         self.lines = None
+        self.records = None  # the objects, where they are such
 
 
 class ObjectEvidence(cells.Evidence):

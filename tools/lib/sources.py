@@ -71,6 +71,8 @@ class Source:
         """Opens a file to load it: many may be looked at before the first is loaded."""
         if self.input.is_regular:
             self.input = Input(self.path, self.problems)
+        if not self.options.year:
+            self.options.moments.latest = self.input.changed
 
     def chunks(self):
         """The lines, those of the names aside."""
@@ -133,7 +135,9 @@ class Source:
         if isinstance(self.reader, objects.Objects):
             fields = dict.fromkeys(itertools.chain.from_iterable(found))
             columns = {name: [record.get(name) for record in found] for name in fields}
-            return Table(columns, len(found), native=True, clean=self.reader.clean), places, len(chunk.lines)
+            table = Table(columns, len(found), native=True, clean=self.reader.clean)
+            table.records = found
+            return table, places, len(chunk.lines)
         return Table(dict(zip(self.reader.fields, found)), len(found[0])), places, len(chunk.lines)
 
     def csv_table(self, chunk, problems):
@@ -181,14 +185,15 @@ class Source:
         if isinstance(self.reader, logs.Lines):
             self.fields = list(self.reader.fields)
             return
-        seen = 0
+        seen, nulls = 0, self.options.nulls
         native = isinstance(self.reader, objects.Objects)
         for table, _ in self.tables(self.lenient, self.skipped()):
-            for name, values in table.columns.items():
+            room = SAMPLE - seen
+            names = dict.fromkeys(itertools.chain.from_iterable(table.records[:room])) if native else table.columns
+            for name in names:
                 if name not in known:
                     known[name] = (ObjectEvidence if native else Evidence)(self.options.moments)
-                nulls = self.options.nulls
-                known[name].add([value for value in values[: SAMPLE - seen] if value not in nulls] if nulls else values[: SAMPLE - seen])
+                known[name].add([value for value in table.columns[name][:room] if not nulls or value not in nulls])
             seen += table.count
             if seen >= SAMPLE:
                 break
@@ -271,7 +276,7 @@ def sniffed(path, lines):
         raise Stopped(f"{path}: is one JSON array and no JSON lines; try jq -c '.[]' {path} | tools/load - ..")
     for name in ("combined", "common", "syslog5424", "syslog"):
         pattern = logs.FORMATS[name]().one
-        if sum(1 for text in texts if pattern.fullmatch(text)) * 2 > len(texts):
+        if texts and sum(1 for text in texts if pattern.fullmatch(text)) * 2 >= len(texts):
             return name
     return "tsv" if path.split(".gz")[0].endswith((".tsv", ".tab")) else "csv"
 
