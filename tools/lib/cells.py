@@ -169,7 +169,7 @@ def fault_of(cell):
     except RecursionError:
         return "deep", "the dynamic nests deeper than 127 levels", None
     except ValueError as fault:
-        return ("json", f"{cell[:60]!r} is no JSON ({fault})", None) if begins else (None, None, None)
+        return ("json", f"{cell[:60]!r} is no JSON ({jsons.told(fault)})", None) if begins else (None, None, None)
     if begins and not jsons.is_shallow(cell) and jsons.depth(value) > jsons.DEEPEST:
         return "deep", "the dynamic nests deeper than 127 levels", value
     if jsons.has_inexact(value):

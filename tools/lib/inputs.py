@@ -76,6 +76,11 @@ class Input:
         if self.state and stat.S_ISDIR(self.state.st_mode):
             raise Stopped(f"{path}: is a folder")
         self.taken = 0
+        self.is_cut = False
+
+    def close(self):
+        if self.path != "-":
+            self.file.close()
 
     @property
     def is_regular(self):
@@ -148,27 +153,33 @@ class Input:
         except zlib.error as fault:
             why = str(fault).split(": ")[-1]
             self.problems.meet("truncated", self.path, f"the compressed data ends early or is damaged ({why})")
+            self.is_cut = True
 
     def chunks(self):
         """The lines, some at a time. A line that is too long for a command is met as a problem, and not kept."""
-        number, rest, skipping = 1, b"", None
+        number, rest, size, skipping = 1, [], 0, None
         for piece in self.pieces():
-            lines = (rest + piece).split(b"\n")
-            if skipping is not None and (len(lines) > 1 or lines[0]):
-                skipping(lines[0] + (b"\n" if len(lines) > 1 else b""))
-                if len(lines) == 1:
-                    continue
-                lines, number, skipping = lines[1:], number + 1, None
-            rest = lines.pop()
-            if lines:
-                yield Chunk(self.path, number, lines)
-                number += len(lines)
-            if len(rest) > LONGEST:
-                skipping = self.too_long(number, rest)
-                rest = b""
-        yield Chunk(self.path, number, [rest] if rest else [], True)
+            first, *lines = piece.split(b"\n")
+            rest.append(first)
+            size += len(first)
+            if size > LONGEST or skipping:
+                skipping = skipping or self.too_long(number)
+                skipping(b"".join(rest) + (b"\n" if lines else b""))
+                rest, size = [], 0
+            if not lines:
+                continue
+            whole = [] if skipping else [b"".join(rest)]
+            number += 1 if skipping else 0
+            *others, last = lines
+            whole += others
+            rest, size, skipping = [last], len(last), None
+            if whole:
+                yield Chunk(self.path, number, whole)
+                number += len(whole)
+        # Where compressed data ends early, the last line is no whole one.
+        rest = b"".join(rest)
+        yield Chunk(self.path, number, [rest] if rest and not self.is_cut else [], True)
 
-    def too_long(self, number, beginning):
+    def too_long(self, number):
         self.problems.meet("long", f"{self.path}:{number}", f"the line has over {LONGEST:,} bytes, more than a command can have")
-        self.problems.reject(beginning)
         return self.problems.reject

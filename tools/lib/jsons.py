@@ -64,6 +64,11 @@ def exact(text):
     return EXACT.decode(text.strip(BLANKS))
 
 
+def told(fault):
+    """Why a text is no JSON, in few words."""
+    return f"{fault.msg} at character {fault.pos + 1}" if isinstance(fault, json.JSONDecodeError) else str(fault)
+
+
 def is_shallow(text):
     """Whether brackets are too few to nest too deep. It may be false of a text that doesn't."""
     return len(text) < 2 * DEEPEST or text.count("{") + text.count("[") <= DEEPEST

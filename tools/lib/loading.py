@@ -36,6 +36,7 @@ class Loading:
         sources = [Source(path, self.options, self.problems) for path in self.options.files]
         columns = self.columns(sources)
         if columns is None:
+            self.read_through(sources)
             raise Stopped("no file has a record, so there are no columns to find")
         if self.options.print_schema:
             self.out.write(schema(self.options.into, columns).encode())
@@ -46,6 +47,13 @@ class Loading:
             self.script.create()
         for source in sources:
             self.load(source)
+
+    def read_through(self, sources):
+        """Meets what keeps the files from having a record."""
+        for source in sources:
+            source.open()
+            for _ in source.tables(self.problems, source.chunks()):
+                pass
 
     def columns(self, sources):
         """The columns of the table, or none where no file shows any."""
@@ -80,14 +88,18 @@ class Loading:
     def load(self, source):
         """Writes the rows of one file."""
         began = time.monotonic()
+        source.open()
         self.script.begin(source.input.identity)
         if self.options.rejects is not None and source.heading:
             self.options.rejects.heading = source.heading_text
         self.progress.begin(source.input)
-        for table, places in source.tables(self.problems, source.chunks()):
-            if table.count:
-                self.give(table, places)
-            self.progress.advance(source.input.taken, self.script.given + len(self.script.rows))
+        try:
+            for table, places in source.tables(self.problems, source.chunks()):
+                if table.count:
+                    self.give(table, places)
+                self.progress.advance(source.input.taken, self.script.given + len(self.script.rows))
+        finally:
+            source.input.close()
         self.script.close()
         self.progress.end()
         self.tell(source, time.monotonic() - began)

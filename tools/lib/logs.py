@@ -5,7 +5,7 @@ import jsons
 from times import MONTH
 
 TEXT = r'[^"\\\n]*(?:\\.[^"\\\n]*)*'
-REQUEST = rf'(?:([!#$%&\'*+.^_`|~0-9A-Za-z-]+) ([^"\\ \n]*(?:\\.[^"\\ \n]*)*)(?: (HTTP/[0-9.]+))|({TEXT}))'
+REQUEST = rf'(?:([!#$%&\'*+.^_`|~0-9A-Za-z-]+) ([^"\\ \n]*(?:\\.[^"\\ \n]*)*)(?: (HTTP/[0-9.]+))?|({TEXT}))'
 MOMENT = r"\[([^\]\n]*)\]"
 COMMON = rf'([^ \n]+) ([^ \n]+) ([^\[\n]+?) {MOMENT} "{REQUEST}" ([0-9]{{3}}|-) ([0-9]+|-)'
 COMBINED = rf'{COMMON} "({TEXT})" "({TEXT})"'

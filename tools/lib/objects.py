@@ -41,7 +41,7 @@ class Objects:
         except RecursionError:
             return None, "deep", "the object nests deeper than can be read"
         except ValueError as fault:
-            return None, "line", f"the line is no JSON ({fault})"
+            return None, "line", f"the line is no JSON ({jsons.told(fault)})"
         if not isinstance(value, dict):
             return None, "line", f"the line is no JSON object: {line[:60]!r}"
         return value, None, None

@@ -30,6 +30,7 @@ class Table:
         self.native = native
         self.clean = clean
         self.lines = None
+        self.records = None  # the objects, where they are such
 
 
 class ObjectEvidence(cells.Evidence):
@@ -88,7 +89,7 @@ class Plan:
         for column in self.columns:
             values = self.values(column, table)
             texts, bad, refused = self.read(column, values, table, problems, at)
-            same = same and texts is values
+            same = same and texts is table.columns.get(column.name)
             faults += [(place, column, why) for place, why in bad]
             rejected |= refused
             found.append(texts)

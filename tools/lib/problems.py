@@ -19,17 +19,17 @@ KINDS = {
     "truncated": ("compressed data that ends early", ("stop", "keep")),
 }
 MEANINGS = {
-    "space": "became one space",
-    "replace": "got U+FFFD in place of what is no UTF-8",
-    "latin1": "were read as Latin-1",
-    "null": "became null",
-    "string": "became strings within the dynamic",
-    "text": "were kept as one string",
-    "drop": "were left out",
-    "fill": "got nulls for what they lack",
-    "cut": "lost the cells that are too many",
-    "keep": "were read as far as they go",
-    "reject": "were rejected",
+    "space": "made one space",
+    "replace": "given U+FFFD for each byte that is no UTF-8",
+    "latin1": "read as Latin-1",
+    "null": "made null",
+    "string": "made strings within the dynamic",
+    "text": "kept as one string",
+    "drop": "left out",
+    "fill": "filled up with nulls",
+    "cut": "cut to the columns",
+    "keep": "read up to the last whole line",
+    "reject": "rejected",
 }
 
 
@@ -49,12 +49,12 @@ class Problems:
         self.counts = collections.Counter()
         self.first = {}
 
-    def meet(self, kind, place, why, count=1):
+    def meet(self, kind, place, why):
         """What becomes of something of this kind at a place."""
         choice = self.choices[kind]
         if choice == "stop":
             raise Stopped(f"{place}: {why}. {hint(kind)}")
-        self.counts[kind, choice] += count
+        self.counts[kind, choice] += 1
         self.first.setdefault((kind, choice), f"{place}: {why}")
         return choice
 

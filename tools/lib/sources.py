@@ -8,21 +8,25 @@ import logs
 import objects
 from cells import Evidence
 from inputs import Input
-from names import distinct_names
-from plans import ObjectEvidence, Table
+from names import distinct_names, is_word
+from plans import LONE, ObjectEvidence, Table
 from problems import Stopped
 
 # How many records, and bytes, are looked at to find types.
 SAMPLE = 10_000
 SAMPLE_BYTES = 2**26
-NAME_LIKE = re.compile(r"[^\W\d][\w .:/@()#%-]{0,127}")
+NAME_LIKE = re.compile(r"[^\W\d].{0,63}")
 FORMATS = ["csv", "tsv", "json", *logs.FORMATS]
 
 
 class Lenient:
     """Stands for the problems while types are found: whatever is wrong is left to the loading."""
 
-    def meet(self, kind, place, why, count=1):
+    def __init__(self):
+        self.met = False
+
+    def meet(self, kind, place, why):
+        self.met = True
         return "reject"
 
     def reject(self, raw):
@@ -40,6 +44,7 @@ class Source:
         self.heading = 0  # how many lines the names of the columns take
         self.fields = []
         self.notes = []
+        self.lenient = Lenient()
         self.sample = self.looked_at()
         lines = list(itertools.islice((line for chunk in self.sample for line in chunk.lines if line.strip()), 50))
         self.format = options.format or sniffed(path, lines)
@@ -49,22 +54,25 @@ class Source:
 
     @property
     def is_empty(self):
-        return not any(chunk.lines for chunk in self.sample)
+        return not any(chunk.lines for chunk in self.sample) and not self.lenient.met
 
     def looked_at(self):
         """The chunks with the first records. What is no file can't be read again, so they are kept."""
         if self.input.is_regular:
-            chunks = Input(self.path, Lenient()).chunks()
-        else:
-            self.opened = chunks = self.input.chunks()
-        found, count, size = [], 0, 0
-        for chunk in chunks:
-            found.append(chunk)
-            count += len(chunk.lines)
-            size += sum(map(len, chunk.lines))
-            if count > SAMPLE or size > SAMPLE_BYTES:
-                break
-        return found
+            self.input.close()
+            looking = Input(self.path, self.lenient)
+            found = first_chunks(looking.chunks())
+            looking.close()
+            return found
+        self.opened = self.input.chunks()
+        return first_chunks(self.opened)
+
+    def open(self):
+        """Opens a file to load it: many may be looked at before the first is loaded."""
+        if self.input.is_regular:
+            self.input = Input(self.path, self.problems)
+        if not self.options.year:
+            self.options.moments.latest = self.input.changed
 
     def chunks(self):
         """The lines, those of the names aside."""
@@ -92,7 +100,7 @@ class Source:
         if found is None:
             return
         behind, record = found
-        names = [name.strip() for name in record]
+        names = [LONE.sub("\ufffd", name.strip()) for name in record]
         asked = self.options.header
         heading = asked if asked is not None else not self.options.names and are_names(names)
         if heading:
@@ -104,7 +112,7 @@ class Source:
             self.fields = list(self.options.names)
         elif heading:
             self.fields = distinct_names(names)
-            self.notes += [f"the column {now!r} is called {before!r} in the file" for before, now in zip(names, self.fields) if before != now]
+            self.notes += [f"the column {now!r} is called {before!r} in the file" for before, now in zip(record, self.fields) if before.strip() != now]
         else:
             self.fields = [f"Column{place}" for place in range(1, len(record) + 1)]
 
@@ -127,7 +135,9 @@ class Source:
         if isinstance(self.reader, objects.Objects):
             fields = dict.fromkeys(itertools.chain.from_iterable(found))
             columns = {name: [record.get(name) for record in found] for name in fields}
-            return Table(columns, len(found), native=True, clean=self.reader.clean), places, len(chunk.lines)
+            table = Table(columns, len(found), native=True, clean=self.reader.clean)
+            table.records = found
+            return table, places, len(chunk.lines)
         return Table(dict(zip(self.reader.fields, found)), len(found[0])), places, len(chunk.lines)
 
     def csv_table(self, chunk, problems):
@@ -175,14 +185,15 @@ class Source:
         if isinstance(self.reader, logs.Lines):
             self.fields = list(self.reader.fields)
             return
-        seen = 0
+        seen, nulls = 0, self.options.nulls
         native = isinstance(self.reader, objects.Objects)
-        for table, _ in self.tables(Lenient(), self.skipped()):
-            for name, values in table.columns.items():
+        for table, _ in self.tables(self.lenient, self.skipped()):
+            room = SAMPLE - seen
+            names = dict.fromkeys(itertools.chain.from_iterable(table.records[:room])) if native else table.columns
+            for name in names:
                 if name not in known:
                     known[name] = (ObjectEvidence if native else Evidence)(self.options.moments)
-                nulls = self.options.nulls
-                known[name].add([value for value in values[: SAMPLE - seen] if value not in nulls] if nulls else values[: SAMPLE - seen])
+                known[name].add([value for value in table.columns[name][:room] if not nulls or value not in nulls])
             seen += table.count
             if seen >= SAMPLE:
                 break
@@ -229,8 +240,22 @@ class Spans(Places):
         return self.found[self.keep[place] if self.keep is not None else place]
 
 
+def first_chunks(chunks):
+    """As many chunks as show the types."""
+    found, count, size = [], 0, 0
+    for chunk in chunks:
+        found.append(chunk)
+        count += len(chunk.lines)
+        size += sum(map(len, chunk.lines))
+        if count > SAMPLE or size > SAMPLE_BYTES:
+            break
+    return found
+
+
 def are_names(cells):
     """Whether the cells of a first record are names of columns and no values."""
+    if len(cells) == 1:
+        return is_word(cells[0])
     return len(set(cells)) == len(cells) and all(NAME_LIKE.fullmatch(cell) and cell.lower() not in ("true", "false") for cell in cells)
 
 
@@ -251,7 +276,7 @@ def sniffed(path, lines):
         raise Stopped(f"{path}: is one JSON array and no JSON lines; try jq -c '.[]' {path} | tools/load - ..")
     for name in ("combined", "common", "syslog5424", "syslog"):
         pattern = logs.FORMATS[name]().one
-        if sum(1 for text in texts if pattern.fullmatch(text)) * 2 > len(texts):
+        if texts and sum(1 for text in texts if pattern.fullmatch(text)) * 2 >= len(texts):
             return name
     return "tsv" if path.split(".gz")[0].endswith((".tsv", ".tab")) else "csv"
 

@@ -105,7 +105,7 @@ class Moments:
             self.heads = heads if len(self.heads) > MOST_HEADS else self.heads | fresh
         if not {cell[17:18] for cell in cells} <= SIXTIES:
             return False
-        offsets = {cell[-6:] for cell in cells} if any(shape[-6:-5] in ("+", "-") and len(shape) > 10 for shape in shapes) else ()
+        offsets = {cell[10:][-6:] for cell in cells} if any(shape[-6:-5] in ("+", "-") and len(shape) > 10 for shape in shapes) else ()
         return all(OFFSET.fullmatch(found) for found in offsets if found[:1] in ("+", "-"))
 
     def exact(self, text):
