@@ -1,0 +1,172 @@
+"""Loads files: finds the columns of their records, and writes the script that puts the rows into a table."""
+import gc
+import time
+
+import csvs
+import names
+import plans
+import scripts
+from inputs import LONGEST
+from problems import Problems, Stopped
+from sources import Source
+
+
+class Loading:
+    """One call: files into a table."""
+
+    def __init__(self, options, out, say, progress):
+        self.options = options
+        self.out = out
+        self.say = say
+        self.progress = progress
+        self.problems = Problems(options.choices, options.rejects)
+        self.rows = 0
+        self.sent = 0  # batches
+
+    def run(self):
+        """Reads the files, and writes the script."""
+        # Nothing here makes cycles, and the collector would look through all cells of a chunk again and again.
+        gc.disable()
+        try:
+            self.run_on()
+        finally:
+            gc.enable()
+
+    def run_on(self):
+        sources = [Source(path, self.options, self.problems) for path in self.options.files]
+        columns = self.columns(sources)
+        if columns is None:
+            self.read_through(sources)
+            raise Stopped("no file has a record, so there are no columns to find")
+        if self.options.print_schema:
+            self.out.write(schema(self.options.into, columns).encode())
+            return
+        self.plan = plans.Plan(columns, self.options.only, self.options.rest, self.options.nulls)
+        self.script = scripts.Script(self.out, self.options.into, columns, self.options.batch)
+        if self.options.table:
+            self.script.create()
+        for source in sources:
+            self.load(source)
+
+    def read_through(self, sources):
+        """Meets what keeps the files from having a record."""
+        for source in sources:
+            source.open()
+            for _ in source.tables(self.problems, source.chunks()):
+                pass
+
+    def columns(self, sources):
+        """The columns of the table, or none where no file shows any."""
+        fields, fixed, evidence = {}, {}, {}
+        for source in sources:
+            if source.is_empty:
+                self.say(f"{source.path}: is empty: it has no records")
+            source.evidence(evidence)
+            if not source.is_empty or source.fields:
+                self.agree(fields, source)
+            fixed.update(getattr(source.reader, "types", {}))
+            for note in source.notes:
+                self.say(f"{source.path}: {note}")
+        for name in fields:
+            evidence.setdefault(name, plans.ObjectEvidence(self.options.moments))
+        if not fields:
+            return None
+        columns, notes = plans.planned(list(fields), evidence, fixed, self.options)
+        for note in notes:
+            self.say(note)
+        return columns
+
+    def agree(self, fields, source):
+        """Takes the fields of a file. One without names has those of the first file, where it has as many."""
+        nameless = isinstance(source.reader, csvs.Csv) and not source.heading and not self.options.names
+        if fields and nameless:
+            if len(source.fields) != len(fields):
+                raise Stopped(f"{source.path}: has {len(source.fields)} columns and no names, and the files before it have {len(fields)}")
+            source.fields = list(fields)
+        fields.update(dict.fromkeys(source.fields))
+
+    def load(self, source):
+        """Writes the rows of one file."""
+        began = time.monotonic()
+        source.open()
+        self.script.begin(source.input.identity)
+        if self.options.rejects is not None and source.heading:
+            self.options.rejects.heading = source.heading_text
+        self.progress.begin(source.input)
+        try:
+            for table, places in source.tables(self.problems, source.chunks()):
+                if table.count:
+                    self.give(table, places)
+                self.progress.advance(source.input.taken, self.script.given + len(self.script.rows))
+        finally:
+            source.input.close()
+        self.script.close()
+        self.progress.end()
+        self.tell(source, time.monotonic() - began)
+
+    def give(self, table, places):
+        """Gives the records of a table as rows."""
+        refused = self.extra(table, places)
+        rows, rejected = self.plan.rows(table, self.problems, places.at)
+        if refused:
+            kept = (place for place in range(table.count) if place not in rejected)
+            rows = [row for place, row in zip(kept, rows) if place not in refused]
+            rejected |= refused
+        if rows and max(map(len, rows)) >= self.script.room:
+            rows = self.short_enough(rows, rejected, table, places)
+        for place in sorted(rejected):
+            self.problems.reject(places.raw(place))
+        self.script.add(rows)
+
+    def short_enough(self, rows, rejected, table, places):
+        """The rows, those aside that are too long for a command."""
+        kept, found = [place for place in range(table.count) if place not in rejected], []
+        for place, row in zip(kept, rows):
+            if len(row) < self.script.room:
+                found.append(row)
+                continue
+            self.problems.meet("long", places.at(place), f"the record makes a row of {len(row):,} bytes, and a command has at most {LONGEST:,}")
+            rejected.add(place)
+        return found
+
+    def extra(self, table, places):
+        """The records that are rejected since they have fields that no column has."""
+        rejected = set()
+        others = [name for name in table.columns if name not in self.plan.known] if self.plan.open else ()
+        for name in others:
+            for place, value in enumerate(table.columns[name]):
+                if value is not None and value != "" and place not in rejected:
+                    if self.problems.meet("extra", places.at(place), f"no column has the field {name!r}") == "reject":
+                        rejected.add(place)
+        return rejected
+
+    def tell(self, source, seconds):
+        given, batches = self.script.given, self.script.batches
+        self.rows += given
+        self.sent += batches
+        rate = f", {given / seconds:,.0f} rows/s" if seconds > 0 and given else ""
+        self.say(f"{source.path}: {given:,} rows in {batches:,} batches, {seconds:.1f} s{rate}")
+
+    def stop(self, fault):
+        """Says why the loading ends early. What is left of the open batch isn't given, so that its tag stays free for all of it."""
+        self.progress.end()
+        self.say(f"stopped: {fault}")
+        if hasattr(self, "script"):
+            given = self.rows + self.script.given
+            self.out.write(f"// tools/load stopped here, behind {given} rows.\n\n".encode())
+            self.out.flush()
+            self.say(f"{given:,} rows were given before; the same files can be loaded again, and these go in once")
+
+    def summary(self):
+        """What became of the records that couldn't be given as they stand."""
+        for column in self.plan.columns if hasattr(self, "plan") else ():
+            if column.judge is not None and column.judge.rewritten:
+                self.say(f"{column.name}: {column.judge.rewritten:,} cells were rewritten as a {column.kind}")
+        for line in self.problems.told():
+            self.say(line)
+
+
+def schema(table, columns):
+    """The command that makes the table, a line for each column."""
+    lines = ",\n".join(f"    {names.column_name(column.name)}:{column.kind}" for column in columns)
+    return f".create table {names.table_name(table)} (\n{lines}\n)\n"

@@ -1,0 +1,114 @@
+"""The program as one process, whose standard input is kept open: a block is sent, and its reply is read."""
+import os
+import queue
+import secrets
+import subprocess
+import threading
+
+
+def read_reply(stream):
+    """The next reply of a stream of bytes, without its empty line; less where the stream ends before; none at its end.
+
+    A row may be an empty line, so the lines of an answer are counted."""
+    first = stream.readline()
+    if not first:
+        return None
+    lines = [first]
+    words = first.split()
+    count = int(words[1]) + 1 if len(words) == 2 and words[0] == b"rows" and words[1].isdigit() else 0
+    for _ in range(count):
+        lines.append(stream.readline())
+    stream.readline()
+    return b"".join(lines)
+
+
+def blocks(lines):
+    """The blocks of a script, as lists of lines, each as soon as its blank line has come."""
+    block = []
+    for line in lines:
+        if line.strip(" \t\r\n"):
+            block.append(line.rstrip("\n"))
+        elif block:
+            yield block
+            block = []
+    if block:
+        yield block
+
+
+def is_comment(block):
+    return all(line.lstrip(" \t").startswith("//") for line in block)
+
+
+class Ended(Exception):
+    """The program ended before it had answered; the text says how."""
+
+
+class Program:
+    """A running program. Its replies are read beside, so that it never waits for a reader."""
+
+    def __init__(self, words):
+        # A session of its own, so that an interrupt of the terminal doesn't end it.
+        self.process = subprocess.Popen(words, stdin=subprocess.PIPE, stdout=subprocess.PIPE, start_new_session=True)
+        self.input = self.process.stdin
+        self.replies = queue.Queue()
+        threading.Thread(target=self.read, daemon=True).start()
+
+    def read(self):
+        while True:
+            reply = read_reply(self.process.stdout)
+            self.replies.put(reply)
+            if reply is None:
+                return
+
+    def send(self, text):
+        try:
+            self.input.write(text.encode("utf-8", "surrogateescape") + b"\n\n")
+            self.input.flush()
+        except BrokenPipeError:
+            pass
+
+    def reply(self):
+        """The next reply."""
+        reply = self.replies.get()
+        if reply is None:
+            self.replies.put(None)
+            raise Ended(f"the program ended with status {self.process.wait()}")
+        return reply.decode("utf-8", "surrogateescape")
+
+    def ask(self, text):
+        self.send(text)
+        return self.reply()
+
+    def replies_so_far(self):
+        """The replies to all that was sent. A question of our own, whose answer no other has, marks their end."""
+        mark = secrets.token_hex(8)
+        self.send(f"print mark = '{mark}'")
+        while True:
+            reply = self.reply()
+            if mark in reply:
+                return
+            yield reply
+
+    def end(self):
+        """Ends the input, and gives the program's status."""
+        try:
+            self.input.close()
+        except BrokenPipeError:
+            pass
+        return self.process.wait()
+
+
+def proved_program(top):
+    """The proved program where it stands and is no older than its sources, as ./kq asks too; else none."""
+    program = os.path.join(top, "crates", "kq_console", "out", "kq_console")
+    if not os.access(program, os.X_OK):
+        return None
+    built = os.stat(program).st_mtime_ns
+    if os.stat(os.path.join(top, "crates.txt")).st_mtime_ns > built:
+        return None
+    for crate in os.scandir(os.path.join(top, "crates")):
+        for part in ("src", "specs", "proofs"):
+            for folder, _, files in os.walk(os.path.join(crate.path, part)):
+                if any(os.lstat(os.path.join(folder, name)).st_mtime_ns > built for name in files):
+                    return None
+    return program

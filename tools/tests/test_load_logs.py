@@ -1,0 +1,189 @@
+"""Formats of log lines. The lines are those of RFC 3164, RFC 5424 and Apache's page on its logs."""
+import datetime
+import json
+import unittest
+
+from load_runs import Folder, loaded
+
+COMMON = '127.0.0.1 - frank [10/Oct/2000:13:55:36 -0700] "GET /apache_pb.gif HTTP/1.0" 200 2326'
+COMBINED = COMMON + ' "http://www.example.com/start.html" "Mozilla/4.08 [en] (Win98; I ;Nav)"'
+ACCESS = "Timestamp:datetime, Host:string, Ident:string, User:string, Method:string, Path:string, Protocol:string, Status:long, Bytes:long"
+
+
+def rows(lines, *words, name="a.log"):
+    found = loaded("".join(f"{line}\n" for line in lines), *words, name=name)
+    if found.status:
+        raise AssertionError(found.told)
+    return found.rows
+
+
+class Access(unittest.TestCase):
+    def test_common_log_format(self):
+        found = loaded(COMMON + "\n", name="a.log")
+        self.assertEqual(found.columns, ACCESS)
+        self.assertEqual(found.rows, [["2000-10-10T13:55:36-07:00", "127.0.0.1", "", "frank", "GET", "/apache_pb.gif", "HTTP/1.0", "200", "2326"]])
+        self.assertIn("Timestamp: 1 cells were rewritten as a datetime", found.told)
+
+    def test_combined_log_format(self):
+        found = loaded(COMBINED + "\n", "--type", "Status:int", name="a.log")
+        self.assertEqual(found.columns, ACCESS.replace("Status:long", "Status:int") + ", Referer:string, UserAgent:string")
+        self.assertEqual(found.rows[0][9:], ["http://www.example.com/start.html", "Mozilla/4.08 [en] (Win98; I ;Nav)"])
+
+    def test_what_a_dash_says_is_empty(self):
+        line = '::1 - - [10/Oct/2000:13:55:36 -0700] "-" 408 - "-" "-"'
+        self.assertEqual(rows([line]), [["2000-10-10T13:55:36-07:00", "::1", "", "", "", "", "", "408", "", "", ""]])
+
+    def test_requests_of_another_form_stand_whole(self):
+        for request, wanted in [
+            ("GET /", ["GET", "/", ""]),
+            (r"\x16\x03\x01", ["", r"\x16\x03\x01", ""]),
+            ("GET /a b HTTP/1.1", ["", "GET /a b HTTP/1.1", ""]),
+            (r"GET /\"q\" HTTP/1.1", ["GET", r"/\"q\"", "HTTP/1.1"]),
+        ]:
+            with self.subTest(request=request):
+                # Beside a plain line, which is read another way where all are plain.
+                for lines in ([COMMON.replace("GET /apache_pb.gif HTTP/1.0", request)], [COMMON] * 3 + [COMMON.replace("GET /apache_pb.gif HTTP/1.0", request)]):
+                    self.assertEqual(rows(lines)[-1][4:7], wanted)
+
+    def test_a_user_with_a_blank_and_an_agent_with_quotes(self):
+        line = COMBINED.replace("frank", "frank n stein").replace("Mozilla/4.08", r"a \"b\" \\")
+        self.assertEqual([rows([line])[0][place] for place in (3, 10)], ["frank n stein", r"a \"b\" \\ [en] (Win98; I ;Nav)"])
+
+    def test_text_that_isnt_ascii_and_commas(self):
+        line = COMBINED.replace("/apache_pb.gif", "/é,ü")
+        self.assertEqual(rows([line, line + "\r"])[1][5], "/é,ü")
+
+    def test_a_line_of_another_form_stops_with_its_number(self):
+        found = loaded(f"{COMMON}\n{COMMON}\nserver restarted\n{COMMON}\n", name="a.log")
+        self.assertEqual((found.status, found.batches), (1, []))
+        self.assertIn("a.log:3: the line isn't of the format common: 'server restarted'", found.told)
+
+    def test_rejected_lines(self):
+        found = loaded(f"{COMMON}\nx\n\n{COMMON}\ny\n", "--rejects", "bad", name="a.log")
+        self.assertEqual((len(found.rows), found.rejects), (2, b"x\ny\n"))
+
+    def test_a_day_that_isnt_there(self):
+        found = loaded(COMMON.replace("10/Oct", "31/Sep") + "\n", name="a.log")
+        self.assertIn("a.log:1: Timestamp: '31/Sep/2000:13:55:36 -0700' is no datetime", found.told)
+
+
+class Syslog(unittest.TestCase):
+    def test_rfc_3164(self):
+        with Folder() as folder:
+            folder.put("a.log", "<34>Oct 11 22:14:15 mymachine su: 'su root' failed for lonvick on /dev/pts/8\n<13>Feb  5 17:32:18 10.0.0.99 Use the BFG!\n", changed=datetime.datetime(2003, 12, 1, tzinfo=datetime.timezone.utc).timestamp())
+            found = folder.load("a.log")
+        self.assertEqual(found.columns, "Timestamp:datetime, Facility:long, Severity:long, Host:string, Application:string, Process:string, Message:string")
+        self.assertEqual(
+            found.rows,
+            [
+                ["2003-10-11T22:14:15", "4", "2", "mymachine", "su", "", "'su root' failed for lonvick on /dev/pts/8"],
+                ["2003-02-05T17:32:18", "1", "5", "10.0.0.99", "", "", "Use the BFG!"],
+            ],
+        )
+
+    def test_lines_of_files_have_no_priority_and_often_a_process(self):
+        lines = ["Oct  1 22:14:15 host sshd[42]: Accepted key: ok", "Oct  1 22:14:15 host systemd-resolved[1]: x", "2024-03-01T10:00:00.123456+01:00 host app[7]: modern", "Oct  1 22:14:15 host CRON[9]:"]
+        found = rows(lines, "--year", "2024")
+        self.assertEqual(found[0], ["2024-10-01T22:14:15", "", "", "host", "sshd", "42", "Accepted key: ok"])
+        self.assertEqual(found[1][4:], ["systemd-resolved", "1", "x"])
+        self.assertEqual(found[2], ["2024-03-01T10:00:00.123456+01:00", "", "", "host", "app", "7", "modern"])
+        self.assertEqual(found[3][4:], ["CRON", "9", ""])
+
+    def test_rfc_5424(self):
+        lines = [
+            "<34>1 2003-10-11T22:14:15.003Z mymachine.example.com su - ID47 - \ufeff'su root' failed for lonvick on /dev/pts/8",
+            "<165>1 2003-08-24T05:14:15.000003-07:00 192.0.2.1 myproc 8710 - - %% It's time to make the do-nuts.",
+            '<165>1 2003-10-11T22:14:15.003Z mymachine.example.com evntslog - ID47 [exampleSDID@32473 iut="3" eventSource="Application" eventID="1011"] \ufeffAn application event log entry...',
+            '<165>1 2003-10-11T22:14:15.003Z mymachine.example.com evntslog - ID47 [exampleSDID@32473 iut="3" eventSource="Application" eventID="1011"][examplePriority@32473 class="high"]',
+        ]
+        found = rows(lines)
+        self.assertEqual(found[0], ["2003-10-11T22:14:15.003Z", "4", "2", "mymachine.example.com", "su", "", "ID47", "", "'su root' failed for lonvick on /dev/pts/8"])
+        self.assertEqual(found[1], ["2003-08-24T05:14:15.000003-07:00", "20", "5", "192.0.2.1", "myproc", "8710", "", "", "%% It's time to make the do-nuts."])
+        self.assertEqual(json.loads(found[2][7]), {"exampleSDID@32473": {"iut": "3", "eventSource": "Application", "eventID": "1011"}})
+        self.assertEqual(found[2][8], "An application event log entry...")
+        self.assertEqual(json.loads(found[3][7])["examplePriority@32473"], {"class": "high"})
+        self.assertEqual(found[3][8], "")
+
+    def test_structured_data_with_escapes_and_repeated_names(self):
+        line = r'<165>1 - - - - - [origin ip="192.0.2.1" ip="192.0.2.129"][x y="a\"b\\c\]d"] m'
+        found = rows([line])[0]
+        self.assertEqual(found[:7], ["", "20", "5", "", "", "", ""])
+        self.assertEqual(json.loads(found[7]), {"origin": {"ip": ["192.0.2.1", "192.0.2.129"]}, "x": {"y": 'a"b\\c]d'}})
+
+
+class Json(unittest.TestCase):
+    def load(self, lines, *words):
+        return loaded("".join(f"{line}\n" for line in lines), *words, name="a.json")
+
+    def test_members_are_columns(self):
+        found = self.load(['{"t":"2024-03-01T10:00:00Z","n":5,"ok":true,"s":"x","o":{"b":1,"a":[1,null]},"z":null}', '{"s":"é \\u00e9","extra":[]}'])
+        self.assertEqual(found.columns, "t:datetime, n:long, ok:bool, s:string, o:dynamic, z:string, extra:dynamic")
+        self.assertEqual(found.rows[0], ["2024-03-01T10:00:00Z", "5", "true", "x", '{"b":1,"a":[1,null]}', "", ""])
+        self.assertEqual(found.rows[1], ["", "", "", "é é", "", "", "[]"])
+
+    def test_texts_of_numbers_stay_texts_and_mixed_members_too(self):
+        found = self.load(['{"id":"007","m":1,"d":{}}', '{"id":"8","m":"x","d":"y"}'])
+        self.assertEqual(found.columns, "id:string, m:string, d:dynamic")
+        self.assertEqual(found.rows, [["007", "1", "{}"], ["8", "x", '"y"']])
+
+    def test_a_text_within_a_dynamic_stays_one(self):
+        found = self.load(['{"d":[1]}', '{"d":"12"}', '{"d":true}', '{"d":12}'])
+        self.assertEqual([row[0] for row in found.rows], ["[1]", '"12"', "true", "12"])
+
+    def test_numbers_with_a_fraction(self):
+        lines = ['{"took":1.234,"n":1}', '{"took":2,"n":2}']
+        plain = self.load(lines)
+        self.assertEqual((plain.columns, plain.rows), ("took:string, n:long", [["1.234", "1"], ["2", "2"]]))
+        self.assertIn("--scale took:3", plain.told)
+        self.assertEqual(self.load(lines, "--scale", "took:3").rows, [["1234", "1"], ["2000", "2"]])
+
+    def test_numbers_with_a_fraction_within_a_dynamic(self):
+        lines = ['{"d":{"temp":21.50,"big":9223372036854775808,"n":1}}']
+        stopped = self.load(lines)
+        self.assertEqual(stopped.status, 1)
+        self.assertIn("a.json:1:", stopped.told)
+        self.assertIn("--on number=string", stopped.told)
+        strings = self.load(lines, "--on", "number=string")
+        self.assertEqual(strings.rows, [['{"temp":"21.50","big":"9223372036854775808","n":1}']])
+        self.assertIn("number: 1 made strings", strings.told)
+        text = self.load(lines, "--on", "number=text")
+        self.assertEqual(json.loads(text.rows[0][0]), '{"temp":21.50,"big":9223372036854775808,"n":1}')
+        rejected = self.load(lines + ['{"d":{}}'], "--rejects", "bad")
+        self.assertEqual((rejected.rows, rejected.rejects.decode()), ([["{}"]], lines[0] + "\n"))
+
+    def test_how_deep_a_dynamic_may_be(self):
+        deep = lambda n: '{"d":' + "[" * n + "]" * n + "}"
+        self.assertEqual(self.load([deep(127)]).status, 0)
+        for depth in (128, 5000):
+            found = self.load([deep(1), deep(depth)])
+            self.assertEqual(found.status, 1)
+            self.assertIn("a.json:2:", found.told)
+
+    def test_late_members_stop_or_go_where_it_is_said(self):
+        lines = ['{"a":1}'] * 10000 + ['{"a":2,"b":"x","c":null}']
+        self.assertIn("a.json:10001: no column has the field 'b'", self.load(lines).told)
+        self.assertEqual(self.load(lines, "--on", "extra=drop").rows[-1], ["2"])
+        rest = self.load(lines, "--rest", "Rest")
+        self.assertEqual((rest.columns, rest.rows[-1]), ("a:long, Rest:dynamic", ["2", '{"b":"x"}']))
+
+    def test_types_that_come_late(self):
+        found = self.load(['{"a":1}'] * 10000 + ['{"a":"x"}'])
+        self.assertIn("a.json:10001: a: 'x' is no long", found.told)
+
+    def test_seconds_since_1970(self):
+        found = self.load(['{"ts":1709294400.25}', '{"ts":1709294400}'], "--type", "ts:datetime")
+        self.assertEqual(found.rows, [["2024-03-01T12:00:00.25Z"], ["2024-03-01T12:00:00Z"]])
+
+    def test_cells_of_csv_that_are_json(self):
+        lines = 'n,d\n1,"{""a"":1}"\n'
+        for cell, kind in [('"{""a"":1.5}"', "number"), ('"{""a"":-0}"', "number"), ('"{""a"""', "json"), ('"[9223372036854775808]"', "number"), ('"{""a"":NaN}"', "json"), ('"[1],[2]"', "json")]:
+            with self.subTest(cell=cell):
+                found = loaded(lines + f"2,{cell}\n", "--type", "d:dynamic")
+                self.assertEqual(found.status, 1)
+                self.assertIn(f"--on {kind}=", found.told)
+        kept = loaded(lines + '2,"{""a"""\n3,plain\n4,"[9223372036854775807]"\n5,"{""a"":1.5}"\n', "--type", "d:dynamic", "--on", "json=text", "--on", "number=string")
+        self.assertEqual([json.loads(row[1]) if row[1] != "plain" else "plain" for row in kept.rows], [{"a": 1}, '{"a"', "plain", [9223372036854775807], {"a": "1.5"}])
+
+
+if __name__ == "__main__":
+    unittest.main()
