@@ -5,7 +5,7 @@ use Rattle.kq_bind_steps.specs.Clauses.{range_rows, table_rows, sorted_by, toppe
 use Rattle.kq_bind_steps.specs.Operators.{printed_row, filtered, taken, count_column, projected, extended, dropped, renamed, distinct_rows, all_distinct}
 use Rattle.kq_bind_steps.specs.Scopes.{Scoping, source_named, part_named}
 use Rattle.kq_bind_steps.specs.kq_bind_clauses.Joins.{join_kind}
-use Rattle.kq_bind_steps.specs.kq_bind_expression.Verdicts.{Verdict, and_then}
+use Rattle.kq_bind_expression.specs.Verdicts.{Verdict, and_then}
 use Rattle.kq_grammar.specs.Trees.{TabularTree, pipeline, SourceTree, table, nested, worded, FromTree, view, print, range, datatable, union, UnionTree, arms, ArmTree, named_arm, nested_arm, Arms, no_arm, and_arm, Operators, no_operator, and_operator, BodyTree, filter, extend, project, project_away, project_rename, take, count, sort, top, distinct, distinct_all, summarize, summarize_by, join, unite, mv_expand}
 use Rattle.kq_plan.specs.Plans.{counted}
 use Rattle.kq_syntax.specs.declared.kind.Symbol.{Symbol}

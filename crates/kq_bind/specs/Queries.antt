@@ -6,8 +6,8 @@ use Rattle.kq_bind_steps.specs.Scopes.{Scoping, Tabling, names, tabling_named}
 use Rattle.kq_bind_supported.specs.Unsupported.{unsupported_query}
 use Rattle.kq_bind_steps.specs.kq_bind_columns.Items.{field}
 use Rattle.kq_bind_steps.specs.kq_bind_columns.Naming.{is_taken}
-use Rattle.kq_bind_steps.specs.kq_bind_expression.Bound.{bound}
-use Rattle.kq_bind_steps.specs.kq_bind_expression.Verdicts.{Verdict, mistyped, and_then, supported_or}
+use Rattle.kq_bind_expression.specs.Bound.{bound}
+use Rattle.kq_bind_expression.specs.Verdicts.{Verdict, mistyped, and_then, supported_or}
 use Rattle.kq_expr.specs.Terms.{Bound}
 use Rattle.kq_grammar.specs.declared.expression.Name.{Name}
 use Rattle.kq_grammar.specs.Trees.{Tree, name, group, TabularTree, LetTree, QueryTree}

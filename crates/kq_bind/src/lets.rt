@@ -5,15 +5,16 @@ ghost use Rattle.kq_bind.specs.Queries as the;
 ghost use Rattle.kq_bind.specs.Seen.{letting_of};
 ghost use Rattle.kq_bind_steps.specs.Seen.{flow_of, tabling_of};
 ghost use Rattle.kq_bind_steps.specs.kq_bind_columns.Naming.{is_taken};
-ghost use Rattle.kq_bind_steps.specs.kq_bind_expression.Verdicts.{AnswersVerdict};
+ghost use Rattle.kq_bind_expression.specs.Verdicts.{AnswersVerdict};
 ghost use Rattle.kq_expr.specs.Terms.{typed_of};
 ghost use Rattle.kq_grammar.specs.TabularViews.{tabular_of, right_of, let_of};
 ghost use Rattle.kq_grammar.specs.Views.{tree_of};
 
 use crate::pipe::bind_tabular;
+use kq_bind_expression::{BindFault, bind_expression};
 use kq_bind_steps::{
-    BindFault, ExpressionScope, Flow, Progress, Scope, TabularLet, bind_expression, following,
-    is_taken as field_is_taken, name_place, name_text, tabular_let,
+    Flow, Progress, Scope, TabularLet, following, is_taken as field_is_taken, name_place,
+    name_text, tabular_let,
 };
 use kq_expr::Typed;
 use kq_grammar::{Expression, Let, LetRight, Name, Tabular};
@@ -100,7 +101,7 @@ fn scalar_let<N: Names>(
 ) -> Result<Lets, BindFault>
     ensures { AnswersVerdict letting_of (the.scalar_let text.now (N.known names.now) (letting_of lets) name (tree_of tree.now)) result }
 {
-    let scope = ExpressionScope {
+    let scope = kq_bind_expression::Scope {
         text,
         lets: &lets.scalars,
     };

@@ -3,13 +3,14 @@ ghost use Rattle.std.specs.Prelude.{◌≡◌, ◌∷◌, [], map};
 ghost use Rattle.std.specs.Option.{option_map};
 ghost use Rattle.kq_bind.specs.Pipes.{tabular, sourced, from_word, united_with, gathered, armed, piped, operated};
 ghost use Rattle.kq_bind_steps.specs.Seen.{flow_of, progress_of, scoping_of};
-ghost use Rattle.kq_bind_steps.specs.kq_bind_expression.Verdicts.{AnswersVerdict};
+ghost use Rattle.kq_bind_expression.specs.Verdicts.{AnswersVerdict};
 ghost use Rattle.kq_grammar.specs.Trees.{unite};
 ghost use Rattle.kq_grammar.specs.TabularViews.{tabular_of, source_of, from_of, union_of, arm_of, arms_of, operator_of, operators_of, body_of, join_of};
 
+use kq_bind_expression::BindFault;
 use kq_bind_steps::{
-    BindFault, Flow, Progress, Scope, all_distinct, all_together, counted_rows, distinct_rows,
-    dropped, extended, filtered, grouped, grouped_by, join_kind, joined_on, next_stage, part_named,
+    Flow, Progress, Scope, all_distinct, all_together, counted_rows, distinct_rows, dropped,
+    extended, filtered, grouped, grouped_by, join_kind, joined_on, next_stage, part_named,
     parts_of, printed_row, projected, range_rows, renamed, sorted_by, source_named, table_rows,
     taken, topped_by,
 };

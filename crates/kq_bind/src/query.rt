@@ -1,13 +1,14 @@
 // Queries.
 ghost use Rattle.std.specs.Prelude.{◌≡◌, Ok};
 ghost use Rattle.kq_bind.specs.Queries.{query_bound, planned, query_walked};
-ghost use Rattle.kq_bind_steps.specs.kq_bind_expression.Verdicts.{AnswersVerdict};
+ghost use Rattle.kq_bind_expression.specs.Verdicts.{AnswersVerdict};
 ghost use Rattle.kq_grammar.specs.TabularViews.{query_of};
 ghost use Rattle.kq_plan.specs.Plans.{planned_of};
 
 use crate::lets::{Lets, lets_made, no_lets};
 use crate::pipe::bind_tabular;
-use kq_bind_steps::{BindFault, Scope};
+use kq_bind_expression::BindFault;
+use kq_bind_steps::Scope;
 use kq_bind_supported::unsupported_in_query;
 use kq_grammar::Query;
 use kq_plan::{Names, Plan};

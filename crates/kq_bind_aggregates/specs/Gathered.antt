@@ -5,8 +5,8 @@ use Rattle.kq_bind_aggregates.specs.Functions.{aggregate_named}
 use Rattle.kq_bind_aggregates.specs.Made.{Aggregated, made}
 use Rattle.kq_bind_columns.specs.Items.{field}
 use Rattle.kq_bind_columns.specs.Naming.{is_taken, free_name}
-use Rattle.kq_bind_columns.specs.kq_bind_expression.Names.{Names}
-use Rattle.kq_bind_columns.specs.kq_bind_expression.Verdicts.{Verdict, mistyped, unknown, and_then, or_fault}
+use Rattle.kq_bind_expression.specs.Names.{Names}
+use Rattle.kq_bind_expression.specs.Verdicts.{Verdict, mistyped, unknown, and_then, or_fault}
 use Rattle.kq_grammar.specs.declared.expression.Name.{Name}
 use Rattle.kq_grammar.specs.Trees.{AggregateTree}
 use Rattle.kq_plan.specs.Plans.{Aggregating}

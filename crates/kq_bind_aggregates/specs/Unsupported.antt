@@ -1,6 +1,6 @@
 -- The place of the leftmost literal of aggregates that isn't supported.
 use Rattle.std.specs.Prelude.{ℕ, List, [], ◌∷◌, Option, None}
-use Rattle.kq_bind_columns.specs.kq_bind_expression.Unsupported.{or_later, unsupported_in}
+use Rattle.kq_bind_expression.specs.Unsupported.{or_later, unsupported_in}
 use Rattle.kq_grammar.specs.Trees.{ArgumentTree, value, all, AggregateTree}
 
 abbrev pub unsupported_argument : List ℕ → ArgumentTree → Option ℕ

@@ -3,14 +3,15 @@ ghost use Rattle.std.specs.Prelude.{◌≡◌, ◌∷◌, [], map, IfOk, Ok};
 ghost use Rattle.kq_bind_aggregates.specs.Functions.{aggregate_named};
 ghost use Rattle.kq_bind_aggregates.specs.Gathered as the;
 ghost use Rattle.kq_bind_aggregates.specs.Seen.{fields_of, gathering_of, aggregated_of};
-ghost use Rattle.kq_bind_columns.specs.kq_bind_expression.Names.{names_of};
-ghost use Rattle.kq_bind_columns.specs.kq_bind_expression.Verdicts.{AnswersVerdict};
+ghost use Rattle.kq_bind_expression.specs.Names.{names_of};
+ghost use Rattle.kq_bind_expression.specs.Verdicts.{AnswersVerdict};
 ghost use Rattle.kq_grammar.specs.Views.{aggregate_view};
 
 use crate::arguments::{all_argued, unkeyed};
 use crate::function::find;
 use crate::made::{Aggregated, made};
-use kq_bind_columns::{BindFault, Scope, free_name, is_taken, name_place, name_text, piece};
+use kq_bind_columns::{free_name, is_taken, name_place, name_text, piece};
+use kq_bind_expression::{BindFault, Scope};
 use kq_grammar::Name;
 use kq_plan::Aggregate;
 use kq_value::{Field, Memory, Text};

@@ -3,7 +3,7 @@ ghost use Rattle.std.specs.Prelude.{◌≡◌, map};
 ghost use Rattle.kq_bind_aggregates.specs.Unsupported as the;
 ghost use Rattle.kq_grammar.specs.Views.{aggregate_view, argument_view};
 
-use kq_bind_columns::unsupported;
+use kq_bind_expression::unsupported;
 use kq_grammar::{Aggregate, Argument};
 
 fn in_argument(text: &str, argument: &Argument) -> Option<usize>

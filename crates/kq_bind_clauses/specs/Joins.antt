@@ -3,7 +3,7 @@ use Rattle.std.specs.Prelude.{ℕ, Bool, ◌&&◌, not, List, [], ◌∷◌, ◌
 use Rattle.kq_bind_columns.specs.Chosen.{place_in}
 use Rattle.kq_bind_columns.specs.Items.{field}
 use Rattle.kq_bind_columns.specs.Naming.{free_name}
-use Rattle.kq_bind_columns.specs.kq_bind_expression.Verdicts.{Verdict, mistyped, and_then}
+use Rattle.kq_bind_expression.specs.Verdicts.{Verdict, mistyped, and_then}
 use Rattle.kq_grammar.specs.declared.clause.JoinKey.{JoinKey}
 use Rattle.kq_grammar.specs.declared.clause.JoinKey.TheVariants as key
 use Rattle.kq_grammar.specs.declared.expression.Name.{Name}

@@ -2,10 +2,10 @@
 use Rattle.std.specs.Prelude.{ℕ, true, List, [], ◌∷◌, Option, Some, None, Ok, Err, if◌then◌else◌}
 use Rattle.kq_bind_columns.specs.Defaults.{first_token}
 use Rattle.kq_bind_columns.specs.Items.{field}
-use Rattle.kq_bind_columns.specs.kq_bind_expression.Apply.{as_taken}
-use Rattle.kq_bind_columns.specs.kq_bind_expression.Bound.{bound}
-use Rattle.kq_bind_columns.specs.kq_bind_expression.Names.{Names}
-use Rattle.kq_bind_columns.specs.kq_bind_expression.Verdicts.{Verdict, mistyped, and_then, or_fault}
+use Rattle.kq_bind_expression.specs.Apply.{as_taken}
+use Rattle.kq_bind_expression.specs.Bound.{bound}
+use Rattle.kq_bind_expression.specs.Names.{Names}
+use Rattle.kq_bind_expression.specs.Verdicts.{Verdict, mistyped, and_then, or_fault}
 use Rattle.kq_expr.specs.Terms.{Term, Bound}
 use Rattle.kq_expr.specs.kq_fn.Table.{widened}
 use Rattle.kq_grammar.specs.declared.expression.Name.{Name}

@@ -1,9 +1,9 @@
 -- What rows are sorted by.
 use Rattle.std.specs.Prelude.{ℕ, Bool, true, false, not, List, [], ◌∷◌, Option, Some, None, Ok}
 use Rattle.kq_bind_columns.specs.Items.{operand}
-use Rattle.kq_bind_columns.specs.kq_bind_expression.Names.{Names}
-use Rattle.kq_bind_columns.specs.kq_bind_expression.Unsupported.{or_later, unsupported_in}
-use Rattle.kq_bind_columns.specs.kq_bind_expression.Verdicts.{Verdict, and_then}
+use Rattle.kq_bind_expression.specs.Names.{Names}
+use Rattle.kq_bind_expression.specs.Unsupported.{or_later, unsupported_in}
+use Rattle.kq_bind_expression.specs.Verdicts.{Verdict, and_then}
 use Rattle.kq_expr.specs.Terms.{Bound}
 use Rattle.kq_grammar.specs.Trees.{KeyTree}
 use Rattle.kq_plan.specs.Plans.{Sorting}

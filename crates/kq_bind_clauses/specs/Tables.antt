@@ -3,8 +3,8 @@ use Rattle.std.specs.Prelude.{ℕ, ℤ, Bool, true, false, List, [], ◌∷◌, 
 use Rattle.kq_arithmetic.specs.Arithmetic.{negated}
 use Rattle.kq_bind_columns.specs.Items.{field}
 use Rattle.kq_bind_columns.specs.Naming.{is_taken}
-use Rattle.kq_bind_columns.specs.kq_bind_expression.Unsupported.{or_later, unless_some, valueless}
-use Rattle.kq_bind_columns.specs.kq_bind_expression.Verdicts.{Verdict, unsupported, mistyped, and_then, or_fault}
+use Rattle.kq_bind_expression.specs.Unsupported.{or_later, unless_some, valueless}
+use Rattle.kq_bind_expression.specs.Verdicts.{Verdict, unsupported, mistyped, and_then, or_fault}
 use Rattle.kq_computed.specs.Computed.{Computed, Is, Overflow}
 use Rattle.kq_grammar.specs.declared.clause.Cell.{Cell}
 use Rattle.kq_grammar.specs.declared.clause.Column.{Column}

@@ -4,7 +4,7 @@ use Rattle.std.specs.List.{filter, insert, list_any}
 use Rattle.std.specs.Cmp.Lexicographic.{pointwise}
 use Rattle.kq_bind_columns.specs.Items.{field}
 use Rattle.kq_bind_columns.specs.Naming.{is_taken, free_name}
-use Rattle.kq_bind_columns.specs.kq_bind_expression.Lookup.{first_named}
+use Rattle.kq_bind_expression.specs.Lookup.{first_named}
 use Rattle.kq_plan.specs.Plans.{Filling}
 use Rattle.kq_syntax.specs.declared.kind.Kind.{Kind}
 use Rattle.kq_syntax.specs.declared.kind.Kind.TheVariants as kind

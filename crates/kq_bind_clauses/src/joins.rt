@@ -1,9 +1,10 @@
 // What joins match on, and the columns that they give.
 ghost use Rattle.std.specs.Prelude.{◌≡◌, ◌∷◌, IfOk};
 ghost use Rattle.kq_bind_clauses.specs.Joins.{kind_said as the_kind_said, kind_of as the_kind_of, join_kind as the_join_kind, is_key as the_is_key, matched as the_matched, on_key as the_on_key, on_keys as the_on_keys, beside as the_beside, join_columns as the_join_columns};
-ghost use Rattle.kq_bind_columns.specs.kq_bind_expression.Verdicts.{AnswersVerdict};
+ghost use Rattle.kq_bind_expression.specs.Verdicts.{AnswersVerdict};
 
-use kq_bind_columns::{BindFault, free_name, name_place, place_in};
+use kq_bind_columns::{free_name, name_place, place_in};
+use kq_bind_expression::BindFault;
 use kq_grammar::{JoinKey, Name};
 use kq_plan::JoinKind;
 use kq_syntax::{JoinKind as KindWord, Kind, Quoted, Word};

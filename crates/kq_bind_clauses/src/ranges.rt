@@ -2,13 +2,14 @@
 ghost use Rattle.std.specs.Prelude.{◌≡◌, IfOk};
 ghost use Rattle.kq_bind_clauses.specs.Seen.{ranging_of};
 ghost use Rattle.kq_bind_clauses.specs.Ranges.{step_type as the_step_type, as_long as the_as_long, of_this_type as the_of_this_type, range_typed as the_range_typed, ranged as the_ranged, range_column as the_range_column};
-ghost use Rattle.kq_bind_columns.specs.kq_bind_expression.Names.{names_of};
-ghost use Rattle.kq_bind_columns.specs.kq_bind_expression.Verdicts.{AnswersVerdict};
+ghost use Rattle.kq_bind_expression.specs.Names.{names_of};
+ghost use Rattle.kq_bind_expression.specs.Verdicts.{AnswersVerdict};
 ghost use Rattle.kq_expr.specs.Terms.{term_of, typed_of};
 ghost use Rattle.kq_expr.specs.kq_fn.Table.{widened as the_widened};
 ghost use Rattle.kq_grammar.specs.Views.{tree_of};
 
-use kq_bind_columns::{BindFault, Scope, bind_expression, first_token, name_text, taken};
+use kq_bind_columns::{first_token, name_text};
+use kq_bind_expression::{BindFault, Scope, bind_expression, taken};
 use kq_expr::{Expr, Typed};
 use kq_grammar::{Expression, Name};
 use kq_value::{Field, Memory, Ty};

@@ -1,13 +1,14 @@
 // What rows are sorted by.
 ghost use Rattle.std.specs.Prelude.{◌≡◌, ◌∷◌, map};
 ghost use Rattle.kq_bind_clauses.specs.Sorts.{is_ascending as the_is_ascending, is_first as the_is_first, descends as the_descends, nulls_come_first as the_nulls_come_first, sorting as the_sorting, sort_key as the_sort_key, sort_keys as the_sort_keys, unsupported_keys as the_unsupported_keys};
-ghost use Rattle.kq_bind_columns.specs.kq_bind_expression.Names.{names_of};
-ghost use Rattle.kq_bind_columns.specs.kq_bind_expression.Verdicts.{AnswersVerdict};
+ghost use Rattle.kq_bind_expression.specs.Names.{names_of};
+ghost use Rattle.kq_bind_expression.specs.Verdicts.{AnswersVerdict};
 ghost use Rattle.kq_expr.specs.Terms.{typed_of};
 ghost use Rattle.kq_grammar.specs.Views.{key_view};
 ghost use Rattle.kq_plan.specs.Plans.{sorting_of};
 
-use kq_bind_columns::{BindFault, Scope, operand, unsupported};
+use kq_bind_columns::operand;
+use kq_bind_expression::{BindFault, Scope, unsupported};
 use kq_expr::Typed;
 use kq_grammar::Key;
 use kq_plan::SortKey;

@@ -2,13 +2,12 @@
 ghost use Rattle.std.specs.Prelude.{◌≡◌, [], ◌∷◌, ◌++◌, Ok, map};
 ghost use Rattle.kq_bind_clauses.specs.Seen.{tabled_of};
 ghost use Rattle.kq_bind_clauses.specs.Tables.{word_type as the_word_type, put_column as the_put_column, table_columns as the_table_columns, takes_sign as the_takes_sign, with_sign as the_with_sign, if_int as the_if_int, as_int as the_as_int, of_column as the_of_column, place_of as the_place_of, signed_in as the_signed_in, cell_made as the_cell_made, rows_made as the_rows_made, none_left, tabled as the_tabled, typeless as the_typeless, unsupported_columns as the_unsupported_columns, unsupported_cells as the_unsupported_cells};
-ghost use Rattle.kq_bind_columns.specs.kq_bind_expression.Verdicts.{AnswersVerdict, and_then};
+ghost use Rattle.kq_bind_expression.specs.Verdicts.{AnswersVerdict, and_then};
 ghost use Rattle.kq_plan.specs.Plans.{cells_seen};
 
 use kq_arithmetic::negated;
-use kq_bind_columns::{
-    BindFault, is_taken, literal_value, name_place, name_text, piece, ty_of, valueless,
-};
+use kq_bind_columns::{is_taken, literal_value, name_place, name_text, piece, ty_of};
+use kq_bind_expression::{BindFault, valueless};
 use kq_grammar::{Cell, Column};
 use kq_syntax::{Kind, Symbol};
 use kq_value::{Field, Ty, Value};

@@ -5,7 +5,8 @@ ghost use Rattle.kq_bind_clauses.specs.Seen.{arm_of};
 ghost use Rattle.kq_bind_clauses.specs.Unions.{is_inner_word as the_is_inner_word, is_inner as the_is_inner, has_column as the_has_column, place_behind as the_place_behind, with_column as the_with_column, with_columns as the_with_columns, all_columns as the_all_columns, in_all as the_in_all, common_columns as the_common_columns, union_sources as the_union_sources, type_word as the_type_word, is_mixed as the_is_mixed, keep_names as the_keep_names, typed_name as the_typed_name, names_made as the_names_made, union_columns as the_union_columns, of_type as the_of_type, filling as the_filling, arms_filled as the_arms_filled, columns_in};
 ghost use Rattle.kq_plan.specs.Plans.{filling_of};
 
-use kq_bind_columns::{first_named, free_name};
+use kq_bind_columns::free_name;
+use kq_bind_expression::first_named;
 use kq_plan::Arm;
 use kq_syntax::{JoinKind, Kind, Symbol, Word};
 use kq_value::{Field, Memory, Text, Ty};

@@ -6,4 +6,3 @@ pub mod Seen
 pub mod kq_bind_clauses
 pub mod kq_bind_columns
 pub mod kq_spelled
-pub mod kq_bind_expression

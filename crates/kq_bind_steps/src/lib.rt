@@ -16,7 +16,6 @@ pub use flow::{Flow, Progress, following, next_stage};
 pub use group::{grouped, grouped_by};
 pub use kq_bind_clauses::join_kind;
 pub use kq_bind_columns::is_taken;
-pub use kq_bind_expression::{BindFault, Scope as ExpressionScope, bind_expression};
 pub use kq_spelled::{name_place, name_text};
 pub use operators::{
     all_distinct, counted_rows, distinct_rows, dropped, extended, filtered, projected, renamed,

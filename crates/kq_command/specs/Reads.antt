@@ -20,7 +20,7 @@ use Rattle.kq_control.specs.ControlTrees.{PropertiesTree, ControlTree, create_ta
 use Rattle.kq_control.specs.Statements.{IsStatement, IsRefusedText}
 use Rattle.kq_grammar.specs.declared.expression.Name.{Name}
 use Rattle.kq_grammar.specs.TabularViews.{query_of}
-use Rattle.kq_control.specs.kq_parse.TheVariants as parse
+use Rattle.kq_parse.specs.declared.asking.ParseFault.TheVariants as parse
 use Rattle.kq_syntax.specs.declared.kind.Symbol.{Symbol}
 
 -- ---- the forms that are built

@@ -4,8 +4,8 @@ ghost use Rattle.std.specs.Prelude.{◌≡◌};
 use crate::columns::{Columns, Identifier};
 use crate::definition::NewView;
 use crate::ingestion::Ingestion;
-use kq_control::ParseFault;
 use kq_grammar::Query as WrittenQuery;
+use kq_parse::ParseFault;
 use kq_value::Text;
 use std::alloc::{AllocError, AllocFailed};
 

@@ -5,4 +5,3 @@ pub mod Controls
 pub mod Following
 pub mod Statements
 pub mod Symbols
-pub mod kq_parse

@@ -8,7 +8,6 @@ mod symbols;
 mod tree;
 mod views;
 
-pub use kq_parse::ParseFault;
 pub use statement::parse_statement;
 pub use tree::{
     Body, ColumnList, Control, ExportDefinition, Property, PropertyList, Statement, ViewDefinition,

@@ -7,7 +7,7 @@ use Rattle.kq_catalog.specs.Seen.{CatalogView, Sound, hist}
 use Rattle.kq_catalog.specs.Views.{HoldsPart, IsPart}
 use Rattle.kq_extent.specs.Seen.{HeldExtents, held_records}
 use Rattle.kq_extent.specs.Wide.{wide_held}
-use Rattle.kq_query.specs.kq_fold.Folds.{IsPartOf}
+use Rattle.kq_fold.specs.Folds.{IsPartOf}
 use Rattle.kq_catalog.specs.kq_group.Groups.{Grouping}
 use Rattle.kq_bind_body.specs.kq_grouping.Bodies.{IsViewBody, OverflowsAt, StandsFor, columns_read}
 use Rattle.kq_model.specs.declared.view.View.{View}

@@ -2,9 +2,9 @@
 use Rattle.std.proofs.Common.{◌≡◌, ◌&&◌, ◌||◌, not, ℕ, Bool, true, false, cond, List, [], ◌∷◌, ◌++◌, length, nat_eq, Option, Some, None, Result, Ok, Err, IfOk, inl, inr, refl, ap, sym, ◌∙◌, subst}
 use Rattle.std.specs.List.{filter, slice_get}
 use Rattle.std.proofs.lemmas.Bool.{and_parts}
-use Rattle.kq_policies.specs.kq_cascade.Derived.{Derived}
-use Rattle.kq_policies.specs.kq_cascade.Makes.{Makes, among}
-use Rattle.kq_policies.proofs.kq_cascade.Listing.{left-enabled}
+use Rattle.kq_cascade.specs.declared.running.Derived.{Derived}
+use Rattle.kq_cascade.specs.Makes.{Makes, among}
+use Rattle.kq_cascade.proofs.Listing.{left-enabled}
 use Rattle.kq_catalog.specs.Intents.{commit_of}
 use Rattle.kq_model.specs.declared.batch.Batch.{Batch}
 use Rattle.kq_model.specs.declared.event.Commit.{Commit}

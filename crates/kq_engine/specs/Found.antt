@@ -10,8 +10,8 @@ use Rattle.kq_model.specs.Derived.{Row}
 use Rattle.kq_model.specs.History.{History, Log, cursor, log, view_cursor, tables, table_named, NumberedTable, table_numbered}
 use Rattle.kq_model.specs.Policies.{dues}
 use Rattle.kq_model.specs.Tagged.{least_tagged}
-use Rattle.kq_policies.specs.kq_cascade.CascadeFault.{CascadeFault}
-use Rattle.kq_policies.specs.kq_cascade.TheVariants as cascades
+use Rattle.kq_cascade.specs.declared.running.CascadeFault.{CascadeFault}
+use Rattle.kq_cascade.specs.declared.running.CascadeFault.TheVariants as cascades
 use Rattle.kq_catalog.specs.Intents.{BeginsEmpty as IsBegun, commit_of}
 use Rattle.kq_catalog.specs.Seen.{SnapshotView}
 use Rattle.kq_command.specs.declared.columns.Column.{Column}

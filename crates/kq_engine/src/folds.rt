@@ -12,9 +12,10 @@ ghost use Rattle.kq_reply.specs.declared.refusal.Refusal.TheVariants as refusals
 use crate::work::{Folding, Found};
 use kq_catalog::Snapshot;
 use kq_command::Identifier;
+use kq_fold::{GroupFault, fold};
 use kq_model::View;
 use kq_policies::Held;
-use kq_query::{GroupFault, columns_read, fold};
+use kq_query::columns_read;
 use kq_reply::{Refusal, Reply};
 use kq_rows::Rows;
 use kq_scan::delta;

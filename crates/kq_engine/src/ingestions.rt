@@ -1,7 +1,7 @@
 // An ingestion, with what comes of it by the update policies.
 ghost use Rattle.std.specs.Prelude.{◌≡◌, All, IfErr, IfOk, Some, map};
 ghost use Rattle.std.specs.List.{slice_get};
-ghost use Rattle.kq_policies.specs.kq_cascade.Makes.{RefusesBy};
+ghost use Rattle.kq_cascade.specs.Makes.{RefusesBy};
 ghost use Rattle.kq_catalog.specs.Intents.{batch_of};
 ghost use Rattle.kq_command.specs.declared.command.Change.TheVariants as changes;
 ghost use Rattle.kq_engine.specs.Due.{IsDueByLog, IsRowsDue, counted, refusal_of as refusal_by};
@@ -18,12 +18,13 @@ use crate::changes::has_room;
 use crate::offers::is_alone;
 use crate::tags::{Labels, least_cursor, read_labels};
 use crate::work::{Barring, Found, Offer};
+use kq_cascade::{BatchRows, CascadeFault, Derived};
 use kq_catalog::{Intent, Part, Snapshot};
 use kq_command::Ingestion;
 use kq_extent::Draft;
 use kq_ingest::{IngestFault, read_rows};
 use kq_model::Table;
-use kq_policies::{BatchRows, CascadeFault, Derived, derive, looked};
+use kq_policies::{derive, looked};
 use kq_reply::{Refusal, Reply};
 use kq_rows::Rows;
 use kq_value::{Memory, Schema, Text};

@@ -4,8 +4,8 @@ use Rattle.kq_bind_policy.specs.Answers.{AnswersPolicy}
 use Rattle.kq_bind_policy.specs.declared.fault.PolicyFault.{PolicyFault}
 use Rattle.kq_bind_policy.specs.declared.fault.PolicyFault.TheVariants as policy
 use Rattle.kq_entries.specs.Entries.{AreEntries, BindsQuery, IsEntryFor, RefusesEntries, fault_by, fault_read}
-use Rattle.kq_catalog.specs.kq_model.Entry.{Entry}
-use Rattle.kq_catalog.specs.kq_model.History.{Log}
+use Rattle.kq_model.specs.declared.policy.Entry.{Entry}
+use Rattle.kq_model.specs.History.{Log}
 use Rattle.kq_plan.specs.Names.{Known}
 use Rattle.kq_policy_json.specs.declared.entry.Written.{Written}
 use Rattle.kq_policy_json.specs.declared.fault.JsonFault.{JsonFault}

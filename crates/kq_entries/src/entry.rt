@@ -1,11 +1,12 @@
 // One entry.
 ghost use Rattle.std.specs.Prelude.{◌≡◌};
 ghost use Rattle.kq_entries.specs.Entries.{BindsEntry, BindsQuery, fault_by};
-ghost use Rattle.kq_catalog.specs.kq_model.History.{log};
+ghost use Rattle.kq_model.specs.History.{log};
 
 use crate::fault::EntryFault;
 use kq_bind_policy::{PolicyFault, bind_policy};
-use kq_catalog::{Entry, Snapshot, Why};
+use kq_catalog::Snapshot;
+use kq_model::{Entry, Why};
 use kq_plan::Names;
 use kq_policy_json::Written;
 use kq_value::Field;

@@ -1,5 +1,5 @@
 // Why a text is no update policy.
-use kq_catalog::Why;
+use kq_model::Why;
 use std::alloc::{AllocError, AllocFailed};
 
 /// Why a text gives no entries of an update policy.

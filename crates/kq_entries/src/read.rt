@@ -1,12 +1,13 @@
 // The entries of a text.
 ghost use Rattle.std.specs.Prelude.{◌≡◌, ◌<◌, ◌^◌, IfErr, IfOk, None, length};
 ghost use Rattle.kq_entries.specs.Entries.{AreEntries, IsPolicyOf, RefusesEntries, RefusesAmong, fault_read};
-ghost use Rattle.kq_catalog.specs.kq_model.History.{log};
+ghost use Rattle.kq_model.specs.History.{log};
 ghost use Rattle.kq_policy_json.specs.PolicyTexts.{fault_of};
 
 use crate::entry::bind_entry;
 use crate::fault::{EntriesFault, EntryFault};
-use kq_catalog::{Entry, Snapshot, Why};
+use kq_catalog::Snapshot;
+use kq_model::{Entry, Why};
 use kq_plan::Names;
 use kq_policy_json::{JsonFault, Written, read_policy};
 use kq_value::Field;

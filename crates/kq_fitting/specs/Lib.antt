@@ -11,4 +11,3 @@ pub mod kq_bind_steps
 pub mod kq_bind_aggregates
 pub mod kq_spelled
 pub mod kq_bind_columns
-pub mod kq_bind_expression

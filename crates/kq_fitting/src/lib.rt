@@ -5,7 +5,6 @@ mod laws;
 mod query;
 
 pub use kq_bind::unsupported_in_query;
-pub use kq_bind_expression::BindFault;
 pub use laws::{
     default_names_are_free, joins_have_their_columns, tables_have_their_cells,
     unions_have_their_columns,

@@ -4,6 +4,5 @@ pub mod Pieces
 pub mod Regrouped
 pub mod Stepped
 pub mod kq_group
-pub mod kq_reshape
 pub mod kq_scalar
 pub mod kq_stretch

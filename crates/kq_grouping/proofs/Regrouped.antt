@@ -21,9 +21,9 @@ use Rattle.kq_lent.specs.Yielded.{Yields}
 use Rattle.kq_lent.specs.declared.flow.Next.{Next}
 use Rattle.kq_lent.specs.declared.flow.Next.TheVariants as next
 use Rattle.kq_lent.specs.declared.source.Source.{Source}
-use Rattle.kq_lent.specs.kq_stretch.Pieces.{rows_in}
-use Rattle.kq_lent.specs.kq_stretch.Ran.{Ran, came, failed, joined}
-use Rattle.kq_lent.specs.kq_stretch.Piece.{Piece}
+use Rattle.kq_stretch.specs.Pieces.{rows_in}
+use Rattle.kq_stretch.specs.Ran.{Ran, came, failed, joined}
+use Rattle.kq_stretch.specs.declared.piece.Piece.{Piece}
 use Rattle.kq_value.specs.declared.schema.Field.{Field}
 use Rattle.kq_value.specs.declared.ty.Ty.{Ty}
 use Rattle.kq_grouping.specs.declared.arriving.Arrived.{Arrived}

@@ -3,10 +3,8 @@ pub mod Grouping
 pub mod Arriving
 pub mod Bodies
 pub mod kq_agg
-pub mod kq_lent
 pub mod kq_stretch
 pub mod kq_piecewise
 pub mod kq_group
-pub mod kq_reshape
 pub mod kq_scalar
 pub mod kq_arithmetic

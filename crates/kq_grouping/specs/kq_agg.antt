@@ -1,2 +1,2 @@
 -- What callers of this crate name of `kq_agg`.
-pub use Rattle.kq_group.specs.kq_agg.Aggregates
+pub use Rattle.kq_agg.specs.Aggregates

@@ -8,8 +8,6 @@ mod steps;
 
 pub use arriving::{Arrived, gather_groups};
 pub use grouping::{add_piece, typed};
-pub use kq_group::Groups;
-pub use kq_lent::{
-    Flow, Held, Next, RangeFault, Relation, append_arm, distinct_rows, eval_row, range_rows,
-};
 pub use steps::{operators, stage_in};
+pub use kq_group::Groups;
+pub use kq_lent::{Held, Relation, eval_row};

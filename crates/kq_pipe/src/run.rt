@@ -11,7 +11,7 @@ use crate::leaves::Leaves;
 use crate::outcome::{Outcome, take_out};
 use crate::shared::unshared;
 use crate::stretch::{run_stretch, stretch_end};
-use kq_grouping::Held;
+use kq_lent::Held;
 use kq_plan::{Plan, Step};
 use kq_rows::Rows;
 use kq_value::Memory;

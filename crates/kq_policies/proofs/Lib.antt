@@ -4,4 +4,3 @@ pub mod LaidOut
 pub mod Reading
 pub mod Entries
 pub mod Records
-pub mod kq_cascade

@@ -2,4 +2,3 @@ pub mod Over
 pub mod Quiet
 pub mod Reading
 pub mod World
-pub mod kq_cascade

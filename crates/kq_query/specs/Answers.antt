@@ -2,9 +2,9 @@
 use Rattle.std.specs.Prelude.{◌≡◌, ◌⊎◌, ℕ, ℤ, List, Ok, Err}
 use Rattle.kq_fitting.specs.kq_bind_steps.Flows.{columns_at}
 use Rattle.kq_fitting.specs.kq_bind.Queries.{query_bound}
-use Rattle.kq_fitting.specs.kq_bind_expression.BindFault.{BindFault}
-use Rattle.kq_fitting.specs.kq_bind_expression.TheVariants as faults
-use Rattle.kq_fitting.specs.kq_bind_expression.Verdicts.{Fault, unsupported, unknown, mistyped, Verdict}
+use Rattle.kq_bind_expression.specs.declared.fault.BindFault.{BindFault}
+use Rattle.kq_bind_expression.specs.declared.fault.BindFault.TheVariants as faults
+use Rattle.kq_bind_expression.specs.Verdicts.{Fault, unsupported, unknown, mistyped, Verdict}
 use Rattle.kq_grammar.specs.Trees.{QueryTree}
 use Rattle.kq_model.specs.declared.answer.Answer.{Answer}
 use Rattle.kq_model.specs.History.{History}

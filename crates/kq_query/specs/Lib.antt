@@ -2,4 +2,3 @@ pub mod Views
 pub mod Worlds
 pub mod Printed
 pub mod Answers
-pub mod kq_fold

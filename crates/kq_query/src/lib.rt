@@ -8,5 +8,4 @@ mod views;
 
 pub use answering::answer;
 pub use catalogue::Catalogue;
-pub use kq_fold::{GroupFault, empty_part, fold};
 pub use views::{columns_read, view_rows_of};

@@ -6,7 +6,7 @@ use Rattle.kq_value.specs.declared.ty.Ty.{Ty}
 use Rattle.kq_value.specs.declared.value.Value.{Value}
 use Rattle.kq_piecewise.specs.kq_arithmetic.Logic.{is_yes}
 use Rattle.kq_computed.specs.Computed.{Computed, Is, Overflow, and_then, each}
-use Rattle.kq_piecewise.specs.kq_expr.Terms.{Term}
+use Rattle.kq_expr.specs.Terms.{Term}
 use Rattle.kq_rows.specs.Chunks.{HasWidth}
 use Rattle.kq_piecewise.specs.kq_scalar.Val.{Surroundings, meaning}
 use Rattle.kq_piecewise.specs.Operators.{Row, filtered, values_at}

@@ -1,7 +1,7 @@
 -- Row operators as plain data, and what each makes of rows.
 use Rattle.std.specs.Prelude.{ℕ, List, length, map, Option}
 use Rattle.kq_computed.specs.Computed.{Computed, Is, and_then, each}
-use Rattle.kq_piecewise.specs.kq_expr.Terms.{Term, term_of}
+use Rattle.kq_expr.specs.Terms.{Term, term_of}
 use Rattle.kq_piecewise.specs.Operators.{Row, filtered, values_at}
 use Rattle.kq_reshape.specs.Expand.{expanded, width_with}
 use Rattle.kq_piecewise.specs.kq_scalar.Val.{Surroundings, meaning}

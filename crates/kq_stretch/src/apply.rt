@@ -2,7 +2,7 @@
 ghost use Rattle.std.specs.Prelude.{◌≡◌, ◌<◌, IfOk, length, map};
 ghost use Rattle.std.specs.List.{All};
 ghost use Rattle.kq_computed.specs.Computed.{Answers, AnswersAs};
-ghost use Rattle.kq_piecewise.specs.kq_expr.Terms.{term_of};
+ghost use Rattle.kq_expr.specs.Terms.{term_of};
 ghost use Rattle.kq_piecewise.specs.Operators.{filtered};
 ghost use Rattle.kq_reshape.specs.Expand.{expanded};
 ghost use Rattle.kq_rows.specs.Chunks.{row_at, same_width};
@@ -14,7 +14,8 @@ use crate::choices::{chosen_of, shifted};
 use crate::operator::Operator;
 use crate::piece::Piece;
 use kq_computed::EvalFault;
-use kq_piecewise::{Expr, Relation, map_rows, places_kept, values_over};
+use kq_expr::Expr;
+use kq_piecewise::{Relation, map_rows, places_kept, values_over};
 use kq_reshape::expand_rows;
 use kq_rows::Rows;
 use kq_value::{Memory, Ty, Value};

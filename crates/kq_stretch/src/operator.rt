@@ -1,6 +1,6 @@
 // Row operators.
 
-use kq_piecewise::Expr;
+use kq_expr::Expr;
 use kq_value::Ty;
 
 /// An operator that makes its rows of one row at a time.

@@ -1,7 +1,7 @@
 use Rattle.std.proofs.Common.{Err, inr, refl, subst, sym}
 use Rattle.std.specs.List.Sorted.{IsPermutation}
-use Rattle.kq_query.specs.kq_fold.Folds.{FoldsTo}
-use Rattle.kq_query.specs.kq_fold.GroupFault.{GroupFault}
+use Rattle.kq_fold.specs.Folds.{FoldsTo}
+use Rattle.kq_fold.specs.declared.group.GroupFault.{GroupFault}
 use Rattle.kq_plan.specs.Plans.{planned_of}
 use Rattle.kq_engine.proofs.Behind.{body_of, folding_in, overflows_in}
 use Rattle.kq_model.specs.History.{cursor, log, view_cursor}

@@ -1,7 +1,7 @@
 use Rattle.std.proofs.Common.{◌≡◌, ◌+◌, ◌++◌, ◌∷◌, ◌∙◌, List, Option, [], ap, arith, suc, sym, take, ℕ}
 use Rattle.std.proofs.Math.Seq.{take-suc}
 use Rattle.kq_entries.specs.Entries.{AreEntries}
-use Rattle.kq_catalog.specs.kq_model.History.{log}
+use Rattle.kq_model.specs.History.{log}
 use Rattle.kq_policy_json.specs.declared.entry.Written.{Written}
 use Rattle.kq_entries.proofs.Binding.{AreEntries-push}
 use Rattle.kq_entries.proofs.read.bind_entries.Goals as goal

@@ -1,6 +1,6 @@
 use Rattle.std.proofs.Common.{take}
 use Rattle.kq_entries.specs.Entries.{AreEntries}
-use Rattle.kq_catalog.specs.kq_model.History.{log}
+use Rattle.kq_model.specs.History.{log}
 use Rattle.kq_entries.proofs.read.bind_entries.Given as goal
 
 abbrev pub invariant-loop-i : goal.invariant-loop-i

@@ -1,8 +1,8 @@
 use Rattle.std.proofs.Common.{◌≡◌, Some, subst, sym}
 use Rattle.kq_entries.specs.declared.fault.EntriesFault.{EntriesFault}
 use Rattle.kq_entries.specs.Entries.{RefusesEntries}
-use Rattle.kq_catalog.specs.kq_model.Limits.{Limits}
-use Rattle.kq_catalog.specs.kq_model.History.{log}
+use Rattle.kq_model.specs.declared.limits.Limits.{Limits}
+use Rattle.kq_model.specs.History.{log}
 use Rattle.kq_policy_json.specs.PolicyTexts.{fault_of}
 use Rattle.kq_entries.proofs.Binding.{read_refused}
 use Rattle.kq_entries.proofs.read.read_entries.Goals as goal

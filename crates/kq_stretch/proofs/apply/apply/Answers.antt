@@ -1,7 +1,7 @@
 use Rattle.std.proofs.Common.{◌≡◌, ℤ, Err, map, rules, subst, sym, w64, to_z, of_z}
 use Rattle.std.proofs.lemmas.Int.{to_z-of_z}
 use Rattle.kq_computed.specs.Computed.{Answers, AnswersAs, Is, and_then, each}
-use Rattle.kq_piecewise.specs.kq_expr.Terms.{term_of}
+use Rattle.kq_expr.specs.Terms.{term_of}
 use Rattle.kq_piecewise.specs.Operators.{values_at}
 use Rattle.kq_reshape.specs.Expand.{expanded}
 use Rattle.kq_piecewise.specs.kq_scalar.Val.{meaning, surroundings}

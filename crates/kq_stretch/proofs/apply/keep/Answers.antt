@@ -2,7 +2,7 @@ use Rattle.std.proofs.Common.{◌≡◌, ◌<◌, ℕ, ℤ, List, Err, length, r
 use Rattle.std.proofs.lemmas.Int.{to_z-of_z}
 use Rattle.std.specs.List.{All}
 use Rattle.kq_computed.specs.Computed.{AnswersAs, Is}
-use Rattle.kq_piecewise.specs.kq_expr.Terms.{term_of}
+use Rattle.kq_expr.specs.Terms.{term_of}
 use Rattle.kq_piecewise.specs.Operators.{filtered}
 use Rattle.kq_piecewise.specs.Pieces.{places_where}
 use Rattle.kq_piecewise.proofs.Kept.{places_in, kept_rows, kept_fault}

@@ -2,7 +2,7 @@ use Rattle.std.proofs.Common.{◌≡◌, ℤ, Err, rules, subst, w64, to_z, of_z
 use Rattle.std.proofs.lemmas.Int.{to_z-of_z}
 use Rattle.kq_value.specs.declared.value.Value.{Value}
 use Rattle.kq_computed.specs.Computed.{AnswersAs, Is, each}
-use Rattle.kq_piecewise.specs.kq_expr.Terms.{term_of}
+use Rattle.kq_expr.specs.Terms.{term_of}
 use Rattle.kq_reshape.specs.Expand.{expanded}
 use Rattle.kq_piecewise.specs.kq_scalar.Val.{meaning, surroundings}
 use Rattle.kq_stretch.specs.Pieces.{rows_in}

@@ -1,4 +1,0 @@
--- What callers of this crate name of `kq_bind_expression`.
-pub use Rattle.kq_bind_expression.specs.Verdicts
-pub use Rattle.kq_bind_expression.specs.declared.fault.BindFault
-pub use Rattle.kq_bind_expression.specs.declared.fault.BindFault.TheVariants
