@@ -27,13 +27,17 @@ class Loading:
         """Reads the files, and writes the script."""
         # Nothing here makes cycles, and the collector would look through all cells of a chunk again and again.
         gc.disable()
+        sources = []
         try:
-            self.run_on()
+            self.run_on(sources)
         finally:
             gc.enable()
+            for source in sources:
+                source.input.close()
 
-    def run_on(self):
-        sources = [Source(path, self.options, self.problems) for path in self.options.files]
+    def run_on(self, sources):
+        for path in self.options.files:
+            sources.append(Source(path, self.options, self.problems))
         columns = self.columns(sources)
         if columns is None:
             self.read_through(sources)
@@ -93,14 +97,12 @@ class Loading:
         if self.options.rejects is not None and source.heading:
             self.options.rejects.heading = source.heading_text
         self.progress.begin(source.input)
-        try:
-            for table, places in source.tables(self.problems, source.chunks()):
-                if table.count:
-                    self.give(table, places)
-                self.progress.advance(source.input.taken, self.script.given + len(self.script.rows))
-        finally:
-            source.input.close()
+        for table, places in source.tables(self.problems, source.chunks()):
+            if table.count:
+                self.give(table, places)
+            self.progress.advance(source.input.taken, self.script.given + len(self.script.rows))
         self.script.close()
+        source.input.close()
         self.progress.end()
         self.tell(source, time.monotonic() - began)
 
