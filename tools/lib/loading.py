@@ -147,7 +147,7 @@ class Loading:
         self.rows += given
         self.sent += batches
         rate = f", {given / seconds:,.0f} rows/s" if seconds > 0 and given else ""
-        self.say(f"{source.path}: {given:,} rows in {batches:,} batches, {seconds:.1f} s{rate}")
+        self.say(f"{source.path}: {names.counted(given, 'row')} in {names.counted(batches, 'batch')}, {seconds:.1f} s{rate}")
 
     def stop(self, fault):
         """Says why the loading ends early. What is left of the open batch isn't given, so that its tag stays free for all of it."""
@@ -155,15 +155,15 @@ class Loading:
         self.say(f"stopped: {fault}")
         if hasattr(self, "script"):
             given = self.rows + self.script.given
-            self.out.write(f"// tools/load stopped here, behind {given} rows.\n\n".encode())
+            self.out.write(f"// tools/load stopped here, behind {names.counted(given, 'row')}.\n\n".encode())
             self.out.flush()
-            self.say(f"{given:,} rows were given before; the same files can be loaded again, and these go in once")
+            self.say(f"{names.counted(given, 'row')} given before; the same files can be loaded again, and these go in once")
 
     def summary(self):
         """What became of the records that couldn't be given as they stand."""
         for column in self.plan.columns if hasattr(self, "plan") else ():
             if column.judge is not None and column.judge.rewritten:
-                self.say(f"{column.name}: {column.judge.rewritten:,} cells were rewritten as a {column.kind}")
+                self.say(f"{column.name}: {names.counted(column.judge.rewritten, 'cell')} rewritten as a {column.kind}")
         for line in self.problems.told():
             self.say(line)
 

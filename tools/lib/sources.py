@@ -1,4 +1,5 @@
 """What a file holds: its format, its fields, and its records as tables."""
+import contextlib
 import itertools
 import re
 
@@ -60,10 +61,8 @@ class Source:
         """The chunks with the first records. What is no file can't be read again, so they are kept."""
         if self.input.is_regular:
             self.input.close()
-            looking = Input(self.path, self.lenient)
-            found = first_chunks(looking.chunks())
-            looking.close()
-            return found
+            with contextlib.closing(Input(self.path, self.lenient)) as looking:
+                return first_chunks(looking.chunks())
         self.opened = self.input.chunks()
         return first_chunks(self.opened)
 

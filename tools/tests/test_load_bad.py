@@ -24,7 +24,7 @@ class Files(unittest.TestCase):
         self.assertIn("a.csv.gz: the compressed data ends early", found.told)
         # Whole batches alone were given, and how many rows they have is said.
         self.assertEqual(len(found.rows) % 10000, 0)
-        self.assertIn(f"{len(found.rows):,} rows were given before", found.told)
+        self.assertIn(f"{len(found.rows):,} rows given before", found.told)
         self.assertIn(b"// tools/load stopped here", found.script)
 
     def test_what_is_whole_of_a_truncated_file(self):
