@@ -1,0 +1,390 @@
+"""Charts of an answer: in the terminal, and as pictures by matplotlib.
+
+`make` chooses the columns and gives a Chart, `draw` gives its lines for a terminal, `save` writes a picture.
+"""
+
+import datetime
+import itertools
+import math
+import warnings
+from typing import Any, List, NamedTuple, Optional, Tuple
+
+from replies import moment, seconds
+from widths import padded, visible, width
+
+KINDS = ("time", "bar", "line")
+NUMBERS = ("long", "int", "timespan")
+MOST_SERIES = 8
+EPOCH = datetime.datetime(1970, 1, 1)
+
+COLOURS = (36, 33, 35, 32, 31, 34, 96, 93)
+MARKS = "ox+*#@%&"
+PALETTE = ("#0072b2", "#e69f00", "#cc79a7", "#009e73", "#d55e00", "#56b4e9", "#7f7f7f", "#bcbd22")
+DOTS = ((0x01, 0x08), (0x02, 0x10), (0x04, 0x20), (0x40, 0x80))
+EIGHTHS = " ▏▎▍▌▋▊▉"
+
+
+class ChartError(Exception):
+    """An answer that can't be drawn as it was asked for."""
+
+
+class Series(NamedTuple):
+    name: str
+    points: List[Tuple[Any, float]]
+
+
+class Chart(NamedTuple):
+    """A chart. The x of its points are numbers, or for bars the labels; `x_type` is the type of the column of x."""
+
+    kind: str
+    x_name: str
+    x_type: str
+    y_name: str
+    y_type: str
+    series: List[Series]
+    notes: List[str]
+    title: Optional[str] = None
+
+
+def make(answer, kind, x=None, y=(), by=None, title=None):
+    """The chart of an answer. Columns that aren't named are chosen by their types."""
+    names = [name for name, _ in answer.columns]
+    types = dict(answer.columns)
+    for name in [x, by, *y]:
+        if name is not None and name not in types:
+            raise ChartError(f"the answer has no column {name}; it has {', '.join(names)}")
+    x = x or chosen_x(answer, kind, y, by)
+    y = list(y) or [name for name in names if types[name] in NUMBERS and name not in (x, by)]
+    check_types(kind, x, y, types)
+    if by is None and len(y) == 1:
+        by = next((name for name in names if types[name] == "string" and name not in (x, y[0])), None)
+    elif by is not None and len(y) > 1:
+        raise ChartError(f"with --by there is one --y, and here are {len(y)}: {', '.join(y)}")
+    notes = []
+    series = series_of(answer, kind, names.index(x), [names.index(name) for name in y], by and names.index(by), notes)
+    return Chart(kind, x, types[x], ", ".join(y), types[y[0]], series, notes, title)
+
+
+def chosen_x(answer, kind, y, by):
+    wanted = {"time": ("datetime",), "line": (*NUMBERS, "datetime"), "bar": ("string", "datetime", "bool", *NUMBERS)}[kind]
+    free = [(name, type) for name, type in answer.columns if name != by and name not in y]
+    if kind == "bar":
+        free.sort(key=lambda column: wanted.index(column[1]) if column[1] in wanted else len(wanted))
+    found = next((name for name, type in free if type in wanted), None)
+    if found is None:
+        raise ChartError(f"no column is left for the x of a {kind} chart, which is one of {', '.join(wanted)}")
+    return found
+
+
+def check_types(kind, x, y, types):
+    if kind == "time" and types[x] != "datetime":
+        raise ChartError(f"the x of a time chart is a datetime, and {x} is of type {types[x]}")
+    if kind == "line" and types[x] not in (*NUMBERS, "datetime"):
+        raise ChartError(f"the x of a line chart is a number or a time, and {x} is of type {types[x]}")
+    if not y:
+        raise ChartError("no column is left for y, which is a long, an int or a timespan")
+    for name in y:
+        if types[name] not in NUMBERS:
+            raise ChartError(f"y is a long, an int or a timespan, and {name} is of type {types[name]}")
+    if len({types[name] == "timespan" for name in y}) > 1:
+        raise ChartError("numbers and timespans don't share an axis; name the columns with --y")
+
+
+def number(cell, kind):
+    """A cell as a number: times as seconds."""
+    if kind == "datetime":
+        return (moment(cell) - EPOCH).total_seconds()
+    return seconds(cell) if kind == "timespan" else int(cell)
+
+
+def label(cell, kind):
+    if kind == "string":
+        return visible(cell) or '""'
+    return visible(cell.replace(".0000000Z", "Z").replace("T00:00:00Z", ""))
+
+
+def series_of(answer, kind, x, ys, by, notes):
+    """The points of each series. Rows without an x or a y have none, which the notes say."""
+    types = [type for _, type in answer.columns]
+    found, missing = {}, 0
+    for row in answer.rows():
+        if row[x] == "null" and types[x] != "string":
+            missing += 1
+            continue
+        place = label(row[x], types[x]) if kind == "bar" else number(row[x], types[x])
+        for y in ys:
+            name = answer.columns[y].name if by is None else label(row[by], types[by])
+            points = found.setdefault(name, [])
+            if row[y] == "null":
+                missing += 1
+            else:
+                points.append((place, number(row[y], types[y])))
+    if missing:
+        notes.append(f"{missing} points are null and aren't drawn")
+    series = [Series(name, points if kind == "bar" else sorted(points)) for name, points in found.items() if points]
+    if not series:
+        raise ChartError("the answer has no rows to draw")
+    if kind == "bar":
+        check_bars(series)
+    return largest(series, notes)
+
+
+def check_bars(series):
+    """One bar can't stand for two rows: nothing says whether they are to be added."""
+    for name, points in series:
+        labels = [x for x, _ in points]
+        twice = next((x for x in labels if labels.count(x) > 1), None) if len(set(labels)) < len(labels) else None
+        if twice is not None:
+            raise ChartError(f"two rows of {name} have the label {twice}; summarize them, or name another --x or a --by")
+
+
+def largest(series, notes):
+    """At most as many series as there are colours: those with the largest sums."""
+    if len(series) <= MOST_SERIES:
+        return series
+    kept = sorted(series, key=lambda one: -sum(abs(y) for _, y in one.points))[:MOST_SERIES]
+    notes.append(f"{len(series) - MOST_SERIES} of {len(series)} series aren't drawn, those with the smallest sums")
+    return [one for one in series if one in kept]
+
+
+def amount(y, kind):
+    """A number of an axis as text."""
+    if kind == "timespan":
+        return f"{y:.3g} s" if abs(y) < 120 else str(datetime.timedelta(seconds=round(y)))
+    if abs(y) >= 1e6:
+        return f"{y:,.4g}" if y != int(y) else f"{int(y):,}"
+    return f"{y:,.0f}" if y == int(y) else f"{y:,.3g}"
+
+
+def time_text(x, span):
+    moment_of_x = EPOCH + datetime.timedelta(seconds=x)
+    form = "%Y-%m-%d" if span > 4 * 86400 else "%m-%d %H:%M" if span > 86400 else "%H:%M:%S" if span < 600 else "%H:%M"
+    return moment_of_x.strftime(form)
+
+
+def x_text(chart, x, span):
+    return time_text(x, span) if chart.x_type == "datetime" else amount(x, chart.x_type)
+
+
+def paint(text, colour, is_coloured):
+    return f"\x1b[{colour}m{text}\x1b[0m" if is_coloured and text else text
+
+
+def draw(chart, places=80, height=16, colour=False):
+    """The lines of a chart for a terminal that is so many places wide."""
+    lines = [visible(chart.title)] if chart.title else []
+    lines += bars(chart, places, colour) if chart.kind == "bar" else curves(chart, places, height, colour)
+    if len(chart.series) > 1:
+        marks = "█" * len(MARKS) if colour else MARKS
+        names = (paint(marks[at], COLOURS[at], colour) + " " + one.name for at, one in enumerate(chart.series))
+        lines.append("  ".join(names))
+    return lines + [f"({note})" for note in chart.notes]
+
+
+def labels_of(chart):
+    """The labels of bars, each once, in the order of the answer."""
+    return list(dict.fromkeys(x for one in chart.series for x, _ in one.points))
+
+
+def cut(text, places):
+    while width(text) > places:
+        text = text[:-2] + "…"
+    return text
+
+
+def bars(chart, places, colour):
+    labels = labels_of(chart)
+    side = min(max(map(width, [chart.x_name, *labels])), places // 3)
+    values = [y for one in chart.series for _, y in one.points]
+    room = max(8, places - side - max(width(amount(y, chart.y_type)) for y in values) - 4)
+    scale = room / (max(max(map(abs, values)), 1e-9))
+    tables = [dict(one.points) for one in chart.series]
+    lines = [f"{padded(cut(chart.x_name, side), side)} │ {chart.y_name}"]
+    for text in labels:
+        head = cut(text, side)
+        for at, table in enumerate(tables):
+            if text in table:
+                bar = bar_of(table[text] * scale, MARKS[at] if len(tables) > 1 and not colour else None)
+                lines.append(f"{padded(head, side)} │ {paint(bar, COLOURS[at], colour)} {amount(table[text], chart.y_type)}")
+                head = ""
+    return lines
+
+
+def bar_of(length, mark=None):
+    if mark:
+        return mark * round(abs(length))
+    whole = int(abs(length))
+    return ("-" if length < 0 else "") + "█" * whole + EIGHTHS[int((abs(length) - whole) * 8)].strip()
+
+
+class Canvas:
+    """Dots in cells of two by four, each cell in the colour of the series that came last."""
+
+    def __init__(self, columns, rows):
+        self.columns, self.rows = columns, rows
+        self.cells, self.owners = {}, {}
+
+    def dot(self, x, y, owner):
+        cell = (x // 2, y // 4)
+        self.cells[cell] = self.cells.get(cell, 0) | DOTS[y % 4][x % 2]
+        self.owners[cell] = owner
+
+    def line(self, start, end, owner):
+        steps = max(abs(end[0] - start[0]), abs(end[1] - start[1]), 1)
+        for step in range(steps + 1):
+            x, y = (round(a + (b - a) * step / steps) for a, b in zip(start, end))
+            self.dot(x, y, owner)
+
+    def spot(self, point, owner):
+        """A point that no line leads to, as a full cell."""
+        cell = (point[0] // 2, point[1] // 4)
+        self.cells[cell], self.owners[cell] = 0xFF, owner
+
+    def row(self, y, colour, marked):
+        text = ""
+        for owner, places in itertools.groupby(range(self.columns), lambda x: self.owners.get((x, y))):
+            if owner is None:
+                text += " " * len(list(places))
+            elif marked:
+                text += MARKS[owner] * len(list(places))
+            else:
+                text += paint("".join(chr(0x2800 + self.cells[x, y]) for x in places), COLOURS[owner], colour)
+        return text.rstrip()
+
+
+def limits(chart):
+    """The ends of both axes: y begins at 0 where no value is below it."""
+    xs = [x for one in chart.series for x, _ in one.points]
+    ys = [y for one in chart.series for _, y in one.points]
+    low, high = min(0, *ys, 0), max(0, *ys, 0)
+    left, right = min(xs), max(xs)
+    return left, right if right > left else left + 1, low, rounded_up(high) if high > low else low + 1
+
+
+def rounded_up(high):
+    """The least of 1, 1.5, 2, 2.5, 3, 4, 5, 6, 8 and 10 times a power of ten at or above a number over 0."""
+    if high <= 0:
+        return 0
+    power = 10 ** math.floor(math.log10(high))
+    return next(step * power for step in (1, 1.5, 2, 2.5, 3, 4, 5, 6, 8, 10, 11) if step * power >= high)
+
+
+def curves(chart, places, height, colour):
+    left, right, low, high = limits(chart)
+    texts = {0: amount(high, chart.y_type), height // 2: amount((low + high) / 2, chart.y_type), height - 1: amount(low, chart.y_type)}
+    side = max(map(width, texts.values()))
+    canvas = Canvas(max(10, places - side - 3), height)
+
+    def at(point):
+        x = round((point[0] - left) / (right - left) * (canvas.columns * 2 - 1))
+        return x, round((high - point[1]) / (high - low) * (height * 4 - 1))
+
+    for owner, one in enumerate(chart.series):
+        points = [at(point) for point in one.points]
+        for start, end in zip(points, points[1:]):
+            canvas.line(start, end, owner)
+        if len(points) == 1:
+            canvas.spot(points[0], owner)
+    marked = len(chart.series) > 1 and not colour
+    lines = [f"{padded('', side)}   {chart.y_name}"]
+    for y in range(height):
+        lines.append(f"{padded(texts.get(y, ''), side, True)} {'┤' if y in texts else '│'}{canvas.row(y, colour, marked)}")
+    return lines + x_axis(chart, left, right, side, canvas.columns)
+
+
+def x_axis(chart, left, right, side, columns):
+    span = right - left
+    texts = [x_text(chart, x, span) for x in (left, left + span / 2, right)]
+    line = texts[0]
+    line = padded(line, (columns - width(texts[1])) // 2) + texts[1]
+    line = padded(line, columns - width(texts[2])) + texts[2]
+    name = chart.x_name
+    if chart.x_type == "datetime" and span <= 4 * 86400:
+        name += " from " + (EPOCH + datetime.timedelta(seconds=left)).strftime("%Y-%m-%d")
+    return [" " * (side + 1) + "└" + "─" * columns, " " * (side + 2) + line, " " * (side + 2) + name]
+
+
+def save(chart, path):
+    """Writes a chart as a picture, and gives notes on it. Its form goes by the file's ending; the same chart gives the same bytes."""
+    import matplotlib
+
+    matplotlib.use("Agg")
+    with warnings.catch_warnings(record=True) as told:
+        warnings.simplefilter("always")
+        write_picture(chart, path)
+    lacks = any("missing from" in str(one.message) for one in told) and not str(path).endswith(".svg")
+    return [f"the font of {path} lacks characters of some labels"] if lacks else []
+
+
+def write_picture(chart, path):
+    import matplotlib.pyplot as plt
+
+    with plt.rc_context({"svg.hashsalt": "look", "svg.fonttype": "none", "axes.spines.top": False, "axes.spines.right": False}):
+        rows = len(labels_of(chart)) if chart.kind == "bar" else 0
+        figure, axes = plt.subplots(figsize=(8, max(3.2, 1 + 0.3 * rows) if rows else 3.6), constrained_layout=True)
+        if chart.kind == "bar":
+            picture_bars(chart, axes)
+        else:
+            picture_curves(chart, axes)
+        if chart.title:
+            axes.set_title(literal(chart.title), loc="left")
+        if len(chart.series) > 1:
+            axes.legend(frameon=False)
+        figure.savefig(path, dpi=120, metadata={"Date": None} if str(path).endswith(".svg") else None)
+        plt.close(figure)
+
+
+def literal(text):
+    """A text that matplotlib doesn't read as a formula."""
+    return visible(text).replace("$", "\\$")
+
+
+def axis_name(name, kind):
+    return literal(f"{name} (seconds)" if kind == "timespan" else name)
+
+
+def plain_numbers(number, _):
+    """A number at an axis, short enough for its place: 2M in place of 2e6."""
+    for power, sign in ((1e12, "T"), (1e9, "G"), (1e6, "M"), (1e3, "k")):
+        if abs(number) >= max(power, 1e4):
+            return f"{number / power:.10g}{sign}"
+    return f"{number:,.10g}"
+
+
+def picture_bars(chart, axes):
+    labels = labels_of(chart)
+    thick = 0.8 / len(chart.series)
+    for at, one in enumerate(chart.series):
+        places = [labels.index(x) + (at - (len(chart.series) - 1) / 2) * thick for x, _ in one.points]
+        axes.barh(places, [y for _, y in one.points], height=thick, color=PALETTE[at], label=shown_name(one.name))
+    axes.set_yticks(range(len(labels)))
+    axes.set_yticklabels([literal(cut(text, 40)) for text in labels])
+    axes.invert_yaxis()
+    axes.set_xlabel(axis_name(chart.y_name, chart.y_type))
+    axes.set_ylabel(literal(chart.x_name))
+    axes.xaxis.set_major_formatter(plain_numbers)
+    axes.grid(axis="x", alpha=0.3)
+    axes.set_axisbelow(True)
+
+
+def picture_curves(chart, axes):
+    is_time = chart.x_type == "datetime"
+    for at, one in enumerate(chart.series):
+        xs = [EPOCH + datetime.timedelta(seconds=x) if is_time else x for x, _ in one.points]
+        axes.plot(xs, [y for _, y in one.points], color=PALETTE[at], label=shown_name(one.name), marker="." if len(xs) < 50 else None)
+    if is_time:
+        import matplotlib.dates as dates
+
+        axes.xaxis.set_major_formatter(dates.ConciseDateFormatter(axes.xaxis.get_major_locator()))
+    else:
+        axes.xaxis.set_major_formatter(plain_numbers)
+    axes.yaxis.set_major_formatter(plain_numbers)
+    axes.set_ylim(bottom=min(0, axes.get_ylim()[0]) if limits(chart)[2] < 0 else 0)
+    axes.set_xlabel(axis_name(chart.x_name, chart.x_type))
+    axes.set_ylabel(axis_name(chart.y_name, chart.y_type))
+    axes.grid(alpha=0.3)
+
+
+def shown_name(name):
+    """A name for a legend, which leaves out names that begin with `_`."""
+    return literal(" " + name if name.startswith("_") else name)

@@ -1,0 +1,113 @@
+"""Charts in the terminal and as pictures."""
+
+import sys
+import tempfile
+import unittest
+from pathlib import Path
+
+sys.path.insert(0, str(Path(__file__).resolve().parents[1] / "lib"))
+
+import charts  # noqa: E402
+import replies  # noqa: E402
+
+HOURS = "rows 4\nHour:datetime\tHost:string\tFailed:long\tSlowest:timespan\n" + "".join(
+    f"2024-03-01T{hour}:00:00.0000000Z\t{host}\t{count}\t{took}\n"
+    for hour, host, count, took in (
+        (10, "web-1", 2, "00:00:05"),
+        (11, "web-1", 4, "00:00:01"),
+        (10, "web-2", 1, "00:00:02.5000000"),
+        (11, "web-2", "null", "null"),
+    )
+) + "\n"
+HOSTS = "rows 3\nHost:string\tN:long\nweb-1\t8\nweb-2\t4\nweb-3\t0\n\n"
+
+
+def made(text, kind, **named):
+    return charts.make(replies.read(text)[0], kind, **named)
+
+
+class Making(unittest.TestCase):
+    def test_columns_are_chosen_by_their_types(self):
+        chart = made(HOURS, "time", y=["Failed"])
+        self.assertEqual((chart.x_name, chart.y_name), ("Hour", "Failed"))
+        self.assertEqual([(one.name, [y for _, y in one.points]) for one in chart.series], [("web-1", [2, 4]), ("web-2", [1])])
+        self.assertEqual(chart.notes, ["1 points are null and aren't drawn"])
+
+    def test_timespans_are_seconds(self):
+        self.assertEqual([y for _, y in made(HOURS, "time", y=["Slowest"]).series[1].points], [2.5])
+
+    def test_several_columns_are_several_series(self):
+        text = "rows 2\nT:long\tA:long\tB:int\n2\t1\t5\n1\t3\t7\n\n"
+        self.assertEqual(made(text, "line").series, [("A", [(1, 3), (2, 1)]), ("B", [(1, 7), (2, 5)])])
+
+    def test_what_cannot_be_drawn_is_told(self):
+        for text, named, why in (
+            (HOURS, {"kind": "time"}, "numbers and timespans don't share an axis"),
+            (HOURS, {"kind": "time", "x": "Host"}, "is a datetime, and Host is of type string"),
+            (HOURS, {"kind": "time", "y": ["None"]}, "no column None; it has Hour, Host"),
+            (HOURS, {"kind": "bar", "x": "Host", "y": ["Failed"], "by": "Host"}, "two rows of web-1 have the label web-1"),
+            (HOSTS, {"kind": "time"}, "no column is left for the x"),
+            (HOSTS, {"kind": "bar", "y": ["Host"]}, "Host is of type string"),
+            ("rows 0\nHost:string\tN:long\n\n", {"kind": "bar"}, "has no rows to draw"),
+            (HOURS, {"kind": "bar", "x": "Host", "y": ["Failed", "Slowest"]}, "don't share an axis"),
+        ):
+            with self.assertRaisesRegex(charts.ChartError, why):
+                made(text, **named)
+
+    def test_many_series_are_cut_to_the_largest(self):
+        rows = "".join(f"2024-03-0{day}T00:00:00.0000000Z\ts{at}\t{at}\n" for at in range(12) for day in (1, 2))
+        chart = made(f"rows 24\nD:datetime\tS:string\tN:long\n{rows}\n", "time")
+        self.assertEqual([one.name for one in chart.series], [f"s{at}" for at in range(4, 12)])
+        self.assertEqual(chart.notes, ["4 of 12 series aren't drawn, those with the smallest sums"])
+
+
+class Drawing(unittest.TestCase):
+    def test_bars_are_as_long_as_their_numbers(self):
+        lines = charts.draw(made(HOSTS, "bar", title="Requests"), places=30)
+        self.assertEqual(lines, ["Requests", "Host  │ N", "web-1 │ " + "█" * 20 + " 8", "web-2 │ " + "█" * 10 + " 4", "web-3 │  0"])
+
+    def test_curves_have_their_ends_at_the_axes(self):
+        lines = charts.draw(made("rows 2\nX:long\tY:long\n0\t0\n10\t100\n\n", "line"), places=40, height=8)
+        self.assertTrue(lines[1].startswith("100 ┤") and lines[8].startswith("  0 ┤"))
+        self.assertEqual(len(lines[1]), len(lines[9]))
+        self.assertRegex(lines[10], r"^ +0 +5 +10$")
+
+    def test_series_are_told_apart_with_and_without_colours(self):
+        chart = made(HOURS, "time", y=["Failed"])
+        marked, coloured = ("\n".join(charts.draw(chart, colour=colour)) for colour in (False, True))
+        self.assertIn("o web-1  x web-2", marked)
+        self.assertNotIn("\x1b", marked)
+        self.assertIn("\x1b[33m█\x1b[0m web-2", coloured)
+
+    def test_numbers_that_are_all_equal_are_drawn(self):
+        for text in ("rows 1\nX:long\tY:long\n5\t0\n\n", "rows 2\nX:long\tY:long\n5\t-3\n6\t-3\n\n"):
+            self.assertEqual(len(charts.draw(made(text, "line"), height=6)), 10)
+        self.assertEqual(len(charts.draw(made("rows 1\nS:string\tY:long\n\t0\n\n", "bar"))), 2)
+
+    def test_ends_of_axes_are_round(self):
+        self.assertEqual([charts.rounded_up(high) for high in (0, 1, 7, 9, 11, 160)], [0, 1, 8, 10, 15, 200])
+
+
+class Pictures(unittest.TestCase):
+    def test_numbers_at_an_axis_are_short(self):
+        numbers = (0, 0.25, 5000, 20000, -2e6, 1.5e9)
+        self.assertEqual([charts.plain_numbers(number, 0) for number in numbers], ["0", "0.25", "5,000", "20k", "-2M", "1.5G"])
+
+    def test_a_picture_is_the_same_each_time(self):
+        try:
+            import matplotlib  # noqa: F401
+        except ImportError:
+            self.skipTest("matplotlib isn't installed")
+        with tempfile.TemporaryDirectory() as folder:
+            for text, named in ((HOURS, {"kind": "time", "y": ["Failed"], "title": "$x$ _y"}), (HOSTS, {"kind": "bar"})):
+                paths = [Path(folder) / name for name in ("a.svg", "b.svg")]
+                for path in paths:
+                    charts.save(made(text, **named), path)
+                self.assertEqual(paths[0].read_bytes(), paths[1].read_bytes())
+                self.assertIn(b"web-1", paths[0].read_bytes())
+            charts.save(made(HOSTS, "bar"), Path(folder) / "a.png")
+            self.assertTrue((Path(folder) / "a.png").read_bytes().startswith(b"\x89PNG"))
+
+
+if __name__ == "__main__":
+    unittest.main()
