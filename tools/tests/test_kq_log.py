@@ -1,6 +1,8 @@
 """./kq-log and its sessions, with a stand-in for the program."""
 import io
 import os
+import pty
+import select
 import subprocess
 import sys
 import tempfile
@@ -98,6 +100,44 @@ class Calls(unittest.TestCase):
         self.put("q.kql", "print 1\n")
         self.assertIn("Log: 1 row ", self.run_log("-", "--questions", "q.kql", stdin="n,s\n1,x\n").stderr)
         self.assertEqual(self.run_log("-", stdin="n\n1\n").returncode, 2)
+
+
+class Terminal(unittest.TestCase):
+    """A session at a terminal."""
+
+    def setUp(self):
+        self.folder = tempfile.TemporaryDirectory()
+        self.addCleanup(self.folder.cleanup)
+        with open(os.path.join(self.folder.name, "a.csv"), "w") as file:
+            file.write("n,s\n1,x\n")
+        self.terminal, side = pty.openpty()
+        self.addCleanup(os.close, self.terminal)
+        environment = {**os.environ, "XDG_STATE_HOME": self.folder.name, "TERM": "dumb"}
+        words = [sys.executable, KQ_LOG, "a.csv", "--program", ECHO]
+        self.process = subprocess.Popen(words, stdin=side, stdout=side, stderr=side, cwd=self.folder.name, env=environment, start_new_session=True)
+        os.close(side)
+
+    def read_until(self, wanted):
+        found = b""
+        while wanted not in found:
+            if not select.select([self.terminal], [], [], 60)[0]:
+                raise AssertionError(f"{wanted!r} doesn't come behind {found!r}")
+            found += os.read(self.terminal, 65536)
+        return found
+
+    def test_questions_are_typed_answered_and_remembered(self):
+        self.assertIn(b"Log", self.read_until(b"kq> "))
+        os.write(self.terminal, b"print 1\n")
+        self.read_until(b" .. ")
+        os.write(self.terminal, b"| count\n\n")
+        self.assertIn(b"print_0", self.read_until(b"kq> "))
+        os.write(self.terminal, b"print 2\n\n")
+        self.read_until(b"print 2")
+        self.read_until(b"kq> ")
+        os.write(self.terminal, b"\x04")
+        self.assertEqual(self.process.wait(60), 0)
+        with open(os.path.join(self.folder.name, "kq-log", "history")) as file:
+            self.assertEqual(file.read().split("\n")[-4:-1], ["print 1", "| count", "print 2"])
 
 
 if __name__ == "__main__":
