@@ -69,7 +69,7 @@ class Judge:
         if self.scale is None and self.are_plain(cells):
             return cells, ()
         if self.kind == "datetime":
-            found = self.moments.of_apache(cells)
+            found = self.moments.of_logs(cells)
             if found is not None:
                 self.rewritten += len(found)
                 return found, ()
