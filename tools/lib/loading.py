@@ -94,8 +94,8 @@ class Loading:
         began = time.monotonic()
         source.open()
         self.script.begin(source.input.identity)
-        if self.options.rejects is not None and source.heading:
-            self.options.rejects.heading = source.heading_text
+        if self.options.rejects is not None:
+            self.options.rejects.begin(source.heading_text)
         self.progress.begin(source.input)
         for table, places in source.tables(self.problems, source.chunks()):
             if table.count:

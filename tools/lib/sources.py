@@ -43,6 +43,7 @@ class Source:
         self.problems = problems
         self.input = Input(path, problems)
         self.heading = 0  # how many lines the names of the columns take
+        self.heading_text = b""
         self.fields = []
         self.notes = []
         self.lenient = Lenient()

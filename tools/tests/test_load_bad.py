@@ -208,6 +208,27 @@ class Records(unittest.TestCase):
         content = ",".join(f"c{i}" for i in range(256)) + "\n" + ",".join(map(str, range(256))) + "\n"
         self.assertEqual(len(loaded(content).rows[0]), 256)
 
+    def test_rejects_of_several_files(self):
+        with Folder() as folder:
+            folder.put("a.csv", "n,s\n1\n2,x,y\n")
+            folder.put("b.csv", "n,s\n3,x,y\n")
+            folder.put("c.csv", "n,s,t\n4,x,y,z\n")
+            found = folder.load("a.csv", "b.csv", "c.csv", "--rejects", "bad")
+            self.assertEqual(found.rejects, b"n,s\n2,x,y\n3,x,y\nn,s,t\n4,x,y,z\n")
+            self.assertEqual(folder.load("a.csv", "--rejects", "bad", "--on", "wide=cut").rejects, b"")
+
+    def test_a_file_that_is_loaded_takes_no_rejects(self):
+        with Folder() as folder:
+            path = folder.put("a.csv", "n\n1\n")
+            with self.assertRaisesRegex(ValueError, "is to be loaded"):
+                folder.load("a.csv", "--rejects", path)
+            self.assertEqual(folder.load("a.csv").rows, [["1"]])
+
+    def test_a_dynamic_that_is_too_deep_kept_as_text(self):
+        line = '{"d":' + "[" * 200 + "]" * 200 + "}\n"
+        found = loaded(line, "--on", "deep=text", name="a.json")
+        self.assertEqual(found.rows, [['"' + "[" * 200 + "]" * 200 + '"']])
+
     def test_a_second_call_goes_on_where_the_first_stopped(self):
         lines = [f"{i},x" for i in range(60_000)]
         lines[55_000] = "y,x"
