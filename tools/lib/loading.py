@@ -82,7 +82,7 @@ class Loading:
 
     def agree(self, fields, source):
         """Takes the fields of a file. One without names has those of the first file, where it has as many."""
-        nameless = isinstance(source.reader, csvs.Csv) and not source.heading and not self.options.names
+        nameless = isinstance(source.reader, csvs.Csv) and not source.heading_text and not self.options.names
         if fields and nameless:
             if len(source.fields) != len(fields):
                 raise Stopped(f"{source.path}: has {len(source.fields)} columns and no names, and the files before it have {len(fields)}")

@@ -30,7 +30,7 @@ def answer(block):
     if text == "end":
         sys.exit(3)
     if text.startswith("print"):
-        return "rows 1\nprint_0:string\n" + text + "\n"
+        return "rows 1\nprint_0:string\n" + text.replace("\n", "\\n") + "\n"
     return f"refused Syntax at {len(text)}\n"
 
 

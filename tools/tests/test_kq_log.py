@@ -110,6 +110,7 @@ class Terminal(unittest.TestCase):
         self.addCleanup(self.folder.cleanup)
         with open(os.path.join(self.folder.name, "a.csv"), "w") as file:
             file.write("n,s\n1,x\n")
+        self.seen = b""
         self.terminal, side = pty.openpty()
         self.addCleanup(os.close, self.terminal)
         environment = {**os.environ, "XDG_STATE_HOME": self.folder.name, "TERM": "dumb"}
@@ -118,21 +119,23 @@ class Terminal(unittest.TestCase):
         os.close(side)
 
     def read_until(self, wanted):
-        found = b""
-        while wanted not in found:
+        """What comes up to a text, and the text. What was read behind it is kept for the next call."""
+        while wanted not in self.seen:
             if not select.select([self.terminal], [], [], 60)[0]:
-                raise AssertionError(f"{wanted!r} doesn't come behind {found!r}")
-            found += os.read(self.terminal, 65536)
-        return found
+                raise AssertionError(f"{wanted!r} doesn't come behind {self.seen!r}")
+            self.seen += os.read(self.terminal, 65536)
+        found, self.seen = self.seen.split(wanted, 1)
+        return found + wanted
 
     def test_questions_are_typed_answered_and_remembered(self):
         self.assertIn(b"Log", self.read_until(b"kq> "))
         os.write(self.terminal, b"print 1\n")
         self.read_until(b" .. ")
         os.write(self.terminal, b"| count\n\n")
-        self.assertIn(b"print_0", self.read_until(b"kq> "))
+        self.read_until(b"print_0")
+        self.read_until(b"kq> ")
         os.write(self.terminal, b"print 2\n\n")
-        self.read_until(b"print 2")
+        self.read_until(b"print_0")
         self.read_until(b"kq> ")
         os.write(self.terminal, b"\x04")
         self.assertEqual(self.process.wait(60), 0)

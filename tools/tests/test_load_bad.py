@@ -106,7 +106,7 @@ class Texts(unittest.TestCase):
         if sys.version_info >= (3, 11):
             self.assertEqual((found.status, found.rows), (0, [["1", "x\0y"], ["2", "\0"], ["3", "\0"]]))
         else:
-            self.assertIn(b"\0", found.script + found.told.encode())
+            self.assertIn("a.csv:2: the record that begins here is no CSV (line contains NUL)", found.told)
 
     def test_text_that_isnt_utf8(self):
         content = b"n,s\n1,caf\xe9\n2,\xc3\xa9\n"
@@ -155,6 +155,19 @@ class Records(unittest.TestCase):
         lines = "".join(f"{i},x\n" for i in range(100000))
         rejected = loaded(f'n,s\n0,"open\n{lines}', "--rejects", "bad")
         self.assertEqual((len(rejected.rows), rejected.rejects), (100000, b'n,s\n0,"open\n'))
+
+    def test_a_first_record_that_is_broken(self):
+        for content, rows in [('"open\na,b\n1,2\n', [["1", "2"]]), ('"x"y\n1,2\n3,4\n', [["1", "2"], ["3", "4"]])]:
+            with self.subTest(content=content):
+                with self.assertRaisesRegex(Exception, "a.csv:1: "):
+                    raise Exception(loaded(content).told)
+                found = loaded(content, "--rejects", "bad")
+                self.assertEqual((found.status, found.rows, found.rejects), (0, rows, content.split("\n")[0].encode() + b"\n"))
+
+    def test_names_of_columns_over_the_ends_of_chunks(self):
+        name = ("x" * 60 + "\n") * 4000
+        found = loaded(f'"{name}",b\n1,2\n', "--header")
+        self.assertEqual((found.status, found.rows), (0, [["1", "2"]]))
 
     def test_text_behind_a_closing_quote(self):
         found = loaded('n,s\n1,"x" y\n2,z\n', "--rejects", "bad")
