@@ -19,6 +19,7 @@ FORMS = {
     "datetime": times.PLAIN,
     "timespan": times.SPAN,
 }
+DIGITS_THAT_FIT = {"long": 18, "int": 9}
 RANGES = {"long": (-(2**63), 2**63 - 1), "int": (-(2**31), 2**31 - 1)}
 # Most columns have few shapes, which are cells with a 0 for each digit. A cell of such a shape is written as it stands; a datetime's
 # digits need a look more.
@@ -68,7 +69,7 @@ class Judge:
         if self.scale is None and self.are_plain(cells):
             return cells, ()
         if self.kind == "datetime":
-            found = self.moments.of_apache(cells)
+            found = self.moments.of_logs(cells)
             if found is not None:
                 self.rewritten += len(found)
                 return found, ()
@@ -76,6 +77,10 @@ class Judge:
 
     def are_plain(self, cells):
         """Whether all cells are written as they stand. It may be false where they are."""
+        if self.kind in DIGITS_THAT_FIT:
+            text = "".join(cells)
+            if text.isascii() and text.isdecimal() and max(map(len, cells)) <= DIGITS_THAT_FIT[self.kind]:
+                return True
         text = "\n".join(cells)
         if text.count("\n") != len(cells) - 1:
             return False

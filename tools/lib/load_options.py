@@ -1,6 +1,7 @@
 """The words of tools/load, which ./kq-log takes too."""
 import argparse
 import datetime
+import os
 import re
 
 from cells import TYPES
@@ -12,24 +13,38 @@ KINDS_TOLD = "\n".join(f"  {kind:<10} {what}: {', '.join(choices)}" for kind, (w
 
 
 class Rejects:
-    """The file of rejected records, made when the first one comes."""
+    """The file of rejected records. Before those of a file with names of columns these stand, so that it can be loaded itself."""
 
     def __init__(self, path):
         self.path = path
-        self.file = None
-        self.heading = b""
+        self.file = open(path, "wb")
+        self.heading = self.written = b""
+
+    def begin(self, heading):
+        """Records of another file follow."""
+        self.heading = heading
 
     def write(self, raw):
-        if self.file is None:
-            self.file = open(self.path, "wb")
-        if self.heading:
+        if self.heading != self.written:
             self.file.write(self.heading)
-            self.heading = b""
+            self.written = self.heading
         self.file.write(raw)
 
     def close(self):
-        if self.file is not None:
-            self.file.close()
+        self.file.close()
+
+
+def rejects_of(options):
+    """The file of rejected records, where one is asked for. It is none of those that are loaded."""
+    path = options.rejects
+    if path is None:
+        return None
+    if any(name != "-" and os.path.exists(path) and os.path.exists(name) and os.path.samefile(name, path) for name in options.files):
+        raise ValueError(f"--rejects {path}: this file is to be loaded")
+    try:
+        return Rejects(path)
+    except OSError as fault:
+        raise ValueError(f"--rejects {path}: {fault.strerror}") from None
 
 
 def add_load_options(parser):
@@ -96,7 +111,7 @@ def settled(options):
     if zone is None:
         raise ValueError(f"--zone {options.zone}: it is written as +01:00")
     options.choices = choices_of(options.on, options.rejects)
-    options.rejects = Rejects(options.rejects) if options.rejects else None
+    options.rejects = rejects_of(options)
     options.format = None if options.format == "auto" else options.format
     latest = datetime.datetime(options.year, 12, 31, 23, 59, 59) - datetime.timedelta(days=1) if options.year else None
     options.moments = Moments("" if zone == "Z" else zone, latest)

@@ -27,13 +27,17 @@ class Loading:
         """Reads the files, and writes the script."""
         # Nothing here makes cycles, and the collector would look through all cells of a chunk again and again.
         gc.disable()
+        sources = []
         try:
-            self.run_on()
+            self.run_on(sources)
         finally:
             gc.enable()
+            for source in sources:
+                source.input.close()
 
-    def run_on(self):
-        sources = [Source(path, self.options, self.problems) for path in self.options.files]
+    def run_on(self, sources):
+        for path in self.options.files:
+            sources.append(Source(path, self.options, self.problems))
         columns = self.columns(sources)
         if columns is None:
             self.read_through(sources)
@@ -78,7 +82,7 @@ class Loading:
 
     def agree(self, fields, source):
         """Takes the fields of a file. One without names has those of the first file, where it has as many."""
-        nameless = isinstance(source.reader, csvs.Csv) and not source.heading and not self.options.names
+        nameless = isinstance(source.reader, csvs.Csv) and not source.heading_text and not self.options.names
         if fields and nameless:
             if len(source.fields) != len(fields):
                 raise Stopped(f"{source.path}: has {len(source.fields)} columns and no names, and the files before it have {len(fields)}")
@@ -90,17 +94,15 @@ class Loading:
         began = time.monotonic()
         source.open()
         self.script.begin(source.input.identity)
-        if self.options.rejects is not None and source.heading:
-            self.options.rejects.heading = source.heading_text
+        if self.options.rejects is not None:
+            self.options.rejects.begin(source.heading_text)
         self.progress.begin(source.input)
-        try:
-            for table, places in source.tables(self.problems, source.chunks()):
-                if table.count:
-                    self.give(table, places)
-                self.progress.advance(source.input.taken, self.script.given + len(self.script.rows))
-        finally:
-            source.input.close()
+        for table, places in source.tables(self.problems, source.chunks()):
+            if table.count:
+                self.give(table, places)
+            self.progress.advance(source.input.taken, self.script.given + len(self.script.rows))
         self.script.close()
+        source.input.close()
         self.progress.end()
         self.tell(source, time.monotonic() - began)
 
@@ -145,7 +147,7 @@ class Loading:
         self.rows += given
         self.sent += batches
         rate = f", {given / seconds:,.0f} rows/s" if seconds > 0 and given else ""
-        self.say(f"{source.path}: {given:,} rows in {batches:,} batches, {seconds:.1f} s{rate}")
+        self.say(f"{source.path}: {names.counted(given, 'row')} in {names.counted(batches, 'batch')}, {seconds:.1f} s{rate}")
 
     def stop(self, fault):
         """Says why the loading ends early. What is left of the open batch isn't given, so that its tag stays free for all of it."""
@@ -153,15 +155,15 @@ class Loading:
         self.say(f"stopped: {fault}")
         if hasattr(self, "script"):
             given = self.rows + self.script.given
-            self.out.write(f"// tools/load stopped here, behind {given} rows.\n\n".encode())
+            self.out.write(f"// tools/load stopped here, behind {names.counted(given, 'row')}.\n\n".encode())
             self.out.flush()
-            self.say(f"{given:,} rows were given before; the same files can be loaded again, and these go in once")
+            self.say(f"{names.counted(given, 'row')} given before; the same files can be loaded again, and these go in once")
 
     def summary(self):
         """What became of the records that couldn't be given as they stand."""
         for column in self.plan.columns if hasattr(self, "plan") else ():
             if column.judge is not None and column.judge.rewritten:
-                self.say(f"{column.name}: {column.judge.rewritten:,} cells were rewritten as a {column.kind}")
+                self.say(f"{column.name}: {names.counted(column.judge.rewritten, 'cell')} rewritten as a {column.kind}")
         for line in self.problems.told():
             self.say(line)
 

@@ -17,6 +17,11 @@ def quoted(text):
     return "'" + SPECIAL.sub(lambda found: ESCAPES[found[0]], text) + "'"
 
 
+def counted(number, what):
+    """A number and what it counts."""
+    return f"{number:,} {what}{'' if number == 1 else 'es' if what.endswith('ch') else 's'}"
+
+
 def is_word(text):
     return WORD.fullmatch(text) is not None and text not in RESERVED
 

@@ -1,5 +1,6 @@
 """JSON lines: an object a line, whose members are the cells of a record."""
 import jsons
+from problems import Stopped
 
 NONE = type(None)
 
@@ -24,9 +25,9 @@ class Objects:
         for place, line in enumerate(lines):
             if not line.strip():
                 continue
-            value, kind, why = self.value(line)
-            if kind:
-                problems.meet(kind, chunk.place(place), why)
+            value, why = self.value(line)
+            if why:
+                problems.meet("line", chunk.place(place), why)
                 problems.reject(chunk.raw(place, place + 1))
             else:
                 found.append(value)
@@ -35,16 +36,16 @@ class Objects:
 
     @staticmethod
     def value(line):
-        """The object of a line; or a kind of problem and why."""
+        """The object of a line; or why it is none."""
         try:
             value = jsons.exact(line)
         except RecursionError:
-            return None, "deep", "the object nests deeper than can be read"
+            return None, "the line nests too deep to be read"
         except ValueError as fault:
-            return None, "line", f"the line is no JSON ({jsons.told(fault)})"
+            return None, f"the line is no JSON ({jsons.told(fault)})"
         if not isinstance(value, dict):
-            return None, "line", f"the line is no JSON object: {line[:60]!r}"
-        return value, None, None
+            return None, f"the line is no JSON object: {line[:60]!r}"
+        return value, None
 
 
 def text_of(value):
@@ -92,4 +93,7 @@ def dynamic_of(value, problems, at):
     else:
         return jsons.written(value), None
     choice = problems.meet(kind, at(), why)
-    return jsons.written(jsons.source(value)) if choice == "text" else jsons.written(value), choice
+    try:
+        return jsons.written(jsons.source(value)) if choice == "text" else jsons.written(value), choice
+    except RecursionError:
+        raise Stopped(f"{at()}: a member nests too deep to be kept as text") from None

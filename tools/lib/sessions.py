@@ -46,12 +46,13 @@ class Ended(Exception):
 class Program:
     """A running program. Its replies are read beside, so that it never waits for a reader."""
 
-    def __init__(self, words):
+    def __init__(self, words, folder=None):
         # A session of its own, so that an interrupt of the terminal doesn't end it.
-        self.process = subprocess.Popen(words, stdin=subprocess.PIPE, stdout=subprocess.PIPE, start_new_session=True)
+        self.process = subprocess.Popen(words, stdin=subprocess.PIPE, stdout=subprocess.PIPE, start_new_session=True, cwd=folder)
         self.input = self.process.stdin
         self.replies = queue.Queue()
-        threading.Thread(target=self.read, daemon=True).start()
+        self.reader = threading.Thread(target=self.read, daemon=True)
+        self.reader.start()
 
     def read(self):
         while True:
@@ -95,7 +96,10 @@ class Program:
             self.input.close()
         except BrokenPipeError:
             pass
-        return self.process.wait()
+        status = self.process.wait()
+        self.reader.join()
+        self.process.stdout.close()
+        return status
 
 
 def proved_program(top):

@@ -1,4 +1,5 @@
 """What a file holds: its format, its fields, and its records as tables."""
+import contextlib
 import itertools
 import re
 
@@ -7,7 +8,7 @@ import jsons
 import logs
 import objects
 from cells import Evidence
-from inputs import Input
+from inputs import Chunk, Input
 from names import distinct_names, is_word
 from plans import LONE, ObjectEvidence, Table
 from problems import Stopped
@@ -42,6 +43,7 @@ class Source:
         self.problems = problems
         self.input = Input(path, problems)
         self.heading = 0  # how many lines the names of the columns take
+        self.heading_text = b""
         self.fields = []
         self.notes = []
         self.lenient = Lenient()
@@ -60,10 +62,8 @@ class Source:
         """The chunks with the first records. What is no file can't be read again, so they are kept."""
         if self.input.is_regular:
             self.input.close()
-            looking = Input(self.path, self.lenient)
-            found = first_chunks(looking.chunks())
-            looking.close()
-            return found
+            with contextlib.closing(Input(self.path, self.lenient)) as looking:
+                return first_chunks(looking.chunks())
         self.opened = self.input.chunks()
         return first_chunks(self.opened)
 
@@ -80,9 +80,14 @@ class Source:
             chunks = self.input.chunks()
         else:
             chunks = itertools.chain(self.sample, self.opened)
+        return self.behind_heading(chunks)
+
+    def behind_heading(self, chunks):
+        left = self.heading
         for chunk in chunks:
-            if self.heading and chunk.number == 1:
-                chunk = chunk.without(self.heading)
+            if left:
+                taken = min(left, len(chunk.lines))
+                chunk, left = chunk.without(taken), left - taken
             yield chunk
 
     def reader_of(self, name, lines):
@@ -93,35 +98,43 @@ class Source:
         delimiter = self.options.delimiter or ("\t" if name == "tsv" else delimiter_of(lines))
         return csvs.Csv(delimiter, self.options.quotes)
 
+    def first_record(self):
+        """The first record of CSV, its first line and the one behind it. Broken ones before it are met as problems."""
+        lines = [line for chunk in self.sample for line in chunk.lines]
+        first = Chunk(self.path, 1, lines, self.sample[-1].last)
+        for at, behind, record, fault in self.reader.walk(first):
+            if fault:
+                self.reader.refuse(first, at, fault, self.problems)
+            elif record:
+                self.heading_text = first.raw(at, behind)
+                return record, at, behind
+        return None, len(lines), len(lines)
+
     def find_names(self):
         """Takes the first record as names, where it is."""
-        first = self.sample[0]
-        found = next(((behind, record) for _, behind, record, _ in self.reader.walk(first) if record), None)
-        if found is None:
-            return
-        behind, record = found
-        names = [LONE.sub("\ufffd", name.strip()) for name in record]
+        record, at, behind = self.first_record()
+        names = [LONE.sub("\ufffd", name.strip()) for name in record or ()]
         asked = self.options.header
         heading = asked if asked is not None else not self.options.names and are_names(names)
-        if heading:
-            self.heading = behind
-            self.heading_text = first.raw(0, behind)
-            if asked is None:
-                self.notes.append("the first record is taken as the names of the columns; --no-header where it is none")
+        self.heading = behind if heading else at
+        if not heading:
+            self.heading_text = b""
+        elif asked is None:
+            self.notes.append("the first record is taken as the names of the columns; --no-header where it is none")
         if self.options.names:
             self.fields = list(self.options.names)
         elif heading:
             self.fields = distinct_names(names)
             self.notes += [f"the column {now!r} is called {before!r} in the file" for before, now in zip(record, self.fields) if before.strip() != now]
         else:
-            self.fields = [f"Column{place}" for place in range(1, len(record) + 1)]
+            self.fields = [f"Column{place}" for place in range(1, len(names) + 1)]
 
     def tables(self, problems, chunks):
         """A table for each chunk, and what tells where its records stand. A record that goes on is read with the next chunk."""
         rest = None
         for chunk in chunks:
             if rest is not None and rest.lines:
-                chunk = type(chunk)(chunk.name, rest.number, rest.lines + chunk.lines, chunk.last)
+                chunk = Chunk(chunk.name, rest.number, rest.lines + chunk.lines, chunk.last)
             table, places, taken = self.table(chunk, problems)
             rest = chunk.without(taken)
             yield table, places
@@ -187,7 +200,7 @@ class Source:
             return
         seen, nulls = 0, self.options.nulls
         native = isinstance(self.reader, objects.Objects)
-        for table, _ in self.tables(self.lenient, self.skipped()):
+        for table, _ in self.tables(self.lenient, self.behind_heading(self.sample)):
             room = SAMPLE - seen
             names = dict.fromkeys(itertools.chain.from_iterable(table.records[:room])) if native else table.columns
             for name in names:
@@ -199,12 +212,6 @@ class Source:
                 break
         if native:
             self.fields = list(known)
-
-    def skipped(self):
-        chunks = list(self.sample)
-        if self.heading and chunks:
-            chunks[0] = chunks[0].without(self.heading)
-        return chunks
 
 
 class Places:
@@ -254,8 +261,8 @@ def first_chunks(chunks):
 
 def are_names(cells):
     """Whether the cells of a first record are names of columns and no values."""
-    if len(cells) == 1:
-        return is_word(cells[0])
+    if len(cells) < 2:
+        return bool(cells) and is_word(cells[0])
     return len(set(cells)) == len(cells) and all(NAME_LIKE.fullmatch(cell) and cell.lower() not in ("true", "false") for cell in cells)
 
 

@@ -27,6 +27,7 @@ CLOCK = "([0-9]{2}:[0-9]{2}(?::[0-9]{2}(?:[.,][0-9]+)?)?)"
 LOOSE = re.compile(f"([0-9]{{4}})([-/])([0-9]{{2}})\\2([0-9]{{2}})(?:[Tt _]{CLOCK} ?(Z|z|UTC|GMT|[+-][0-9]{{2}}(?::?[0-9]{{2}})?)?)?")
 APACHE = re.compile(f"([0-9]{{2}})/({MONTH})/([0-9]{{4}}):([0-9]{{2}}:[0-9]{{2}}:[0-9]{{2}}) ([+-][0-9]{{2}})([0-9]{{2}})")
 APACHE_LINES = re.compile(f"^[0-9]{{2}}/{MONTH}/[0-9]{{4}}:(?:[01][0-9]|2[0-3]):[0-5][0-9]:[0-5][0-9] [+-](?:[01][0-9]|2[0-3])[0-5][0-9]$", re.M)
+SYSLOG_LINES = re.compile(f"^{MONTH} [ 0-3][0-9] (?:[01][0-9]|2[0-3]):[0-5][0-9]:[0-5][0-9](?:\\.[0-9]{{1,9}})?$", re.M)
 SYSLOG = re.compile(f"({MONTH}) {{1,2}}([0-9]{{1,2}}) (?:([0-9]{{4}}) )?([0-9]{{2}}:[0-9]{{2}}:[0-9]{{2}}(?:\\.[0-9]+)?)")
 HTTP = re.compile(f"(?:Mon|Tue|Wed|Thu|Fri|Sat|Sun), ([0-9]{{2}}) ({MONTH}) ([0-9]{{4}}) ([0-9]{{2}}:[0-9]{{2}}:[0-9]{{2}}) GMT")
 # Seconds, or thousandths, millionths or billionths of one, since 1970, told apart by their number of digits.
@@ -84,6 +85,19 @@ class Days(dict):
         return date
 
 
+class YearlessDays(dict):
+    """The days of a syslog, as `Oct 11`, and what a datetime begins with on them."""
+
+    def __init__(self, year):
+        super().__init__()
+        self.year = year
+
+    def __missing__(self, text):
+        month, day = MONTHS[text[:3]], int(text[4:])
+        self[text] = date = datetime.date(self.year(month, day), month, day).isoformat() + "T"
+        return date
+
+
 class Moments:
     """Reads datetimes. Those without a zone are in `zone`; those without a year are the last such ones before `latest`."""
 
@@ -124,7 +138,7 @@ class Moments:
         found = SYSLOG.fullmatch(text)
         if found:
             month, day, year, clock = found.groups()
-            return self.written(year or self.year(MONTHS[month], day, clock), MONTHS[month], day, clock, None)
+            return self.written(year or self.year(MONTHS[month], day), MONTHS[month], day, clock, None)
         return None
 
     def written(self, year, month, day, clock, zone):
@@ -141,17 +155,16 @@ class Moments:
             return None
         return f"{date.isoformat()}T{clock}{zone}"
 
-    def year(self, month, day, clock):
-        """The last year in which the moment isn't more than a day behind the latest one."""
-        year = self.latest.year + 1
-        for year in range(year, year - 9, -1):
+    def year(self, month, day):
+        """The last year in which the day isn't more than a day behind the latest one."""
+        latest = (self.latest + datetime.timedelta(days=1)).date()
+        for year in range(latest.year, latest.year - 9, -1):
             try:
-                moment = datetime.datetime.strptime(f"{year}-{month}-{day} {clock[:8]}", "%Y-%m-%d %H:%M:%S")
+                if datetime.date(year, month, int(day)) <= latest:
+                    return year
             except ValueError:
-                continue
-            if moment <= self.latest + datetime.timedelta(days=1):
-                return year
-        return year
+                pass
+        return latest.year
 
     def epoch(self, text):
         """The datetime of a number that counts since 1970, or none."""
@@ -163,16 +176,21 @@ class Moments:
         moment = EPOCH_START + datetime.timedelta(seconds=int(seconds))
         return moment.isoformat() + ("." + fraction[:9] if fraction else "") + "Z"
 
-    def of_apache(self, values):
-        """The datetimes of a whole column of an access log, or none where one of them needs a closer look."""
+    def of_logs(self, values):
+        """The datetimes of a whole column of an access log or a syslog, or none where one of them needs a closer look."""
         text = "\n".join(values)
-        if text.count("\n") != len(values) - 1 or len(APACHE_LINES.findall(text)) != len(values):
+        if text.count("\n") != len(values) - 1:
             return None
-        days = self.days
+        days, zone = self.days, self.zone
         try:
-            return [f"{days[v[:11]]}{v[12:20]}{v[21:24]}:{v[24:]}" for v in values]
+            if len(APACHE_LINES.findall(text)) == len(values):
+                return [f"{days[v[:11]]}{v[12:20]}{v[21:24]}:{v[24:]}" for v in values]
+            if len(SYSLOG_LINES.findall(text)) == len(values):
+                days = YearlessDays(self.year)
+                return [f"{days[v[:6]]}{v[7:]}{zone}" for v in values]
         except ValueError:
-            return None
+            pass
+        return None
 
 
 def in_range(date, clock, zone):

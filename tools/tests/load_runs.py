@@ -1,6 +1,5 @@
 """Runs tools/load on files that a test makes, and reads the script that it writes."""
 import argparse
-import contextlib
 import csv
 import io
 import json
@@ -107,9 +106,8 @@ class Folder:
         if options.rejects is None:
             return None
         options.rejects.close()
-        with contextlib.suppress(FileNotFoundError), open(options.rejects.path, "rb") as file:
+        with open(options.rejects.path, "rb") as file:
             return file.read()
-        return b""
 
 
 def loaded(content, *words, name="a.csv"):

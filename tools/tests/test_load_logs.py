@@ -22,7 +22,7 @@ class Access(unittest.TestCase):
         found = loaded(COMMON + "\n", name="a.log")
         self.assertEqual(found.columns, ACCESS)
         self.assertEqual(found.rows, [["2000-10-10T13:55:36-07:00", "127.0.0.1", "", "frank", "GET", "/apache_pb.gif", "HTTP/1.0", "200", "2326"]])
-        self.assertIn("Timestamp: 1 cells were rewritten as a datetime", found.told)
+        self.assertIn("Timestamp: 1 cell rewritten as a datetime", found.told)
 
     def test_combined_log_format(self):
         found = loaded(COMBINED + "\n", "--type", "Status:int", name="a.log")

@@ -191,6 +191,17 @@ class Moments(unittest.TestCase):
             column = [random.choice(plain), text, random.choice(plain)]
             self.assertEqual(judge.are_plain(column), all(judge.one.fullmatch(cell) for cell in column), column)
 
+    def test_a_whole_column_of_a_log_is_rewritten_as_its_cells_are(self):
+        for texts in (
+            ["10/Oct/2000:13:55:36 -0700", "29/Feb/2024:00:00:59 +0100"],
+            ["Oct 11 22:14:15", "Feb 29 00:00:00", "Jan  9 03:04:05.678", "Jan 12 00:00:00", "Dec 31 23:59:59"],
+        ):
+            for zone in ("", "+01:00"):
+                moments = times.Moments(zone, datetime.datetime(2024, 1, 10, 12))
+                self.assertEqual(moments.of_logs(texts), [moments.exact(text) for text in texts])
+        for bad in ("31/Sep/2000:13:55:36 -0700", "Feb 30 00:00:00", "Oct 11 24:00:00"):
+            self.assertIsNone(times.Moments().of_logs([bad]))
+
     def test_timespans_are_judged_by_shape_as_they_are_one_by_one(self):
         random.seed(8)
         for _ in range(3000):
