@@ -4,14 +4,14 @@ import re
 import unicodedata
 
 # Controls, and signs that turn the direction of text: a log may hold any of them, and none may reach the terminal.
-STEERING = re.compile("[\x00-\x1f\x7f-\x9f\u200e\u200f\u2028-\u202e\u2066-\u2069\ud800-\udfff\ufeff]")
+CONTROLS = re.compile("[\x00-\x1f\x7f-\x9f\u200e\u200f\u2028-\u202e\u2066-\u2069\ud800-\udfff\ufeff]")
 
 
 def visible(text):
     """A text with each sign that steers a terminal written out, as \\x1b."""
     if text.isascii() and text.isprintable():
         return text
-    return STEERING.sub(written, text)
+    return CONTROLS.sub(written, text)
 
 
 def written(found):
