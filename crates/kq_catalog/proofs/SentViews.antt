@@ -8,7 +8,7 @@ use Rattle.kq_value.specs.contracts.dynamic.Dyn as dynamic
 use Rattle.kq_value.specs.contracts.dyn_box.DynBox as boxed
 use Rattle.kq_value.specs.contracts.value.Value as value
 use Rattle.kq_value.specs.contracts.row.Row as row
-use Rattle.kq_expr.specs.kq_fn.Function as function
+use Rattle.kq_fn.specs.contracts.function.Function as function
 use Rattle.kq_expr.proofs.expr.Expr.TheLaws.TheKnot as expr_knot
 use Rattle.kq_expr.specs.contracts.expr.Expr as expr
 use Rattle.kq_plan.specs.contracts.work.SortKey as sort_key
