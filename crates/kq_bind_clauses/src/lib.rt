@@ -8,9 +8,9 @@ mod tables;
 mod unions;
 
 pub use joins::{join_columns, join_kind, on_keys};
+pub use kq_bind_columns::{unsupported_item, unsupported_items};
+pub use kq_bind_expression::{unsupported, valueless};
 pub use ranges::{Ranging, range_column, ranged};
 pub use sorts::{sort_key, sort_keys, unsupported_keys};
 pub use tables::{Tabling, tabled, typeless, unsupported_cells, unsupported_columns, word_type};
 pub use unions::{ArmColumns, arms_filled, filling, is_inner, union_columns, union_sources};
-pub use kq_bind_columns::{unsupported_item, unsupported_items};
-pub use kq_bind_expression::{unsupported, valueless};

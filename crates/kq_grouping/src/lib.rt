@@ -8,6 +8,6 @@ mod steps;
 
 pub use arriving::{Arrived, gather_groups};
 pub use grouping::{add_piece, typed};
-pub use steps::{operators, stage_in};
 pub use kq_group::Groups;
 pub use kq_lent::{Held, Relation, eval_row};
+pub use steps::{operators, stage_in};

@@ -15,7 +15,7 @@ mod step;
 mod stretch;
 mod terms;
 
+pub use kq_lent::Held;
 pub use leaves::Leaves;
 pub use outcome::Outcome;
 pub use run::run_plan;
-pub use kq_lent::Held;

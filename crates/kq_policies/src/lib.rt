@@ -9,7 +9,7 @@ mod policies;
 mod quiet;
 mod running;
 
+pub use kq_pipe::Held;
 pub use lookups::looked;
 pub use policies::derive;
 pub use quiet::is_quiet_since;
-pub use kq_pipe::Held;
