@@ -7,5 +7,4 @@ mod round;
 mod worker;
 mod working;
 
-pub use kq_engine::{Catalog, Pass, Shared};
 pub use working::{Worked, work};
