@@ -1,3 +1,4 @@
 pub mod Going
 pub mod Keeping
 pub mod Looping
+pub mod kq_engine

@@ -7,4 +7,5 @@ mod round;
 mod worker;
 mod working;
 
+pub use kq_engine::{Catalog, Pass, Shared};
 pub use working::{Worked, work};

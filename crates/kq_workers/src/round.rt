@@ -6,8 +6,7 @@ ghost use Rattle.kq_workers.specs.Kept.{AreKept, AreKeptBelow, IsKept};
 ghost use Rattle.kq_workers.specs.Rounds.{SeenGoesOn, HasRound, HasChores, TakesOne, wants_memory as wants_memory_by};
 
 use crate::worker::{Post, Worker};
-use kq_catalog::Snapshot;
-use kq_engine::{Outcome, Pass, Upkeep};
+use kq_engine::{Outcome, Pass, Snapshot, Upkeep};
 use kq_model::By;
 use kq_reply::{Refusal, Reply};
 use kq_world::{Gate, Point};
