@@ -1,21 +1,8 @@
-//! The program: it serves a script from standard input, beside it each feed and each worker in a thread of its own, and
-//! ends with a status.
-//! Everything is left to the crates below it; here the feeds are opened, the catalogue is made, the sessions are served,
-//! the workers are started and stopped, and what comes of them is handed back.
+//! The program: it hands the words of its command line and the real world to `kq_program`, and ends with the status of the run.
 #![tactic(auto)]
 
-mod ended;
-mod feeds;
-mod opened;
-mod program;
-#[cfg(test)]
-mod tests;
-mod together;
-mod workers;
-
-pub use ended::{Ended, Run};
+use kq_program::{MEMORY, WRONG_WORDS, run};
 use kq_world::{OpenGate, RealWorld};
-pub use program::run;
 use std::io::ErrorKind;
 use std::process::ExitCode;
 use std::{env, io};
@@ -34,9 +21,9 @@ fn main(rt: HostRuntime) -> ExitCode {
             let mut world = RealWorld::new(rt);
             run(&rt, rt.alloc(), words.as_slice(), &mut world, &OpenGate).status
         }
-        Err(error) if error.kind() == ErrorKind::OutOfMemory => program::MEMORY,
+        Err(error) if error.kind() == ErrorKind::OutOfMemory => MEMORY,
         // Words that are no text haven't the form.
-        Err(_) => program::WRONG_WORDS,
+        Err(_) => WRONG_WORDS,
     };
     if status != 0 {
         let _ = eprintln!(rt; "kq_console: status {status}");

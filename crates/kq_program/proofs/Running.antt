@@ -1,0 +1,148 @@
+-- A run of all sessions.
+use Rattle.std.proofs.Common.{◌≡◌, ◌≢◌, ◌<◌, ◌+◌, ℕ, Bool, true, false, cond, List, [], ◌∷◌, length, map, Option, None, All, nat_eq, refl, sym, ◌∙◌, subst, arith, inl, inr}
+use Rattle.std.proofs.lemmas.List.Elements.{All-cons, All-nil}
+use mathlib.Core.List.{IsPrefix}
+use Rattle.kq_world.specs.Outside.{Contents, Rose}
+use Rattle.kq_model.specs.declared.limits.Limits.{Limits}
+use Rattle.kq_model.specs.Limits.{AreFull}
+use Rattle.kq_model.specs.History.{History, cursor}
+use Rattle.kq_workers.specs.kq_catalog.Seen.{CatalogView, hist, Sound}
+use Rattle.kq_workers.specs.kq_engine.Shared.{PassView}
+use Rattle.kq_session.specs.declared.end.End.{End}
+use Rattle.kq_session.specs.declared.end.End.TheVariants.{Finished, Short, SourceFault, SinkFault, InputLimit}
+use Rattle.kq_session.specs.declared.receipt.Receipt.{Receipt}
+use Rattle.kq_session.specs.Ends.{status_of, wants_memory}
+use Rattle.kq_session.specs.Session.{Explained}
+use Rattle.kq_program.specs.Headline.{RanSessions, AreExplained, IsCaused, first_status, given_to_sessions}
+use Rattle.kq_program.specs.Opening.{AreOpened}
+use Rattle.kq_program.specs.Together.{IsServed, AreServed, ServedAll}
+use Rattle.kq_program.specs.Views.{EndedView, Given, OpenedView}
+use Rattle.kq_program.proofs.Scripting.{ByScript-given, explained-end}
+use Rattle.kq_program.proofs.Serving.{AreServed-later}
+use Rattle.kq_program.proofs.Wholes.{AreServed-owned, Whole-owned}
+
+-- ---- all sessions
+
+-- what a feed is given
+abbrev own_script : (List ℕ → Contents) → List ℕ → Given
+own_script told name = record { generate = None; contents = told name }
+
+explained_all : (limits : Limits) (h : History) (n : ℕ) (told : List ℕ → Contents) (names : List (List ℕ)) (os : List OpenedView) (ss : List EndedView) → AreOpened told names os → AreServed limits h n os ss → AreExplained limits h n (map (own_script told) names) ss
+explained_all limits h n told [] [] [] opened served = tt
+explained_all limits h n told [] [] (s ∷ ss) opened served = absurd served
+explained_all limits h n told [] (o ∷ os) ss opened served = absurd opened
+explained_all limits h n told (name ∷ names) [] ss opened served = absurd opened
+explained_all limits h n told (name ∷ names) (o ∷ os) [] opened served = absurd served
+explained_all limits h n told (name ∷ names) (o ∷ os) (s ∷ ss) opened served =
+    (ByScript-given (Explained limits h n) o None (told name) s.session opened.0.own opened.0.contents opened.0.source opened.0.sink served.0.explained, explained_all limits h (n + 1) told names os ss opened.1 served.1)
+
+named_all : (limits : Limits) (h : History) (n : ℕ) (told : List ℕ → Contents) (names : List (List ℕ)) (os : List OpenedView) (ss : List EndedView) → AreOpened told names os → AreServed limits h n os ss → map (λ (s : EndedView). s.name) ss ≡ names
+named_all limits h n told [] [] [] opened served = refl
+named_all limits h n told [] [] (s ∷ ss) opened served = absurd served
+named_all limits h n told [] (o ∷ os) ss opened served = absurd opened
+named_all limits h n told (name ∷ names) [] ss opened served = absurd opened
+named_all limits h n told (name ∷ names) (o ∷ os) [] opened served = absurd served
+named_all limits h n told (name ∷ names) (o ∷ os) (s ∷ ss) opened served =
+    let here = served.0.named ∙ opened.0.named in
+    let rest = named_all limits h (n + 1) told names os ss opened.1 served.1 in λ i. here i ∷ rest i
+
+some_fault : (now : ℕ) → Rose 0 now → 0 < now
+some_fault now rose = elim rose [ inl more ↦ more | inr end ↦ absurd (omega (arith, end.0)) ]
+
+caused_one : (limits : Limits) (h : History) (n : ℕ) (o : OpenedView) (s : EndedView) → o.objects.source_faults ≡ 0 → o.objects.sink_faults ≡ 0 → IsServed limits h n o s → IsCaused s
+caused_one limits h n o s source sink served = record {
+  source = λ e. some_fault s.session.objects.source_faults (subst (λ (k : ℕ). Rose k s.session.objects.source_faults) source (served.source.rose e));
+  sink = λ e. some_fault s.session.objects.sink_faults (subst (λ (k : ℕ). Rose k s.session.objects.sink_faults) sink (served.sink.rose e));
+  source_stays = λ other. served.source.stays other ∙ source;
+  sink_stays = λ other. served.sink.stays other ∙ sink;
+}
+
+caused_all : (limits : Limits) (h : History) (n : ℕ) (told : List ℕ → Contents) (names : List (List ℕ)) (os : List OpenedView) (ss : List EndedView) → AreOpened told names os → AreServed limits h n os ss → All IsCaused ss
+caused_all limits h n told [] [] [] opened served = All-nil IsCaused
+caused_all limits h n told [] [] (s ∷ ss) opened served = absurd served
+caused_all limits h n told [] (o ∷ os) ss opened served = absurd opened
+caused_all limits h n told (name ∷ names) [] ss opened served = absurd opened
+caused_all limits h n told (name ∷ names) (o ∷ os) [] opened served = absurd served
+caused_all limits h n told (name ∷ names) (o ∷ os) (s ∷ ss) opened served = All-cons IsCaused s ss (caused_one limits h n o s opened.0.source opened.0.sink served.0) (caused_all limits h (n + 1) told names os ss opened.1 served.1)
+
+pub RanSessions-all : (c : CatalogView) (limits : Limits) (old new : PassView) (o : OpenedView) (os : List OpenedView) (ss : List EndedView) (generate : Option ℕ) (first : Contents) (told : List ℕ → Contents) (names : List (List ℕ)) (status : ℕ)
+    → o.name ≡ [] → o.generate ≡ generate → o.objects.contents ≡ first → o.objects.source_faults ≡ 0 → o.objects.sink_faults ≡ 0 → AreOpened told names os → ServedAll limits old new (o ∷ os) ss → old.made ≡ 0
+    → Sound c → AreFull limits → c.limits ≡ limits → IsPrefix new.seen (hist c) → cursor (hist c) ≡ new.made → status ≡ first_status ss → RanSessions names (given_to_sessions generate first told names) status c ss
+RanSessions-all c limits old new o os [] generate first told names status name script contents source sink opened all none sound full same seen made is_status = absurd all.served
+RanSessions-all c limits old new o os (s ∷ ss) generate first told names status name script contents source sink opened all none sound full same seen made is_status =
+    let h = hist c in
+    let served = AreServed-later limits new.seen h 0 (o ∷ os) (s ∷ ss) seen all.served in
+    let given = given_to_sessions generate first told names in
+    let explained : AreExplained limits h 0 given (s ∷ ss) = (ByScript-given (Explained limits h 0) o generate first s.session script contents source sink served.0.explained, explained_all limits h 1 told names os ss opened served.1) in
+    let here = served.0.named ∙ name in
+    let others = named_all limits h 1 told names os ss opened served.1 in
+    record {
+      headline = record {
+        sound = sound;
+        whole = Whole-owned h (s ∷ ss) (AreServed-owned limits h 0 (o ∷ os) (s ∷ ss) served) (omega (arith, all.passed.made, none, made));
+        named = λ i. here i ∷ others i;
+        explained = subst (λ (l : Limits). AreExplained l h 0 given (s ∷ ss)) (sym same) explained;
+      };
+      limits = subst AreFull (sym same) full;
+      status_is = is_status;
+      caused = All-cons IsCaused s ss (caused_one limits h 0 o s source sink served.0) (caused_all limits h 1 told names os ss opened served.1);
+    }
+
+-- ---- the status
+
+-- a session's status, which says nothing of the words and the feeds
+IsOwn : ℕ → Type 0
+IsOwn status = (status ≢ 2) × (status ≢ 5)
+
+own_0 : IsOwn 0
+unfolding IsOwn
+own_0 = (λ e. omega (arith, e), λ e. omega (arith, e))
+
+own_1 : IsOwn 1
+unfolding IsOwn
+own_1 = (λ e. omega (arith, e), λ e. omega (arith, e))
+
+own_3 : IsOwn 3
+unfolding IsOwn
+own_3 = (λ e. omega (arith, e), λ e. omega (arith, e))
+
+own_4 : IsOwn 4
+unfolding IsOwn
+own_4 = (λ e. omega (arith, e), λ e. omega (arith, e))
+
+own_6 : IsOwn 6
+unfolding IsOwn
+own_6 = (λ e. omega (arith, e), λ e. omega (arith, e))
+
+own_if : (b : Bool) (m n : ℕ) → IsOwn m → IsOwn n → IsOwn (cond b m n)
+own_if true m n first second = first
+own_if false m n first second = second
+
+status_own : (end : End) (receipts : List Receipt) → IsOwn (status_of end receipts)
+status_own Finished receipts = own_if (wants_memory receipts) 1 0 own_1 own_0
+status_own Short receipts = own_1
+status_own SourceFault receipts = own_3
+status_own SinkFault receipts = own_4
+status_own InputLimit receipts = own_6
+
+own_first : (limits : Limits) (h : History) (n : ℕ) (os : List OpenedView) (ss : List EndedView) → AreServed limits h n os ss → IsOwn (first_status ss)
+own_first limits h n [] [] served = own_0
+own_first limits h n [] (s ∷ ss) served = absurd served
+own_first limits h n (o ∷ os) [] served = absurd served
+own_first limits h n (o ∷ os) (s ∷ ss) served =
+    let end = explained-end limits h n o.generate o.objects s.session served.0.explained in
+    let here = subst IsOwn (sym end.1) (status_own end.0 s.session.receipts) in
+    own_if (nat_eq s.session.status 0) (first_status ss) s.session.status (own_first limits h (n + 1) os ss served.1) here
+
+pub first-of-sessions : (limits : Limits) (old new : PassView) (os : List OpenedView) (ss : List EndedView) (status : ℕ) → ServedAll limits old new os ss → status ≡ first_status ss → (status ≢ 2) × (status ≢ 5)
+unfolding IsOwn
+first-of-sessions limits old new os ss status all is =
+    subst IsOwn (sym is) (own_first limits new.seen 0 os ss all.served)
+
+-- ---- the feeds
+
+pub AreOpened-length : (told : List ℕ → Contents) (names : List (List ℕ)) (os : List OpenedView) → AreOpened told names os → length os ≡ length names
+AreOpened-length told [] [] opened = refl
+AreOpened-length told [] (o ∷ os) opened = absurd opened
+AreOpened-length told (name ∷ names) [] opened = absurd opened
+AreOpened-length told (name ∷ names) (o ∷ os) opened = let rest = AreOpened-length told names os opened.1 in omega (arith, rest)

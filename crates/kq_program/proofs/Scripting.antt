@@ -1,0 +1,106 @@
+-- A session by its own or a generated script.
+use Rattle.std.proofs.Common.{◌≡◌, ℕ, false, List, [], Option, Some, None, refl, sym, subst, arith, inl, inr, add-zero}
+use Rattle.std.proofs.lemmas.List.Sums.{sum_by-cons}
+use Rattle.kq_turn.proofs.Beginnings.{IsPrefix-refl}
+use Rattle.kq_world.specs.Outside.{Contents, SourceView}
+use Rattle.kq_world.proofs.Faults.{same-later}
+use Rattle.kq_model.specs.declared.limits.Limits.{Limits}
+use Rattle.kq_model.specs.History.{History}
+use Rattle.kq_workers.specs.kq_engine.Shared.{PassView}
+use Rattle.kq_session.specs.declared.end.End.{End}
+use Rattle.kq_session.specs.declared.end.End.TheVariants as ends
+use Rattle.kq_session.specs.Ends.{status_of}
+use Rattle.kq_session.specs.Objects.{Objects, SessionView}
+use Rattle.kq_session.specs.Session.{SessionEnds, Explained, PassGoesOn, owns}
+use Rattle.kq_session.specs.Exchanges.{Rises}
+use Rattle.kq_session.proofs.Serving.{SessionEnds-none}
+use Rattle.kq_gen.specs.Commands.{script}
+use Rattle.kq_gen.specs.Source.{ScriptState, script_read, script_told, script_unread}
+use Rattle.kq_gen.proofs.Reading.{told-since}
+use Rattle.kq_program.specs.Scripts.{ByScript, as_reading, unfailed, with_source}
+use Rattle.kq_program.specs.Together.{ServedOne, all_owns, unserved}
+use Rattle.kq_program.specs.Views.{EndedView, OpenedView}
+
+-- what follows for a session whatever its source, follows for one by its script
+pub ByScript-map : (P Q : Contents → SessionView → Type 0) → ((before : Contents) (s : SessionView) → P before s → Q before s) → (generate : Option ℕ) (before : Objects) (s : SessionView) → ByScript P generate before s → ByScript Q generate before s
+ByScript-map P Q follows None before s holds = follows before.contents s holds
+ByScript-map P Q follows (Some n) before s holds = record {
+  source = holds.source;
+  source_faults = holds.source_faults;
+  at = holds.at;
+  ended = holds.ended;
+  holds = follows (with_source (script_unread n) before.contents) (as_reading (script_read n holds.at holds.ended) s) holds.holds;
+}
+
+-- a session by the script that it was given, whose objects had not failed yet
+pub ByScript-given : (P : Contents → SessionView → Type 0) (o : OpenedView) (generate : Option ℕ) (contents : Contents) (s : SessionView) → o.generate ≡ generate → o.objects.contents ≡ contents → o.objects.source_faults ≡ 0 → o.objects.sink_faults ≡ 0 → ByScript P o.generate o.objects s → ByScript P generate (unfailed contents) s
+ByScript-given P o generate contents s is told source sink holds =
+    let same : o.objects ≡ unfailed contents = λ i. record { contents = told i; source_faults = source i; sink_faults = sink i } in
+    subst (λ (b : Objects). ByScript P generate b s) same (subst (λ (g : Option ℕ). ByScript P g o.objects s) is holds)
+
+-- how a session ended, by its script
+pub explained-end : (limits : Limits) (h : History) (actor : ℕ) (generate : Option ℕ) (before : Objects) (s : SessionView) → ByScript (Explained limits h actor) generate before s → (end : End) × (s.status ≡ status_of end s.receipts)
+explained-end limits h actor None before s explained = (explained.end, explained.by_end)
+explained-end limits h actor (Some n) before s scripted = (scripted.holds.end, scripted.holds.by_end)
+
+-- ---- a session that is served by a generated script
+
+stays_as : (before now : ℕ) (fault : Type 0) → now ≡ before → (fault → ⊥) → Rises before now fault
+stays_as before now fault same never = record { never_falls = same-later before now same; rose = λ f. absurd (never f); stays = λ other. same }
+
+-- a count that can't rise is never that of a fault
+no_fault : (fault : Type 0) → Rises 0 0 fault → fault → ⊥
+no_fault fault rises f = elim (rises.rose f) [ inl less ↦ omega (arith, less) | inr full ↦ omega (arith, full.0) ]
+
+-- a session that is to be served by it
+abbrev pub by_script : List ℕ → ℕ → Objects → OpenedView
+by_script name n before = record { name = name; generate = Some n; objects = before }
+
+-- it was read in place of the session's own source
+pub ServedOne-script : (limits : Limits) (old new : PassView) (actor n : ℕ) (name : List ℕ) (first now : ScriptState) (before : Objects) (s : SessionView) (end : End)
+    → first ≡ record { text = script n; at = 0; ended = false } → SessionEnds limits new.seen actor (with_source (script_told first) before.contents) (with_source (script_told now) s.objects.contents) s.receipts end → s.status ≡ status_of end s.receipts
+    → PassGoesOn old new s.receipts → s.objects.contents.source ≡ before.contents.source → s.objects.source_faults ≡ before.source_faults → Rises 0 0 (s.status ≡ 3) → Rises before.sink_faults s.objects.sink_faults (s.status ≡ 4)
+    → ServedOne limits old new actor (by_script name n before) (record { name = name; session = s })
+ServedOne-script limits old new actor n name first now before s end is_first so by_end goes_on source faults fault sink =
+    let unread = with_source (script_unread n) before.contents in
+    let from_first = subst (λ (f : ScriptState). SessionEnds limits new.seen actor (with_source (script_told f) before.contents) (with_source (script_told now) s.objects.contents) s.receipts end) is_first so in
+    let total = sum_by-cons (λ (x : EndedView). owns x.session.receipts) (record { name = name; session = s }) [] in
+    let none : all_owns [] ≡ 0 = refl in
+    let told = told-since n now from_first.bytes from_first.gave in
+    record {
+      passed = record { of = goes_on.of; worth = goes_on.worth; seen = goes_on.seen; made = omega (arith, goes_on.made, total, none) };
+      served = record {
+        named = refl;
+        explained = record {
+          source = source;
+          source_faults = faults;
+          at = now.at;
+          ended = now.ended;
+          holds = record { end = end; ends = subst (λ (v : SourceView). SessionEnds limits new.seen actor unread (with_source v s.objects.contents) s.receipts end) told from_first; by_end = by_end };
+        };
+        source = stays_as before.source_faults s.objects.source_faults (s.status ≡ 3) faults (no_fault (s.status ≡ 3) fault);
+        sink = sink;
+      };
+    }
+
+-- there was no room for it
+pub ServedOne-unserved : (limits : Limits) (pass : PassView) (actor n : ℕ) (name : List ℕ) (before : Objects) → ServedOne limits pass pass actor (by_script name n before) (unserved name before)
+ServedOne-unserved limits pass actor n name before = record {
+  passed = record { of = refl; worth = refl; seen = IsPrefix-refl pass.seen; made = sym (add-zero pass.made) };
+  served = record {
+    named = refl;
+    explained = record {
+      source = refl;
+      source_faults = refl;
+      at = 0;
+      ended = false;
+      holds = record {
+        end = ends.Short;
+        ends = SessionEnds-none limits actor pass.seen (with_source (script_unread n) before.contents);
+        by_end = refl;
+      };
+    };
+    source = stays_as before.source_faults before.source_faults (1 ≡ 3) refl (λ e. omega (arith, e));
+    sink = stays_as before.sink_faults before.sink_faults (1 ≡ 4) refl (λ e. omega (arith, e));
+  };
+}

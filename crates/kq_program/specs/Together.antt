@@ -1,0 +1,62 @@
+-- What sessions that are served together come to.
+use Rattle.std.specs.Prelude.{◌≡◌, ◌⊎◌, ◌+◌, ℕ, ℤ, Bool, List, [], ◌∷◌, Some, sum_by}
+use mathlib.Core.List.{IsPrefix}
+use Rattle.kq_world.specs.Outside.{SourceView}
+use Rattle.kq_world.specs.declared.outside.Parts.{Parts}
+use Rattle.kq_model.specs.declared.limits.Limits.{Limits}
+use Rattle.kq_model.specs.History.{History}
+use Rattle.kq_workers.specs.kq_engine.Shared.{PassView}
+use Rattle.kq_session.specs.Objects.{Objects, objects}
+use Rattle.kq_session.specs.Session.{Explained, owns}
+use Rattle.kq_session.specs.Exchanges.{Rises}
+use Rattle.kq_workers.specs.Rounds.{Works}
+use Rattle.kq_program.specs.Scripts.{ByScript}
+use Rattle.kq_program.specs.Views.{OpenedView, EndedView}
+
+-- the session of an actor was served: the history explains it by its script, and its faults have their causes
+pub record IsServed (limits : Limits) (h : History) (actor : ℕ) (o : OpenedView) (s : EndedView) : Type 0 where
+  pub named : s.name ≡ o.name
+  pub explained : ByScript (Explained limits h actor) o.generate o.objects s.session
+  pub source : Rises o.objects.source_faults s.session.objects.source_faults (s.session.status ≡ 3)
+  pub sink : Rises o.objects.sink_faults s.session.objects.sink_faults (s.session.status ≡ 4)
+
+-- a session that is to be served by the generated script of so many rows, its parts each by its own meanings
+abbrev pub scripted : {S K C : Type 0} → (S → SourceView) → (S → ℕ) → (K → List ℕ) → (K → ℕ) → (C → List ℤ) → List ℕ → ℕ → Parts S K C → OpenedView
+scripted told source_faults accepted sink_faults readings name rows parts = record { name = name; generate = Some rows; objects = objects told source_faults accepted sink_faults readings parts }
+
+-- a session that ended before its first receipt, for want of memory
+abbrev pub unserved : List ℕ → Objects → EndedView
+unserved name objects = record { name = name; session = record { objects = objects; receipts = []; status = 1 } }
+
+-- from the n-th session on, each was served
+abbrev pub AreServed : Limits → History → ℕ → List OpenedView → List EndedView → Type 0
+AreServed limits h n [] [] = Unit {0}
+AreServed limits h n [] (s ∷ ss) = ⊥
+AreServed limits h n (o ∷ os) [] = ⊥
+AreServed limits h n (o ∷ os) (s ∷ ss) = IsServed limits h n o s × AreServed limits h (n + 1) os ss
+
+-- how many commits the sessions' receipts tell
+abbrev pub all_owns : List EndedView → ℕ
+all_owns = sum_by (λ (s : EndedView). owns s.session.receipts)
+
+-- a pass went through sessions: it has seen at least as much, and the commits made through it since are theirs; a worker's
+-- went through none
+pub record Passed (old new : PassView) (sessions : List EndedView) : Type 0 where
+  pub of : new.of ≡ old.of
+  pub worth : new.worth ≡ old.worth
+  pub seen : IsPrefix old.seen new.seen
+  pub made : new.made ≡ old.made + all_owns sessions
+
+-- a worker's pass came back as it was, or after rounds of chores under the worker's actor
+abbrev pub RestsOrWorks : Limits → ℕ → PassView → PassView → Type 0
+RestsOrWorks limits actor old new = (new ≡ old) ⊎ ((short : Bool) × Works limits actor old new short)
+
+-- the session of an actor was served through a pass
+pub record ServedOne (limits : Limits) (old new : PassView) (actor : ℕ) (o : OpenedView) (s : EndedView) : Type 0 where
+  pub passed : Passed old new (s ∷ [])
+  pub served : IsServed limits new.seen actor o s
+
+-- all sessions were served through a pass
+pub record ServedAll (limits : Limits) (old new : PassView) (os : List OpenedView) (ss : List EndedView) : Type 0 where
+  pub passed : Passed old new ss
+  pub served : AreServed limits new.seen 0 os ss
