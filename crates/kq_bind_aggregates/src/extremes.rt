@@ -17,7 +17,7 @@ use kq_value::{Field, Memory, Ty};
 use std::alloc::Global;
 
 /// An end of an order.
-#[derive(Clone, Copy, Debug)]
+#[derive(Clone, Copy)]
 pub enum Extreme {
     Least,
     Greatest,

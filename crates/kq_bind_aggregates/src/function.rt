@@ -4,7 +4,7 @@ ghost use Rattle.kq_bind_aggregates.specs.Functions.{aggregate_named, first_aggr
 ghost use Rattle.kq_bind_aggregates.specs.Seen.{named_of};
 
 /// What an aggregate applies.
-#[derive(Clone, Copy, Debug)]
+#[derive(Clone, Copy)]
 pub enum AggregateFunction {
     Count,
     Sum,

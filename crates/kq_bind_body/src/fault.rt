@@ -4,7 +4,7 @@ use kq_bind_expression::BindFault;
 use kq_body::BodyFault;
 
 /// Why a query is bound to no body of a view. A place is an offset in the query's text.
-#[derive(Clone, Copy, Debug, PartialEq, Eq)]
+#[derive(Clone, Copy, PartialEq, Eq)]
 pub enum ViewFault {
     /// A literal that the language has and this engine doesn't take.
     Unsupported { at: usize },

@@ -5,7 +5,7 @@ ghost use Rattle.kq_bind_expression.specs.declared.fault.BindFault.TheVariants a
 use std::alloc::{AllocError, AllocFailed};
 
 /// Why a query isn't bound. A place is an offset in the query's text.
-#[derive(Clone, Copy, Debug, PartialEq, Eq)]
+#[derive(Clone, Copy, PartialEq, Eq)]
 pub enum BindFault {
     /// A literal that the language has and this engine doesn't take.
     Unsupported { at: usize },

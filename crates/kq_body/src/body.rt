@@ -90,7 +90,7 @@ fn lets_place(text: &str, lets: &[Let]) -> Option<usize>
 // ---- a pipe
 
 // What an operator may be in a view's body.
-#[derive(Clone, Copy, Debug, PartialEq, Eq)]
+#[derive(Clone, Copy, PartialEq, Eq)]
 pub(crate) enum Role {
     Row,
     Summarize,

@@ -23,7 +23,7 @@ pub struct Derived {
 }
 
 /// Why nothing comes of a batch.
-#[derive(Clone, Copy, Debug, PartialEq, Eq)]
+#[derive(Clone, Copy, PartialEq, Eq)]
 pub enum CascadeFault {
     /// A transactional entry of the batch failed: the target of the entry whose query failed, and the cause.
     PolicyFailed { target: u32, cause: Cause },

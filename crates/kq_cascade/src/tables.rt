@@ -15,7 +15,7 @@ use kq_value::{Field, Memory};
 use std::alloc::Global;
 
 /// Why the query of an entry gives no rows.
-#[derive(Clone, Copy, Debug, PartialEq, Eq)]
+#[derive(Clone, Copy, PartialEq, Eq)]
 pub enum QueryFault {
     Fails(Cause),
     Memory,

@@ -14,7 +14,7 @@ pub struct Merging {
 }
 
 /// Why a merge isn't staged.
-#[derive(Clone, Copy, Debug, PartialEq, Eq)]
+#[derive(Clone, Copy, PartialEq, Eq)]
 pub enum MergeFault {
     /// The first of the old extents, which has this id, is no longer in the table.
     Moved { id: u64 },

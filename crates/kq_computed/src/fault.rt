@@ -5,7 +5,7 @@ ghost use Rattle.kq_computed.specs.declared.fault.EvalFault.TheVariants.{Memory}
 use std::alloc::{AllocError, AllocFailed};
 
 /// Why an evaluation gives no value.
-#[derive(Clone, Copy, Debug, PartialEq, Eq)]
+#[derive(Clone, Copy, PartialEq, Eq)]
 pub enum EvalFault {
     /// A result is outside its type.
     Overflow,

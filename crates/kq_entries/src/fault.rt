@@ -3,7 +3,7 @@ use kq_model::Why;
 use std::alloc::{AllocError, AllocFailed};
 
 /// Why a text gives no entries of an update policy.
-#[derive(Debug, Drop)]
+#[derive(Drop)]
 pub enum EntriesFault {
     /// The array has more elements than the limit.
     Full { limit: u64 },
@@ -35,7 +35,7 @@ impl<T: Drop> From<AllocFailed<T>> for EntriesFault {
 }
 
 // Why one element is no entry.
-#[derive(Debug, Drop)]
+#[derive(Drop)]
 pub(crate) enum EntryFault {
     Bad(Why),
     Memory,

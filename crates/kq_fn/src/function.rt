@@ -2,7 +2,7 @@
 use kq_strings::FindKind;
 
 /// What an expression applies: an operator or a function. One that has two names is here once.
-#[derive(Clone, Copy, Debug)]
+#[derive(Clone, Copy)]
 pub enum Function {
     /// `a + b`
     Add,

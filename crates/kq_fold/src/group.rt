@@ -12,7 +12,7 @@ use kq_value::Memory;
 use std::alloc::Global;
 
 /// Why there are no groups of rows.
-#[derive(Clone, Copy, Debug, PartialEq, Eq, Drop)]
+#[derive(Clone, Copy, PartialEq, Eq, Drop)]
 pub enum GroupFault {
     /// A result was outside its type, at the stage of this number.
     Overflow { stage: u32 },

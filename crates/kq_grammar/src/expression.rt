@@ -12,7 +12,7 @@ pub enum Name {
 }
 
 /// Operators of one precedence, of which operands stand in a chain.
-#[derive(Clone, Copy, Debug, PartialEq, Eq)]
+#[derive(Clone, Copy, PartialEq, Eq)]
 pub enum Level {
     /// `or`
     Disjunction,

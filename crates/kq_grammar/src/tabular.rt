@@ -130,7 +130,7 @@ pub struct Query {
 }
 
 /// Which operator a word begins. Words of one meaning have one key.
-#[derive(Clone, Copy, Debug, PartialEq, Eq)]
+#[derive(Clone, Copy, PartialEq, Eq)]
 pub enum OperatorKey {
     Where,
     Extend,

@@ -10,4 +10,3 @@ mod merged;
 
 pub use aggregated::Aggregated;
 pub use groups::{Groups, group_rows};
-pub use kq_agg::Kind;

@@ -5,7 +5,7 @@ ghost use Rattle.kq_ingest.specs.declared.fault.IngestFault.TheVariants as fault
 use std::alloc::{AllocError, AllocFailed};
 
 /// Why a body gives no rows.
-#[derive(Clone, Copy, Debug, PartialEq, Eq)]
+#[derive(Clone, Copy, PartialEq, Eq)]
 pub enum IngestFault {
     /// The record with this number, from 1, has more cells than there are columns.
     WideRow { row: u64 },

@@ -79,7 +79,7 @@ impl Batches {
 
 /// An entry of an update policy that failed and left nothing but this: the table whose batch it was run for, its own
 /// target, the target of the entry whose query failed, and the cause. Tables go by number.
-#[derive(Clone, Copy, Debug)]
+#[derive(Clone, Copy)]
 pub struct Failure {
     pub source: u32,
     pub target: u32,
@@ -88,14 +88,14 @@ pub struct Failure {
 }
 
 /// A failure with the cursor of the commit that noted it.
-#[derive(Clone, Copy, Debug)]
+#[derive(Clone, Copy)]
 pub struct Noted {
     pub cursor: u64,
     pub failure: Failure,
 }
 
 /// The failures of one commit, in order. Contracts see their list.
-#[derive(Debug, Drop)]
+#[derive(Drop)]
 pub struct Failures {
     failures: Vec<Failure>,
 }

@@ -8,7 +8,7 @@ use crate::view::SharedView;
 use kq_value::{Schema, Text};
 
 /// The request id of a command: who asked, and with which of its commands, counted from 1.
-#[derive(Clone, Copy, Debug)]
+#[derive(Clone, Copy)]
 pub struct By {
     pub actor: u32,
     pub number: u64,

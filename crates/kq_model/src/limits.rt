@@ -2,7 +2,7 @@
 ghost use Rattle.std.specs.Prelude.{◌≤◌, ◌^◌, ◌-◌};
 
 /// What a catalogue may hold. No field is above the number that the program uses.
-#[derive(Clone, Copy, Debug)]
+#[derive(Clone, Copy)]
 pub struct Limits {
     /// Tables.
     pub tables: u64,

@@ -65,7 +65,7 @@ impl Entries {
 }
 
 /// An enabled entry, by its target and its place in the target's policy, from 0. Tables go by number.
-#[derive(Clone, Copy, Debug, PartialEq, Eq)]
+#[derive(Clone, Copy, PartialEq, Eq)]
 pub struct Due {
     pub target: u32,
     pub place: usize,

@@ -11,7 +11,7 @@ use kq_syntax::{Cursor, Stop, Symbol};
 use std::alloc::Global;
 
 /// Why symbols are no query, or no command. Places are offsets of bytes.
-#[derive(Clone, Copy, Debug, PartialEq, Eq)]
+#[derive(Clone, Copy, PartialEq, Eq)]
 pub enum ParseFault {
     /// None has this symbol here.
     Syntax { at: usize },

@@ -6,7 +6,7 @@ ghost use Rattle.kq_plan.specs.Names.{Known, known_of};
 use kq_expr::{Schema, Text};
 
 /// What a name of a catalogue stands for.
-#[derive(Clone, Copy, Debug, PartialEq, Eq)]
+#[derive(Clone, Copy, PartialEq, Eq)]
 pub enum NameKind {
     Table,
     View,

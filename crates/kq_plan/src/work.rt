@@ -3,7 +3,7 @@
 use kq_expr::{Expr, Text, Ty, Value};
 
 /// Which rows a leaf gives.
-#[derive(Clone, Copy, Debug, PartialEq, Eq)]
+#[derive(Clone, Copy, PartialEq, Eq)]
 pub enum LeafKind {
     /// The records of a table.
     Table,
@@ -14,7 +14,7 @@ pub enum LeafKind {
 }
 
 /// Which rows a join gives.
-#[derive(Clone, Copy, Debug, PartialEq, Eq)]
+#[derive(Clone, Copy, PartialEq, Eq)]
 pub enum JoinKind {
     InnerUnique,
     Inner,

@@ -2,7 +2,7 @@
 use kq_value::Text;
 
 /// An entry of an update policy, as its object writes it.
-#[derive(Debug, Drop)]
+#[derive(Drop)]
 pub struct Written {
     /// `IsEnabled`, true where it is missing.
     pub enabled: bool,

@@ -5,7 +5,7 @@ ghost use Rattle.kq_policy_json.specs.declared.fault.JsonFault.TheVariants as fa
 use std::alloc::{AllocError, AllocFailed};
 
 /// Why a text gives no entries.
-#[derive(Clone, Copy, Debug, PartialEq, Eq)]
+#[derive(Clone, Copy, PartialEq, Eq)]
 pub enum JsonFault {
     /// The text is no JSON, or the JSON of something else than an array.
     NoArray,

@@ -13,7 +13,7 @@ use std::alloc::{AllocError, Global};
 const MOST_ROWS: u64 = 1_048_576;
 
 /// Why there are no rows of a range.
-#[derive(Clone, Copy, Debug, PartialEq, Eq)]
+#[derive(Clone, Copy, PartialEq, Eq)]
 pub enum RangeFault {
     /// There are more rows than this.
     Full { limit: u64 },

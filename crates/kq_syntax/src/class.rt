@@ -7,7 +7,7 @@ use crate::word::{ClauseWord, ControlWord, OperatorWord, ReservedWord, SourceWor
 use kq_token::{DashedWord, Operator, Punctuation, Side, WordOperator};
 
 /// A class of symbols, by their kinds.
-#[derive(Clone, Copy, Debug, PartialEq, Eq)]
+#[derive(Clone, Copy, PartialEq, Eq)]
 pub enum Class {
     Reserved(ReservedWord),
     Source(SourceWord),

@@ -4,7 +4,7 @@ use crate::word::{JoinKind, Word};
 use kq_token::{DashedWord, Operator, Punctuation, Side, WordOperator};
 
 /// What a symbol is, as far as the grammar asks.
-#[derive(Clone, Copy, Debug, PartialEq, Eq)]
+#[derive(Clone, Copy, PartialEq, Eq)]
 pub enum Kind {
     Word(Word),
     DashedWord(DashedWord),
@@ -21,14 +21,14 @@ pub enum Kind {
 }
 
 /// What the text of a string says: a join's kind may stand in quotes and brackets.
-#[derive(Clone, Copy, Debug, PartialEq, Eq)]
+#[derive(Clone, Copy, PartialEq, Eq)]
 pub enum Quoted {
     JoinKind(JoinKind),
     Other,
 }
 
 /// A token with its kind: `from` is the offset of its first byte, `to` that behind its last.
-#[derive(Clone, Copy, Debug, PartialEq, Eq)]
+#[derive(Clone, Copy, PartialEq, Eq)]
 pub struct Symbol {
     pub kind: Kind,
     pub from: usize,

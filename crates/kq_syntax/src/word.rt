@@ -3,7 +3,7 @@ ghost use Rattle.std.specs.Prelude.{◌≡◌};
 ghost use Rattle.kq_syntax.specs.Words.{clause_word_spelling, control_word_spelling, join_kind_spelling, known_word, operator_word_spelling, reserved_word_spelling, source_word_spelling, spelling as spelled, spells_word, word_of as word_at};
 
 /// A word that is no name unless it stands in brackets.
-#[derive(Clone, Copy, Debug, PartialEq, Eq)]
+#[derive(Clone, Copy, PartialEq, Eq)]
 pub enum ReservedWord {
     And,
     Or,
@@ -24,7 +24,7 @@ pub enum ReservedWord {
 }
 
 /// A word that a source begins with.
-#[derive(Clone, Copy, Debug, PartialEq, Eq)]
+#[derive(Clone, Copy, PartialEq, Eq)]
 pub enum SourceWord {
     Print,
     Range,
@@ -34,7 +34,7 @@ pub enum SourceWord {
 }
 
 /// A word that an operator begins with, behind a pipe.
-#[derive(Clone, Copy, Debug, PartialEq, Eq)]
+#[derive(Clone, Copy, PartialEq, Eq)]
 pub enum OperatorWord {
     Where,
     Filter,
@@ -52,7 +52,7 @@ pub enum OperatorWord {
 }
 
 /// A word within a source or an operator.
-#[derive(Clone, Copy, Debug, PartialEq, Eq)]
+#[derive(Clone, Copy, PartialEq, Eq)]
 pub enum ClauseWord {
     From,
     To,
@@ -69,7 +69,7 @@ pub enum ClauseWord {
 }
 
 /// How a join pairs rows, and which columns it gives.
-#[derive(Clone, Copy, Debug, PartialEq, Eq)]
+#[derive(Clone, Copy, PartialEq, Eq)]
 pub enum JoinKind {
     InnerUnique,
     Inner,
@@ -83,7 +83,7 @@ pub enum JoinKind {
 }
 
 /// A word of the control commands.
-#[derive(Clone, Copy, Debug, PartialEq, Eq)]
+#[derive(Clone, Copy, PartialEq, Eq)]
 pub enum ControlWord {
     Create,
     Table,
@@ -108,7 +108,7 @@ pub enum ControlWord {
 }
 
 /// What a word says. A word of the language is one only in its places; elsewhere all but the reserved ones are names.
-#[derive(Clone, Copy, Debug, PartialEq, Eq)]
+#[derive(Clone, Copy, PartialEq, Eq)]
 pub enum Word {
     Reserved(ReservedWord),
     Source(SourceWord),

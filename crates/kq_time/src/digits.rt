@@ -70,7 +70,7 @@ fn decimal_at(decimals: &[u8], place: usize) -> u8
 }
 
 // The parts of a text between separators.
-#[derive(Clone, Copy, Debug)]
+#[derive(Clone, Copy)]
 pub(crate) enum Parts<'a> {
     One(&'a [u8]),
     Two(&'a [u8], &'a [u8]),

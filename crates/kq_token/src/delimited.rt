@@ -6,7 +6,7 @@ ghost use Rattle.kq_token.specs.Scanning.{closing_len};
 use crate::bytes::is_hexadecimal_digit;
 
 /// Where the next byte stands.
-#[derive(Clone, Copy, Debug)]
+#[derive(Clone, Copy)]
 pub enum Within {
     /// In a string of this quote.
     Quoted(u8),
@@ -28,7 +28,7 @@ pub enum Within {
 }
 
 /// Why nothing goes on behind a byte.
-#[derive(Clone, Copy, Debug)]
+#[derive(Clone, Copy)]
 pub enum End {
     /// It closes what it stands in.
     Closed,

@@ -9,7 +9,7 @@ use crate::delimited::{End, Within, closing_len};
 use crate::kind::LiteralWord;
 
 /// How the next byte within `dynamic(..)` is read.
-#[derive(Clone, Copy, Debug)]
+#[derive(Clone, Copy)]
 pub enum Quoting {
     Outside,
     /// In double quotes.
@@ -19,7 +19,7 @@ pub enum Quoting {
 }
 
 /// Where the next byte within `dynamic(..)` stands.
-#[derive(Clone, Copy, Debug)]
+#[derive(Clone, Copy)]
 pub struct Nesting {
     /// How many brackets are open.
     pub depth: usize,

@@ -8,7 +8,7 @@ use std::alloc::AllocFailed;
 use std::marker::Model;
 
 /// A token and its place: `from` is the offset of its first byte, `to` that behind its last.
-#[derive(Clone, Copy, Debug, PartialEq, Eq)]
+#[derive(Clone, Copy, PartialEq, Eq)]
 pub struct Token {
     pub kind: TokenKind,
     pub from: usize,
@@ -16,7 +16,7 @@ pub struct Token {
 }
 
 /// Why a text has no tokens.
-#[derive(Debug, Drop)]
+#[derive(Drop)]
 pub enum LexFault {
     /// The text isn't all tokens, and `at` is the first byte where none starts.
     Syntax { at: usize },

@@ -85,7 +85,7 @@ pub trait Clock: Drop {
 
 /// A point that a session or a worker comes to. Actors 0 to 7 are sessions, 8 to 15 workers; an actor's commands are
 /// numbered from 1.
-#[derive(Clone, Copy, Debug, PartialEq, Eq)]
+#[derive(Clone, Copy, PartialEq, Eq)]
 pub enum Point {
     /// A command was read, and is not answered yet.
     Starting { actor: u32, number: u64 },
