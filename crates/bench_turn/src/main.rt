@@ -28,18 +28,11 @@ struct Still;
 impl Grows for Still {
     type Entry = u64;
 
-    ghost use Rattle.std.specs.Prelude.{[], length, refl};
-    ghost use Rattle.std.proofs.Common.{length-append};
+    ghost use Rattle.std.specs.Prelude.{[]};
 
     ghost history = { λ _. [] };
 
-    ghost tally = { length };
-
     ghost fixed = { λ _. [] };
-
-    ghost tally_nil = { refl };
-
-    ghost tally_append = { length-append };
 
     fn count(&self) -> u64 {
         0

@@ -1,5 +1,5 @@
 -- A command that makes a commit isn't refused.
-use Rattle.std.proofs.Common.{◌≡◌, ℕ, refl, ap, ◌∙◌}
+use Rattle.std.proofs.Common.{◌≡◌, ℕ, refl, ap, sym, ◌∙◌, subst}
 use Rattle.kq_model.specs.declared.event.Commit.{Commit}
 use Rattle.kq_model.specs.declared.event.Commit.TheVariants as commits
 use Rattle.kq_model.specs.declared.limits.Limits.{Limits}
@@ -7,9 +7,10 @@ use Rattle.kq_model.specs.History.{Log}
 use Rattle.kq_command.specs.declared.command.Command.{Command}
 use Rattle.kq_command.specs.declared.command.Command.TheVariants.{Query, Show, Change, Merge, Unbuilt, Fold}
 use Rattle.kq_reply.specs.declared.reply.Reply.{Reply}
+use Rattle.kq_reply.specs.declared.reply.Reply.TheVariants as replies
 use Rattle.kq_reply.specs.Number.{kind_of}
 use Rattle.kq_engine.specs.Due.{reply_to}
-use Rattle.kq_engine.specs.Fits.{Makes}
+use Rattle.kq_engine.specs.Fits.{IsGranted, Makes}
 
 granted : (c : Commit) (cursor : ℕ) → kind_of (reply_to c cursor) ≡ 0
 granted (commits.CreateTable name schema) cursor = refl
@@ -26,3 +27,33 @@ Accept-commit limits l (Change change) reply c makes = ap kind_of makes.1 ∙ gr
 Accept-commit limits l (Merge table) reply c makes = absurd makes
 Accept-commit limits l (Fold view) reply c makes = absurd makes
 Accept-commit limits l Unbuilt reply c makes = absurd makes
+
+reply_to-granted : (c : Commit) (cursor : ℕ) → IsGranted (reply_to c cursor)
+reply_to-granted (commits.CreateTable name schema) cursor = λ r e. cc
+reply_to-granted (commits.SetPolicy table entries) cursor = λ r e. cc
+reply_to-granted (commits.CreateView view) cursor = λ r e. cc
+reply_to-granted (commits.AlterMerge table columns) cursor = λ r e. cc
+reply_to-granted (commits.Ingest batches failures) cursor = λ r e. cc
+
+-- the reply beside a commit is no refusal
+pub Makes-granted : (limits : Limits) (l : Log) (asked : Command) (reply : Reply) (c : Commit) → Makes limits l asked reply c → IsGranted reply
+Makes-granted limits l (Query query) reply c makes = absurd makes
+Makes-granted limits l (Show show) reply c makes = absurd makes
+Makes-granted limits l (Change change) reply c makes = subst IsGranted (sym makes.1) (reply_to-granted c _)
+Makes-granted limits l (Merge table) reply c makes = absurd makes
+Makes-granted limits l (Fold view) reply c makes = absurd makes
+Makes-granted limits l Unbuilt reply c makes = absurd makes
+
+-- a reply that is no refusal has the kind 0
+pub granted_kind : (reply : Reply) → IsGranted reply → kind_of reply ≡ 0
+granted_kind (replies.Done cursor) granted = refl
+granted_kind (replies.Kept cursor) granted = refl
+granted_kind (replies.Ingested cursor rows) granted = refl
+granted_kind (replies.Skipped cursor) granted = refl
+granted_kind (replies.Folded cursor) granted = refl
+granted_kind (replies.Merged extents) granted = refl
+granted_kind replies.Nothing granted = refl
+granted_kind (replies.Rows text) granted = refl
+granted_kind replies.Exporting granted = refl
+granted_kind (replies.Exported from to rows) granted = refl
+granted_kind (replies.Refused r) granted = absurd (granted r refl)

@@ -13,8 +13,9 @@ use Rattle.kq_command.specs.declared.command.Command.{Command}
 use Rattle.kq_engine.specs.declared.work.Outcome.{Outcome}
 use Rattle.kq_reply.specs.declared.reply.Reply.{Reply}
 use Rattle.kq_engine.specs.declared.work.Work.{Work}
-use Rattle.kq_engine.specs.Fits.{AnswersCommand, FitsNow, Fits, Tends, Tended, Acts, Appends, Advances, own_commit}
+use Rattle.kq_engine.specs.Fits.{AnswersCommand, FitsNow, Fits, Performs, Tends, Tended, Acts, Appends, Advances, own_commit}
 use Rattle.kq_engine.specs.Merges.{IsMergedBy, IsSettled, NamesAll}
+use Rattle.kq_engine.proofs.Accepting.{Makes-granted}
 use Rattle.kq_engine.proofs.Acting.{Acts-since}
 use Rattle.kq_engine.proofs.Telling.{Makes-still, settled_requested, settled_names, still_requested, still_names}
 
@@ -44,6 +45,12 @@ Appends-none limits h request command place reply = record {
 }
 
 -- what a command makes beside its reply is no commit
+-- what is made beside a reply is the command's
+tends_performs : (limits : Limits) (old : History) (command : Command) (reply : Reply) (made : Operation) → Tends limits old command reply made → Performs limits old command reply made
+tends_performs limits old command reply (operation.Commit c) tends = absurd tends
+tends_performs limits old command reply (operation.Fold view to) tends = tends
+tends_performs limits old command reply (operation.Merge table ids new) tends = tends
+
 tends_no_commit : (limits : Limits) (old : History) (command : Command) (reply : Reply) (made : Operation) → Tends limits old command reply made → commits_of made ≡ []
 tends_no_commit limits old command reply (operation.Commit c) tends = absurd tends
 tends_no_commit limits old command reply (operation.Fold view to) tends = refl
@@ -55,7 +62,7 @@ tended_appends limits old new work began place reply tended =
     let none : commit_at event (length old + 1) ≡ [] = ap (map (λ (c : Commit). let m : CommitAt = record { place = length old + 1; by = work.by } in m)) (tends_no_commit limits old work.command reply tended.made tended.tends) in
     record {
       made = Some tended.made;
-      may_make = inr (tended.tends, tended.granted);
+      may_make = (tended.granted, tends_performs limits old work.command reply tended.made tended.tends);
       appended = tended.appended;
       commits = ap commits_at tended.appended ∙ commits_at-push old event ∙ ap (λ (more : List CommitAt). commits_at old ++ more) none;
     }
@@ -72,7 +79,7 @@ acts_at limits old new work began place true reply since acts =
     record {
       appends = record {
         made = Some (operation.Commit c);
-        may_make = inl tt;
+        may_make = (Makes-granted limits (log old) work.command reply c acts.1.2, acts.1.2);
         appended = is;
         commits = ap commits_at is ∙ commits_at-push old _ ∙ ap (λ (n : ℕ). commits_at old ++ own_commit true n work.by) (sym longer ∙ sym acts.0);
       };

@@ -1,11 +1,15 @@
 -- How many commits a history has, and how many one outcome made.
-use Rattle.std.proofs.Common.{◌≡◌, ℕ, ◌+◌, Bool, true, false, [], ◌∷◌, ◌++◌, length, refl, ap, sym, ◌∙◌, arith, length-append}
+use Rattle.std.proofs.Common.{◌≡◌, ℕ, ◌+◌, Bool, true, false, cond, count_by, [], ◌∷◌, ◌++◌, length, refl, ap, sym, ◌∙◌, arith, length-append}
 use Rattle.std.proofs.lemmas.List.{length-map}
+use Rattle.std.proofs.lemmas.List.Sums.{sum_by-cons}
 use mathlib.Core.List.{IsPrefix}
 use Rattle.kq_turn.specs.Histories.{gained}
 use Rattle.kq_turn.proofs.Beginnings.{append-gained}
 use Rattle.kq_model.specs.declared.event.By.{By}
 use Rattle.kq_model.specs.declared.event.Commit.{Commit}
+use Rattle.kq_model.specs.declared.event.Event.{Event}
+use Rattle.kq_model.specs.declared.event.Operation.{Operation}
+use Rattle.kq_model.specs.declared.event.Operation.TheVariants as operation
 use Rattle.kq_model.specs.History.{History, CommitAt, log, cursor, commits_of, commit_at, commits_from, commits_at}
 use Rattle.kq_model.proofs.Histories.{log-append}
 use Rattle.kq_engine.specs.Fits.{own_commit}
@@ -27,7 +31,7 @@ pub length-own_commit : (own : Bool) (place : ℕ) (by : By) → length (own_com
 length-own_commit true place by = refl
 length-own_commit false place by = refl
 
-cursor-append : (h more : History) → cursor (h ++ more) ≡ cursor h + cursor more
+pub cursor-append : (h more : History) → cursor (h ++ more) ≡ cursor h + cursor more
 cursor-append h more = ap length (log-append h more) ∙ length-append (log h) (log more)
 
 -- what a history gained has just the commits of the outcome that it gained them by
@@ -37,3 +41,28 @@ cursor-gained old new own place by begins commits =
     let more : cursor new ≡ length (commits_at old) + commit_count own = sym (length-commits_at new) ∙ ap length commits ∙ length-append (commits_at old) (own_commit own place by) ∙ ap (λ (k : ℕ). length (commits_at old) + k) (length-own_commit own place by) in
     let before : length (commits_at old) ≡ cursor old = length-commits_at old in
     omega (arith, whole, more, before)
+
+-- ---- the commits among events
+
+abbrev is_commit : Operation → Bool
+is_commit (operation.Commit c) = true
+is_commit (operation.Fold view to) = false
+is_commit (operation.Merge table ids new) = false
+
+abbrev pub is_commit_event : Event → Bool
+is_commit_event e = is_commit e.operation
+
+one_commit : (o : Operation) → length (commits_of o) ≡ cond (is_commit o) 1 0
+one_commit (operation.Commit c) = refl
+one_commit (operation.Fold view to) = refl
+one_commit (operation.Merge table ids new) = refl
+
+-- as many as there are events that are commits
+pub commits_counted : (h : History) → cursor h ≡ count_by is_commit_event h
+commits_counted [] = refl
+commits_counted (e ∷ h) =
+    let rest = commits_counted h in
+    let one = one_commit e.operation in
+    let whole = length-append (commits_of e.operation) (log h) in
+    let counted = sum_by-cons (λ (x : Event). cond (is_commit x.operation) 1 0) e h in
+    omega (arith, rest, one, whole, counted)

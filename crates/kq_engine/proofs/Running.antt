@@ -19,7 +19,7 @@ use Rattle.kq_reply.specs.declared.reply.Reply.{Reply}
 use Rattle.kq_engine.specs.declared.work.Work.{Work}
 use Rattle.kq_engine.specs.declared.work.Ready.{Ready}
 use Rattle.kq_engine.specs.declared.work.Ready.TheVariants as readies
-use Rattle.kq_engine.specs.Fits.{Fits, FitsNow, Advances, event_by, own_commit}
+use Rattle.kq_engine.specs.Fits.{Fits, FitsNow, Advances, MayMake, event_by, own_commit}
 use Rattle.kq_engine.specs.Found.{IsPrepared, IsReady, MayWantMemory, TakesMemory, TakesToFinish, WantsToFinish}
 use Rattle.kq_engine.specs.Merges.{IsStill, NamesAll}
 use Rattle.kq_engine.proofs.Telling.{still_requested, still_names}
@@ -29,7 +29,7 @@ use Rattle.kq_command.specs.declared.command.Command.{Command}
 use Rattle.kq_reply.specs.declared.refusal.Refusal.{Refusal}
 use Rattle.kq_reply.specs.declared.refusal.Refusal.TheVariants as refusals
 use Rattle.kq_reply.specs.declared.reply.Reply.TheVariants as replies
-use Rattle.kq_engine.specs.Steps.{work_of, place_of, is_finished, request_of, opens, tells, commits_told, Moment, start, IsBare, Tells, Accounts, ByStep, Leads, Runs, IsOpen, IsRun, IsAt, one_if_some}
+use Rattle.kq_engine.specs.Steps.{work_of, place_of, is_finished, request_of, opens, tells, commits_told, Moment, start, IsBare, Tells, Accounts, ByStep, Leads, TellsOf, Runs, IsOpen, IsRun, IsAt, one_if_some}
 use Rattle.kq_engine.proofs.Bringing.{folding_finds, folding_outside}
 use Rattle.kq_engine.proofs.Advancing.{Fits-append, Fits-end}
 use Rattle.kq_engine.proofs.Stepping.{same_by-true, same_by-itself, work_of-append, work_of-new, place_of-append, place_of-new, one-begin, one-finish, is_finished-begin, is_finished-finish, is_finished-begun, is_finished-append, is_finished-now}
@@ -67,8 +67,8 @@ IsOpen-later limits xs ys found more h new made os all is p open_one =
       found = place_of-append p.work.by xs ys found more p.place open_one.found;
     }
 
-Runs-push : (limits : Limits) (old : Moment) (xs : List Step) (m : Moment) (s : Step) (next : Moment) → Runs limits old xs m → Leads m s next → Accounts limits next → Runs limits old (xs ++ s ∷ []) next
-Runs-push limits old [] m s next runs leads accounts = (next, subst (λ (from : Moment). Leads from s next) (sym runs) leads, accounts, refl)
+Runs-push : (limits : Limits) (old : Moment) (xs : List Step) (m : Moment) (s : Step) (next : Moment) → Runs limits old xs m → Leads limits m s next → Accounts limits next → Runs limits old (xs ++ s ∷ []) next
+Runs-push limits old [] m s next runs leads accounts = (next, subst (λ (from : Moment). Leads limits from s next) (sym runs) leads, accounts, refl)
 Runs-push limits old (x ∷ xs) m s next runs leads accounts = (runs.0, runs.1, runs.2, Runs-push limits runs.0 xs m s next runs.3 leads accounts)
 
 few : (m : Option Work) (o t : ℕ) → o + t ≡ one_if_some m → t ≤ 1
@@ -80,17 +80,17 @@ all_told o t k e z one = omega arith
 
 -- one more step
 go_on : (limits : Limits) (xs : List Step) (s : Step) (old new : CatalogView) (open_ones left : List Prepared) (outcomes all : List Told) (made : Option Operation) (gave : List Told) (run : IsRun limits xs old open_ones outcomes) → new.limits ≡ old.limits → new.history ≡ old.history ++ event_by (request_of s) made → all ≡ outcomes ++ gave
-    → length gave ≤ 1 → All (λ (t : Told). t.by ≡ request_of s) gave → (gave ≡ [] → made ≡ None) → ByStep xs s made gave
+    → length gave ≤ 1 → All (λ (t : Told). t.by ≡ request_of s) gave → (gave ≡ [] → made ≡ None) → All (TellsOf limits (moment xs run.found old.history outcomes) (xs ++ s ∷ []) made) gave → ByStep xs s made gave
     → All (IsOpen limits (moment (xs ++ s ∷ []) (run.found ++ length old.history ∷ []) new.history all)) left
     → All (Tells limits (moment (xs ++ s ∷ []) (run.found ++ length old.history ∷ []) new.history all)) all
     → commits_at new.history ≡ commits_told all
     → ((b : By) → count_by (opens b) left + count_by (tells b) all ≡ one_if_some (work_of b (xs ++ s ∷ [])))
     → ((b : By) → is_finished b (xs ++ s ∷ []) ≡ true → count_by (opens b) left ≡ 0)
     → IsRun limits (xs ++ s ∷ []) new left all
-go_on limits xs s old new open_ones left outcomes all made gave run kept more told one requested no_more by_step waiting each commits once gone =
+go_on limits xs s old new open_ones left outcomes all made gave run kept more told one requested no_more makes by_step waiting each commits once gone =
     let m : Moment = moment xs run.found old.history outcomes in
     let next : Moment = moment (xs ++ s ∷ []) (run.found ++ length old.history ∷ []) new.history all in
-    let leads : Leads m s next = record { steps = refl; found = refl; made = made; history = more; gave = gave; outcomes = told; one = one; requested = requested; no_more = no_more; by_step = by_step } in
+    let leads : Leads limits m s next = record { steps = refl; found = refl; made = made; history = more; gave = gave; outcomes = told; one = one; requested = requested; no_more = no_more; makes = makes; by_step = by_step } in
     let accounts : Accounts limits next = record {
       each = each;
       commits = commits;
@@ -118,7 +118,7 @@ skip : (limits : Limits) (xs : List Step) (s : Step) (catalog : CatalogView) (op
 skip limits xs s catalog open_ones outcomes run by_step same none =
     let stays : catalog.history ≡ catalog.history ++ [] = sym (append-nil catalog.history) in
     go_on limits xs s catalog catalog open_ones open_ones outcomes outcomes None [] run refl stays (sym (append-nil outcomes))
-    (omega arith) (All-nil (λ (t : Told). t.by ≡ request_of s)) (λ e. refl) by_step
+    (omega arith) (All-nil (λ (t : Told). t.by ≡ request_of s)) (λ e. refl) (All-nil (TellsOf limits (moment xs run.found catalog.history outcomes) (xs ++ s ∷ []) None)) by_step
     (All-weaker _ _ (IsOpen-later limits xs (s ∷ []) run.found (length catalog.history ∷ []) catalog.history catalog.history [] outcomes outcomes stays) open_ones run.waiting)
     (All-weaker _ _ (Tells-later limits xs (s ∷ []) run.found (length catalog.history ∷ []) catalog.history catalog.history [] outcomes outcomes stays) outcomes run.each)
     run.commits (λ b. run.once b ∙ sym (same b)) none
@@ -172,7 +172,7 @@ begin_open limits xs w catalog open_ones outcomes p none_open none_told same pre
     let found = run.found ++ length catalog.history ∷ [] in
     let next : Moment = moment (xs ++ Begin w ∷ []) found catalog.history outcomes in
     go_on limits xs (Begin w) catalog catalog open_ones (open_ones ++ p ∷ []) outcomes outcomes None [] run refl stays (sym (append-nil outcomes))
-    (omega arith) (All-nil (λ (t : Told). t.by ≡ w.by)) (λ e. refl) (refl, λ first asked. refl)
+    (omega arith) (All-nil (λ (t : Told). t.by ≡ w.by)) (λ e. refl) (All-nil (TellsOf limits (moment xs run.found catalog.history outcomes) (xs ++ Begin w ∷ []) None)) (refl, λ first asked. refl)
     (All-push (IsOpen limits next) open_ones p
     (All-weaker _ _ (IsOpen-later limits xs (Begin w ∷ []) run.found (length catalog.history ∷ []) catalog.history catalog.history [] outcomes outcomes stays) open_ones run.waiting)
     (record {
@@ -209,7 +209,10 @@ begin_refused limits xs w catalog open_ones outcomes place reply none_open none_
     let all = outcomes ++ t ∷ [] in
     let next : Moment = moment (xs ++ Begin w ∷ []) found catalog.history all in
     go_on limits xs (Begin w) catalog catalog open_ones open_ones outcomes all None (t ∷ []) run refl stays refl
-    (omega arith) (All-push (λ (u : Told). u.by ≡ w.by) [] t (All-nil (λ (u : Told). u.by ≡ w.by)) refl) (λ e. refl) (refl, not_begun (work_of w.by xs) (t ∷ []) zero)
+    (omega arith) (All-push (λ (u : Told). u.by ≡ w.by) [] t (All-nil (λ (u : Told). u.by ≡ w.by)) refl) (λ e. refl)
+    (let tells_none : Told → Type 0 = TellsOf limits (moment xs run.found catalog.history outcomes) (xs ++ Begin w ∷ []) None in
+    All-push tells_none [] t (All-nil tells_none) (w, work_new w.by xs w zero (same_by-itself w.by), tt))
+    (refl, not_begun (work_of w.by xs) (t ∷ []) zero)
     (All-weaker _ _ (IsOpen-later limits xs (Begin w ∷ []) run.found (length catalog.history ∷ []) catalog.history catalog.history [] outcomes all stays) open_ones run.waiting)
     (All-push (Tells limits next) outcomes t
     (All-weaker _ _ (Tells-later limits xs (Begin w ∷ []) run.found (length catalog.history ∷ []) catalog.history catalog.history [] outcomes all stays) outcomes run.each)
@@ -264,7 +267,11 @@ finish_open limits xs c old new open_ones outcomes i p outcome is_at value kept 
     let left = λ (b : By). let e = sum_by-remove (λ (x : Prepared). cond (opens b x) 1 0) open_ones i p is_at.0 in subst (λ (q : Prepared). count_by (opens b) (remove open_ones i) + cond (opens b q) 1 0 ≡ count_by (opens b) open_ones) (sym value) e in
     let of = λ (b : By). subst (λ (m : By). count_by (opens b) (remove open_ones i) + cond (same_by m b) 1 0 ≡ count_by (opens b) open_ones) request (left b) in
     go_on limits xs (Finish c) old new open_ones (remove open_ones i) outcomes all step.appends.made (t ∷ []) run kept requested_is refl
-    (omega arith) (All-push (λ (u : Told). u.by ≡ c) [] t (All-nil (λ (u : Told). u.by ≡ c)) refl) (some_given t step.appends.made) tt
+    (omega arith) (All-push (λ (u : Told). u.by ≡ c) [] t (All-nil (λ (u : Told). u.by ≡ c)) refl) (some_given t step.appends.made)
+    (let tells_made : Told → Type 0 = TellsOf limits (moment xs run.found old.history outcomes) (xs ++ Finish c ∷ []) step.appends.made in
+    All-push tells_made [] t (All-nil tells_made)
+    (p.work, work_of-append c xs (Finish c ∷ []) p.work asked, subst (λ (l : Limits). MayMake l old.history p.work.command outcome.reply step.appends.made) run.same_limits step.appends.may_make))
+    tt
     (All-append P (take i open_ones) (drop (suc i) open_ones) (All-take P i open_ones later) (All-drop P (suc i) open_ones later))
     (All-push (Tells limits next) outcomes t
     (All-weaker _ _ (Tells-later limits xs (Finish c ∷ []) run.found (length old.history ∷ []) old.history new.history made outcomes all is) outcomes run.each)

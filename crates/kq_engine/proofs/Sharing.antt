@@ -4,7 +4,7 @@ use Rattle.std.proofs.lemmas.List.{take_all}
 use mathlib.Core.List.{IsPrefix}
 use Rattle.kq_turn.specs.Histories.{gained}
 use Rattle.kq_turn.specs.Passes.{TurnId}
-use Rattle.kq_turn.proofs.Beginnings.{IsPrefix-refl, IsPrefix-trans}
+use Rattle.kq_turn.proofs.Beginnings.{IsPrefix-refl, IsPrefix-trans, gained-append}
 use Rattle.kq_model.specs.declared.limits.Limits.{Limits}
 use Rattle.kq_model.specs.History.{History, cursor}
 use Rattle.kq_engine.specs.declared.work.Outcome.{Outcome}
@@ -15,14 +15,19 @@ use Rattle.kq_reply.specs.declared.reply.Reply.{Reply}
 use Rattle.kq_engine.specs.declared.work.Ready.TheVariants as readies
 use Rattle.kq_engine.specs.Shared.{PassView, Applies, Finishes, IsJustTaken, Concludes, commit_count}
 use Rattle.kq_engine.proofs.Advancing.{Appends-none, Fits-end}
-use Rattle.kq_engine.proofs.Counting.{cursor-gained}
+use Rattle.kq_engine.proofs.Counting.{cursor-append, cursor-gained}
 use Rattle.kq_engine.specs.Merges.{NamesAll}
 use Rattle.kq_engine.proofs.Telling.{NamesAll-since, cursor_take, settled_requested, settled_names}
 
+-- what a history gained is what was appended
+pub gained_of : (old new more : History) → new ≡ old ++ more → gained old new ≡ more
+gained_of old new more is = ap (gained old) is ∙ gained-append old more
+
 -- a step that began on what was seen
-pub Finishes-step : (limits : Limits) (of : TurnId) (seen old new : History) (worth made : ℕ) (taken : List ℕ) (work : Work) (began : ℕ) (outcome : Outcome) → began ≡ length seen → IsPrefix seen old → Advances limits old new work began outcome
-    → Finishes limits (record { of = of; seen = seen; worth = worth; made = made; taken = taken }) (record { of = of; seen = new; worth = worth; made = made + cursor (gained old new); taken = taken ++ length old ∷ [] }) work outcome
-Finishes-step limits of seen old new worth made taken work began outcome here begins step =
+pub Finishes-step : (limits : Limits) (of : TurnId) (seen old new added : History) (worth : ℕ) (taken : List ℕ) (work : Work) (began : ℕ) (outcome : Outcome) → began ≡ length seen → IsPrefix seen old → Advances limits old new work began outcome
+    → Finishes limits (record { of = of; seen = seen; worth = worth; added = added; made = cursor added; taken = taken })
+    (record { of = of; seen = new; worth = worth; added = added ++ gained old new; made = cursor (added ++ gained old new); taken = taken ++ length old ∷ [] }) work outcome
+Finishes-step limits of seen old new added worth taken work began outcome here begins step =
     let goes_on : IsPrefix old new = (event_by work.by step.appends.made, sym step.appends.appended) in
     record {
       of = refl;
@@ -32,7 +37,8 @@ Finishes-step limits of seen old new worth made taken work began outcome here be
       begins = begins;
       taken = refl;
       appends = step.appends;
-      made = ap (λ (k : ℕ). made + k) (cursor-gained old new outcome.own outcome.place work.by goes_on step.appends.commits);
+      added = ap (λ (more : History). added ++ more) (gained_of old new (event_by work.by step.appends.made) step.appends.appended);
+      made = cursor-append added (gained old new) ∙ ap (λ (k : ℕ). cursor added + k) (cursor-gained old new outcome.own outcome.place work.by goes_on step.appends.commits);
       fits = step.fits;
       since = omega (arith, here, step.since);
       names_all = subst (λ (n : ℕ). NamesAll (take outcome.place new) n outcome.reply) here step.names_all;
@@ -48,7 +54,7 @@ Concludes-answered limits pass work reply fresh due = record {
   more = [];
   few = omega arith;
   taken = sym (append-nil pass.taken);
-  last = record { found = pass.seen; begins = IsPrefix-refl pass.seen; before = fresh.before; last = fresh.last; appends = Appends-none limits pass.seen work.by work.command (length pass.seen) reply };
+  last = record { found = pass.seen; begins = IsPrefix-refl pass.seen; before = fresh.before; last = fresh.last; appends = Appends-none limits pass.seen work.by work.command (length pass.seen) reply; added = sym (append-nil pass.added) };
   made = omega arith;
   fits = Fits-end limits pass.seen work.by work.command work.now (length pass.seen) false reply refl (inr due.0) (settled_requested (cursor pass.seen) pass.seen work.by reply due.1);
   since = omega arith;
@@ -82,6 +88,7 @@ Applies-concluded limits old mid new work outcome begins took concludes =
         before = concludes.last.before;
         last = concludes.last.last;
         appends = concludes.last.appends;
+        added = concludes.last.added ∙ ap (λ (p : PassView). p.added ++ event_by work.by concludes.last.appends.made) took;
       };
       made = concludes.made ∙ ap (λ (p : PassView). p.made + commit_count outcome.own) took;
       fits = concludes.fits;

@@ -40,6 +40,8 @@ use Rattle.kq_engine.specs.Merges.{IsMergedBy, IsMergingIn, IsSettled, MergesNam
 use Rattle.kq_engine.specs.Shared.{PassView}
 use Rattle.kq_engine.specs.Upkeeps.{AnswersUpkeep, AsksFor, FinishesUpkeep, FitsEach, IsChore, IsThere, IsToldAt, IsWanted, KeepsUp, MakesOwn, PutsChore, TellsUpkeep, Upholds, WasChore, WasFound}
 use Rattle.kq_engine.proofs.Advancing.{Fits-end}
+use Rattle.kq_engine.proofs.Counting.{cursor-append}
+use Rattle.kq_engine.proofs.Sharing.{gained_of}
 use Rattle.kq_engine.proofs.Telling.{NamesAll-since, cursor_take, settled_names}
 
 -- ---- what stands goes on to stand
@@ -276,17 +278,19 @@ no_commits old new by upkeep began outcome up =
     ap (λ (h : History). cursor (gained old h)) up.appended ∙ ap cursor (gained-append old (event_by by up.made)) ∙ own_no_commit by upkeep outcome.reply up.made up.own_event
 
 -- a step of upkeep that began on what was seen
-pub FinishesUpkeep-step : (limits : Limits) (of : TurnId) (seen old new : History) (worth made : ℕ) (taken : List ℕ) (by : By) (upkeep : Upkeep) (outcome : Outcome) → IsPrefix seen old → AreLawful limits new → Upholds old new by upkeep (length seen) outcome
-    → FinishesUpkeep limits (record { of = of; seen = seen; worth = worth; made = made; taken = taken }) (record { of = of; seen = new; worth = worth; made = made + cursor (gained old new); taken = taken ++ length old ∷ [] }) by upkeep outcome
-FinishesUpkeep-step limits of seen old new worth made taken by upkeep outcome begins lawful up = record {
+pub FinishesUpkeep-step : (limits : Limits) (of : TurnId) (seen old new added : History) (worth : ℕ) (taken : List ℕ) (by : By) (upkeep : Upkeep) (outcome : Outcome) → IsPrefix seen old → AreLawful limits new → Upholds old new by upkeep (length seen) outcome
+    → FinishesUpkeep limits (record { of = of; seen = seen; worth = worth; added = added; made = cursor added; taken = taken })
+    (record { of = of; seen = new; worth = worth; added = added ++ gained old new; made = cursor (added ++ gained old new); taken = taken ++ length old ∷ [] }) by upkeep outcome
+FinishesUpkeep-step limits of seen old new added worth taken by upkeep outcome begins lawful up = record {
   of = refl;
   worth = refl;
-  made = let none = no_commits old new by upkeep (length seen) outcome up in omega (arith, none);
+  made = let none = no_commits old new by upkeep (length seen) outcome up in let more = cursor-append added (gained old new) in omega (arith, none, more);
   lawful = lawful;
   found = old;
   begins = begins;
   taken = refl;
   upholds = up;
+  added = ap (λ (more : History). added ++ more) (gained_of old new (event_by by up.made) up.appended);
 }
 
 appended_prefix : (old new : History) (by : By) (upkeep : Upkeep) (began : ℕ) (outcome : Outcome) → Upholds old new by upkeep began outcome → IsPrefix old new
@@ -321,6 +325,7 @@ KeepsUp-finished limits old mid new by upkeep outcome begins took wanted f =
         before = mid.taken;
         last = f.taken;
         upholds = Upholds-since f.found new.seen by upkeep (length old.seen) (length mid.seen) outcome low f.upholds;
+        added = f.added ∙ ap (λ (p : PassView). p.added ++ event_by by f.upholds.made) took;
       };
       memory = λ e. record {
         at = length mid.seen;
@@ -348,6 +353,7 @@ KeepsUp-told limits old new by upkeep reply begins took lawful told =
         before = old.taken;
         last = ap (λ (p : PassView). p.taken) took;
         upholds = Upholds-told new.seen by upkeep (length old.seen) reply told.answers told.settled;
+        added = ap (λ (p : PassView). p.added) took ∙ sym (append-nil old.added);
       };
       memory = λ e. record {
         at = length new.seen;

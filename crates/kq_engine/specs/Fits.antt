@@ -97,15 +97,16 @@ abbrev pub own_commit : Bool → ℕ → By → List CommitAt
 own_commit true place request = record { place = place; by = request } ∷ []
 own_commit false place request = []
 
-abbrev pub IsCommit : Operation → Type 0
-IsCommit (operation.Commit c) = Unit {0}
-IsCommit (operation.Fold view to) = ⊥
-IsCommit (operation.Merge table ids new) = ⊥
+-- the operation is the command's, beside its reply: the commit that the log admits, or a fold or a merge
+abbrev pub Performs : Limits → History → Command → Reply → Operation → Type 0
+Performs limits old command reply (operation.Commit c) = Makes limits (log old) command reply c
+Performs limits old command reply (operation.Fold view to) = TendsFold old command reply view to
+Performs limits old command reply (operation.Merge table ids new) = TendsMerge old command reply table ids
 
--- the operation is a commit, or one that the command may make beside its reply, which is no refusal
+-- such an operation, beside a reply that is no refusal; or none
 abbrev pub MayMake : Limits → History → Command → Reply → Option Operation → Type 0
 MayMake limits old command reply None = Unit {0}
-MayMake limits old command reply (Some made) = IsCommit made ⊎ (Tends limits old command reply made × IsGranted reply)
+MayMake limits old command reply (Some made) = IsGranted reply × Performs limits old command reply made
 
 -- the history gains one event or none, with this request id, and it is a commit exactly with `own`: the one at the outcome's place
 pub record Appends (limits : Limits) (old new : History) (request : By) (command : Command) (outcome : Outcome) : Type 0 where

@@ -8,7 +8,7 @@ use Rattle.kq_engine.specs.declared.work.Outcome.{Outcome}
 use Rattle.kq_engine.specs.declared.work.Work.{Work}
 use Rattle.kq_command.specs.declared.command.Command.TheVariants as commands
 use Rattle.kq_command.specs.declared.command.Query.{Query}
-use Rattle.kq_engine.specs.Fits.{AnswersCommand, Appends, Fits}
+use Rattle.kq_engine.specs.Fits.{AnswersCommand, Appends, Fits, event_by}
 use Rattle.kq_engine.specs.Merges.{NamesAll}
 
 -- which lock it is, and the limits of the catalogue behind it
@@ -16,12 +16,13 @@ pub record SharedView : Type 0 where
   pub turn : TurnId
   pub limits : Limits
 
--- the lock that it is a pass of, what it has seen, its worth, the number of client commits made through it, and the
--- length of each history that it took
+-- the lock that it is a pass of, what it has seen, its worth, the events made through it, in order, the number of client
+-- commits among them, and the length of each history that it took
 pub record PassView : Type 0 where
   pub of : TurnId
   pub seen : History
   pub worth : ℕ
+  pub added : History
   pub made : ℕ
   pub taken : List ℕ
 
@@ -37,13 +38,14 @@ pub record TakesOneOrTwo (old new : List ℕ) (place : ℕ) : Type 0 where
   pub few : length more ≤ 1
   pub since : first ≤ place
 
--- the call's last take found a history that goes on from what was seen, and what the pass has then seen is that with the call's own event, if it made one
+-- the call's last take found a history that goes on from what was seen, and what the pass has then seen is that with the call's own event, if it made one; the call made no other
 pub record AppendsLast (limits : Limits) (old new : PassView) (work : Work) (outcome : Outcome) : Type 0 where
   pub found : History
   pub begins : IsPrefix old.seen found
   pub before : List ℕ
   pub last : new.taken ≡ before ++ length found ∷ []
   pub appends : Appends limits found new.seen work.by work.command outcome
+  pub added : new.added ≡ old.added ++ event_by work.by appends.made
 
 -- a command went through the pass: under its last take it made at most one event, and its outcome fits what the pass has then seen, at a place not below what it had seen
 pub record Applies (limits : Limits) (old new : PassView) (work : Work) (outcome : Outcome) : Type 0 where
@@ -66,6 +68,7 @@ pub record Finishes (limits : Limits) (old new : PassView) (work : Work) (outcom
   pub begins : IsPrefix old.seen found
   pub taken : new.taken ≡ old.taken ++ length found ∷ []
   pub appends : Appends limits found new.seen work.by work.command outcome
+  pub added : new.added ≡ old.added ++ event_by work.by appends.made
   pub made : new.made ≡ old.made + commit_count outcome.own
   pub fits : Fits limits new.seen work.by work.command work.now outcome.place outcome.own outcome.reply
   pub since : length old.seen ≤ outcome.place

@@ -13,7 +13,7 @@ use Rattle.kq_engine.specs.declared.run.Step.TheVariants.{Begin, Finish}
 use Rattle.kq_engine.specs.declared.run.Told.{Told}
 use Rattle.kq_engine.specs.declared.work.Prepared.{Prepared}
 use Rattle.kq_engine.specs.declared.work.Work.{Work}
-use Rattle.kq_engine.specs.Fits.{Fits, event_by, own_commit}
+use Rattle.kq_engine.specs.Fits.{Fits, MayMake, event_by, own_commit}
 use Rattle.kq_engine.specs.Found.{IsPrepared, MayWantMemory}
 use Rattle.kq_engine.specs.Merges.{NamesAll}
 use Rattle.kq_reply.specs.declared.refusal.Refusal.TheVariants as refusals
@@ -93,8 +93,12 @@ abbrev pub ByStep : List Step → Step → Option Operation → List Told → Ty
 ByStep before (Begin w) made gave = (made ≡ None) × ((first : Work) → work_of w.by before ≡ Some first → gave ≡ [])
 ByStep before (Finish b) made gave = Unit {0}
 
--- a step leads to the next moment: it gives at most one outcome and makes at most one event, both of its request id, and no event without an outcome
-pub record Leads (old : Moment) (s : Step) (new : Moment) : Type 0 where
+-- what a step gave tells of what it made: the operation is that of the work, beside the reply
+abbrev pub TellsOf : Limits → Moment → List Step → Option Operation → Told → Type 0
+TellsOf limits old steps made t = (work : Work) × (work_of t.by steps ≡ Some work) × MayMake limits old.history work.command t.outcome.reply made
+
+-- a step leads to the next moment: it gives at most one outcome and makes at most one event, both of its request id, no event without an outcome, and none that isn't its command's
+pub record Leads (limits : Limits) (old : Moment) (s : Step) (new : Moment) : Type 0 where
   pub steps : new.steps ≡ old.steps ++ s ∷ []
   pub found : new.found ≡ old.found ++ length old.history ∷ []
   pub made : Option Operation
@@ -104,12 +108,13 @@ pub record Leads (old : Moment) (s : Step) (new : Moment) : Type 0 where
   pub one : length gave ≤ 1
   pub requested : All (λ (t : Told). t.by ≡ request_of s) gave
   pub no_more : gave ≡ [] → made ≡ None
+  pub makes : All (TellsOf limits old new.steps made) gave
   pub by_step : ByStep old.steps s made gave
 
 -- these steps lead from one moment to another, and each moment on the way accounts for its steps
 abbrev pub Runs : Limits → Moment → List Step → Moment → Type 0
 Runs limits old [] new = old ≡ new
-Runs limits old (s ∷ steps) new = (next : Moment) × Leads old s next × Accounts limits next × Runs limits next steps new
+Runs limits old (s ∷ steps) new = (next : Moment) × Leads limits old s next × Accounts limits next × Runs limits next steps new
 
 -- what a run comes to: a sound catalogue with the limits that were given, and the outcomes to which the steps lead from nothing
 pub record IsTrace (limits : Limits) (steps : List Step) (catalog : CatalogView) (outcomes : List Told) : Type 0 where

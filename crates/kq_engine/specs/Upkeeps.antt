@@ -73,7 +73,7 @@ AsksFor h _ _ = ⊥
 
 -- the outcome fits each command that asks for the upkeep
 abbrev pub FitsEach : Limits → History → By → Upkeep → Outcome → Type 0
-FitsEach limits h view_cursor upkeep outcome = (command : Command) (now : ℤ) → AsksFor h command upkeep → Fits limits h view_cursor command now outcome.place outcome.own outcome.reply
+FitsEach limits h by upkeep outcome = (command : Command) (now : ℤ) → AsksFor h command upkeep → Fits limits h by command now outcome.place outcome.own outcome.reply
 
 -- ---- what is found
 
@@ -114,10 +114,10 @@ MakesOwn upkeep reply None = (extents : ℕ) → reply ≢ replies.Merged extent
 MakesOwn upkeep reply (Some made) = IsOwn upkeep reply made
 
 -- at most the upkeep's own event was appended, and its outcome is told at the new end of the history: a merge is of all that were picked since the work began, and a fold up to all that stood there
-pub record Upholds (old new : History) (view_cursor : By) (upkeep : Upkeep) (began : ℕ) (outcome : Outcome) : Type 0 where
+pub record Upholds (old new : History) (by : By) (upkeep : Upkeep) (began : ℕ) (outcome : Outcome) : Type 0 where
   pub made : Option Operation
   pub own_event : MakesOwn upkeep outcome.reply made
-  pub appended : new ≡ old ++ event_by view_cursor made
+  pub appended : new ≡ old ++ event_by by made
   pub place : outcome.place ≡ length new
   pub no_commit : outcome.own ≡ false
   pub answers : AnswersUpkeep new upkeep outcome.reply
@@ -125,12 +125,12 @@ pub record Upholds (old new : History) (view_cursor : By) (upkeep : Upkeep) (beg
 
 -- the same for whatever this was found for, and wherever
 abbrev pub PutsChore : History → History → By → Chore → Outcome → Type 0
-PutsChore old new view_cursor chore outcome = (upkeep : Upkeep) (place : ℕ) → WasChore old upkeep place chore → Upholds old new view_cursor upkeep place outcome
+PutsChore old new by chore outcome = (upkeep : Upkeep) (place : ℕ) → WasChore old upkeep place chore → Upholds old new by upkeep place outcome
 
 -- ---- what is done to a pass
 
 -- a chore was finished under one take, which found a history that goes on from what was seen
-pub record FinishesUpkeep (limits : Limits) (old new : PassView) (view_cursor : By) (upkeep : Upkeep) (outcome : Outcome) : Type 0 where
+pub record FinishesUpkeep (limits : Limits) (old new : PassView) (by : By) (upkeep : Upkeep) (outcome : Outcome) : Type 0 where
   pub of : new.of ≡ old.of
   pub worth : new.worth ≡ old.worth
   pub made : new.made ≡ old.made
@@ -138,15 +138,17 @@ pub record FinishesUpkeep (limits : Limits) (old new : PassView) (view_cursor : 
   pub found : History
   pub begins : IsPrefix old.seen found
   pub taken : new.taken ≡ old.taken ++ length found ∷ []
-  pub upholds : Upholds found new.seen view_cursor upkeep (length old.seen) outcome
+  pub upholds : Upholds found new.seen by upkeep (length old.seen) outcome
+  pub added : new.added ≡ old.added ++ event_by by upholds.made
 
--- the call's last take found a history that goes on from what was seen, and what the pass has then seen is that with the upkeep's own event, if it made one
-pub record UpholdsLast (old new : PassView) (view_cursor : By) (upkeep : Upkeep) (outcome : Outcome) : Type 0 where
+-- the call's last take found a history that goes on from what was seen, and what the pass has then seen is that with the upkeep's own event, if it made one; the call made no other
+pub record UpholdsLast (old new : PassView) (by : By) (upkeep : Upkeep) (outcome : Outcome) : Type 0 where
   pub found : History
   pub begins : IsPrefix old.seen found
   pub before : List ℕ
   pub last : new.taken ≡ before ++ length found ∷ []
-  pub upholds : Upholds found new.seen view_cursor upkeep (length old.seen) outcome
+  pub upholds : Upholds found new.seen by upkeep (length old.seen) outcome
+  pub added : new.added ≡ old.added ++ event_by by upholds.made
 
 -- there was something to do at a place from the given one on
 pub record WasWanted (h : History) (from : ℕ) (upkeep : Upkeep) : Type 0 where
@@ -156,12 +158,12 @@ pub record WasWanted (h : History) (from : ℕ) (upkeep : Upkeep) : Type 0 where
   pub wanted : IsWanted (take at h) upkeep
 
 -- a fold or a merge by number went through the pass: it made at most its own event, which is no commit, its outcome tells of all that the pass has then seen, and memory was wanting only where there was something to do
-pub record KeepsUp (limits : Limits) (old new : PassView) (view_cursor : By) (upkeep : Upkeep) (outcome : Outcome) : Type 0 where
+pub record KeepsUp (limits : Limits) (old new : PassView) (by : By) (upkeep : Upkeep) (outcome : Outcome) : Type 0 where
   pub of : new.of ≡ old.of
   pub worth : new.worth ≡ old.worth
   pub made : new.made ≡ old.made
   pub seen : IsPrefix old.seen new.seen
   pub lawful : AreLawful limits new.seen
   pub takes : TakesOneOrTwo old.taken new.taken outcome.place
-  pub last : UpholdsLast old new view_cursor upkeep outcome
+  pub last : UpholdsLast old new by upkeep outcome
   pub memory : outcome.reply ≡ replies.Refused refusals.Memory → WasWanted new.seen (length old.seen) upkeep

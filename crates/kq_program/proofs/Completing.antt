@@ -18,7 +18,7 @@ use Rattle.kq_gen.proofs.Lengths.{length-script}
 use Rattle.kq_program.specs.Headline.{AreComplete, AreExplained, AreUntroubled, CompletesRun, IsCaused, IsCompleteRun, IsUntroubledBy, RanBy, RunsProgram, first_status, given_to_sessions}
 use Rattle.kq_program.specs.Scripts.{ByScript, as_reading, unfailed, with_source}
 use Rattle.kq_program.specs.Views.{EndedView, Given, RunView}
-use Rattle.kq_program.specs.Words.{feeds_of, generate_of}
+use Rattle.kq_program.specs.Words.{feeds_of, generate_of, workers_of}
 use Rattle.kq_program.proofs.Asking.{IsUpTo}
 
 -- no script is generated of more rows than words may ask for
@@ -76,14 +76,14 @@ good_first limits h n (g ∷ given) [] complete = absurd complete
 good_first limits h n (g ∷ given) (s ∷ ss) complete =
     good_if (nat_eq s.session.status 0) (first_status ss) s.session.status (good_first limits h (n + 1) given ss complete.1) (good_one limits h n g.generate (unfailed g.contents) s.session complete.0)
 
-complete_run : (feeds : List (List ℕ)) (given : List Given) (status : ℕ) (catalog : Option CatalogView) (ss : List EndedView) → AreFew given → ¬ (status ≡ 2) → ¬ (status ≡ 5) → RanBy feeds given status catalog ss → (IsSome catalog → AreUntroubled given ss) → IsCompleteRun given (record { status = status; catalog = catalog; sessions = ss })
-complete_run feeds given status None ss few words opened ran untroubled = record { status = by_cause ran.1; sessions = tt }
+complete_run : (workers : ℕ) (feeds : List (List ℕ)) (given : List Given) (status : ℕ) (catalog : Option CatalogView) (ss : List EndedView) → AreFew given → ¬ (status ≡ 2) → ¬ (status ≡ 5) → RanBy workers feeds given status catalog ss → (IsSome catalog → AreUntroubled given ss) → IsCompleteRun given (record { status = status; catalog = catalog; sessions = ss })
+complete_run workers feeds given status None ss few words opened ran untroubled = record { status = by_cause ran.1; sessions = tt }
   where
     by_cause : (status ≡ 2) ⊎ (status ≡ 5) ⊎ (status ≡ 1) → IsGood status
     by_cause (inl e) = absurd (words e)
     by_cause (inr (inl e)) = absurd (opened e)
     by_cause (inr (inr e)) = inr e
-complete_run feeds given status (Some c) ss few words opened ran untroubled =
+complete_run workers feeds given status (Some c) ss few words opened ran untroubled =
     let all = complete_all c.limits (hist c) 0 given ss few ran.headline.explained (recursion_from_All IsCaused ss ran.caused) (untroubled refl) in
     record { status = subst IsGood (sym ran.status_is) (good_first c.limits (hist c) 0 given ss all); sessions = all }
 
@@ -94,7 +94,7 @@ form None some none = absurd cc
 form (Some asked) some none = cc
 
 pub CompletesRun-runs : (said : Option Asked) (count count_now : ℕ) (first : Contents) (of_feed : List ℕ → Contents) (run : RunView)
-    → IsUpTo 1000000 (generate_of said) → (run.status ≡ 2 → said ≡ None) → (run.status ≡ 5 → Rose count count_now) → RunsProgram (generate_of said) (feeds_of said) first of_feed run → CompletesRun said count count_now first of_feed run
+    → IsUpTo 1000000 (generate_of said) → (run.status ≡ 2 → said ≡ None) → (run.status ≡ 5 → Rose count count_now) → RunsProgram (workers_of said) (generate_of said) (feeds_of said) first of_feed run → CompletesRun said count count_now first of_feed run
 CompletesRun-runs said count count_now first of_feed run few words failed runs some well untroubled =
-    complete_run (feeds_of said) (given_to_sessions (generate_of said) first of_feed (feeds_of said)) run.status run.catalog run.sessions (few, few_feeds of_feed (feeds_of said))
+    complete_run (workers_of said) (feeds_of said) (given_to_sessions (generate_of said) first of_feed (feeds_of said)) run.status run.catalog run.sessions (few, few_feeds of_feed (feeds_of said))
     (λ e. form said some (words e)) (λ e. well (failed e)) runs untroubled

@@ -1,8 +1,10 @@
 -- A run of all sessions.
-use Rattle.std.proofs.Common.{◌≡◌, ◌≢◌, ◌<◌, ◌+◌, ℕ, Bool, true, false, cond, List, [], ◌∷◌, length, map, Option, None, All, nat_eq, refl, sym, ◌∙◌, subst, arith, inl, inr}
-use Rattle.std.proofs.lemmas.List.Elements.{All-cons, All-nil}
+use Rattle.std.proofs.Common.{◌≡◌, ◌≢◌, ◌<◌, ◌+◌, ◌++◌, ℕ, Bool, true, false, cond, not, count_by, List, [], ◌∷◌, length, map, Option, None, All, nat_eq, refl, ap, sym, ◌∙◌, subst, arith, inl, inr}
+use Rattle.std.proofs.lemmas.List.Elements.{All-cons, All-head, All-nil, All-tail}
+use Rattle.std.proofs.lemmas.List.Sums.{sum_by-cons}
 use mathlib.Core.List.{IsPrefix}
 use Rattle.kq_world.specs.Outside.{Contents, Rose}
+use Rattle.kq_model.specs.declared.event.Event.{Event}
 use Rattle.kq_model.specs.declared.limits.Limits.{Limits}
 use Rattle.kq_model.specs.Limits.{AreFull}
 use Rattle.kq_model.specs.History.{History, cursor}
@@ -17,9 +19,33 @@ use Rattle.kq_program.specs.Headline.{RanSessions, AreExplained, IsCaused, first
 use Rattle.kq_program.specs.Opening.{AreOpened}
 use Rattle.kq_program.specs.Together.{IsServed, AreServed, ServedAll}
 use Rattle.kq_program.specs.Views.{EndedView, Given, OpenedView}
+use Rattle.kq_program.specs.Whole.{is_caused}
 use Rattle.kq_program.proofs.Scripting.{ByScript-given, explained-end}
 use Rattle.kq_program.proofs.Serving.{AreServed-later}
 use Rattle.kq_program.proofs.Wholes.{AreServed-owned, Whole-owned}
+
+-- ---- events
+
+none_fails : (test : Event → Bool) (h : History) → All (λ (e : Event). test e ≡ true) h → count_by (λ (e : Event). not (test e)) h ≡ 0
+none_fails test [] all = refl
+none_fails test (e ∷ h) all =
+    let here : cond (not (test e)) 1 0 ≡ 0 = ap (λ (b : Bool). let n : ℕ = cond (not b) 1 0 in n) (All-head (λ (x : Event). test x ≡ true) e h all) in
+    let rest = none_fails test h (All-tail (λ (x : Event). test x ≡ true) e h all) in
+    omega (arith, sum_by-cons (λ (x : Event). cond (not (test x)) 1 0) e h, here, rest)
+
+all_pass : (test : Event → Bool) (h : History) → count_by (λ (e : Event). not (test e)) h ≡ 0 → All (λ (e : Event). test e ≡ true) h
+all_pass test [] none = All-nil (λ (e : Event). test e ≡ true)
+all_pass test (e ∷ h) none =
+    let cons = sum_by-cons (λ (x : Event). cond (not (test x)) 1 0) e h in
+    All-cons (λ (x : Event). test x ≡ true) e h (passes (test e) refl (omega (arith, cons, none))) (all_pass test h (omega (arith, cons, none)))
+  where
+    passes : (b : Bool) → test e ≡ b → cond (not (test e)) 1 0 ≡ 0 → test e ≡ true
+    passes true is zero = is
+    passes false is zero = let one : cond (not (test e)) 1 0 ≡ 1 = ap (λ (b : Bool). let n : ℕ = cond (not b) 1 0 in n) is in absurd (omega (arith, one, zero))
+
+-- what is so of all events that were added is so of each of the history, which has just these
+all_caused : (test : Event → Bool) (h added : History) → ((t : Event → Bool) → count_by t h ≡ count_by t added) → All (λ (e : Event). test e ≡ true) added → All (λ (e : Event). test e ≡ true) h
+all_caused test h added counts all = all_pass test h (counts (λ (e : Event). not (test e)) ∙ none_fails test added all)
 
 -- ---- all sessions
 
@@ -65,21 +91,22 @@ caused_all limits h n told (name ∷ names) [] ss opened served = absurd opened
 caused_all limits h n told (name ∷ names) (o ∷ os) [] opened served = absurd served
 caused_all limits h n told (name ∷ names) (o ∷ os) (s ∷ ss) opened served = All-cons IsCaused s ss (caused_one limits h n o s opened.0.source opened.0.sink served.0) (caused_all limits h (n + 1) told names os ss opened.1 served.1)
 
-pub RanSessions-all : (c : CatalogView) (limits : Limits) (old new : PassView) (o : OpenedView) (os : List OpenedView) (ss : List EndedView) (generate : Option ℕ) (first : Contents) (told : List ℕ → Contents) (names : List (List ℕ)) (status : ℕ)
-    → o.name ≡ [] → o.generate ≡ generate → o.objects.contents ≡ first → o.objects.source_faults ≡ 0 → o.objects.sink_faults ≡ 0 → AreOpened told names os → ServedAll limits old new (o ∷ os) ss → old.made ≡ 0
-    → Sound c → AreFull limits → c.limits ≡ limits → IsPrefix new.seen (hist c) → cursor (hist c) ≡ new.made → status ≡ first_status ss → RanSessions names (given_to_sessions generate first told names) status c ss
-RanSessions-all c limits old new o os [] generate first told names status name script contents source sink opened all none sound full same seen made is_status = absurd all.served
-RanSessions-all c limits old new o os (s ∷ ss) generate first told names status name script contents source sink opened all none sound full same seen made is_status =
+pub RanSessions-all : (workers : ℕ) (c : CatalogView) (limits : Limits) (old new : PassView) (o : OpenedView) (os : List OpenedView) (ss : List EndedView) (generate : Option ℕ) (first : Contents) (told : List ℕ → Contents) (names : List (List ℕ)) (status : ℕ)
+    → o.name ≡ [] → o.generate ≡ generate → o.objects.contents ≡ first → o.objects.source_faults ≡ 0 → o.objects.sink_faults ≡ 0 → AreOpened told names os → ServedAll limits workers old new (o ∷ os) ss → old.made ≡ 0 → old.added ≡ []
+    → Sound c → AreFull limits → c.limits ≡ limits → IsPrefix new.seen (hist c) → ((test : Event → Bool) → count_by test (hist c) ≡ count_by test new.added) → cursor (hist c) ≡ new.made → status ≡ first_status ss → RanSessions workers names (given_to_sessions generate first told names) status c ss
+RanSessions-all workers c limits old new o os [] generate first told names status name script contents source sink opened all none nothing sound full same seen counts made is_status = absurd all.served
+RanSessions-all workers c limits old new o os (s ∷ ss) generate first told names status name script contents source sink opened all none nothing sound full same seen counts made is_status =
     let h = hist c in
     let served = AreServed-later limits new.seen h 0 (o ∷ os) (s ∷ ss) seen all.served in
     let given = given_to_sessions generate first told names in
     let explained : AreExplained limits h 0 given (s ∷ ss) = (ByScript-given (Explained limits h 0) o generate first s.session script contents source sink served.0.explained, explained_all limits h 1 told names os ss opened served.1) in
     let here = served.0.named ∙ name in
+    let every : (test : Event → Bool) → count_by test h ≡ count_by test all.passed.events = λ test. counts test ∙ ap (count_by test) (all.passed.added ∙ ap (λ (l : History). l ++ all.passed.events) nothing) in
     let others = named_all limits h 1 told names os ss opened served.1 in
     record {
       headline = record {
         sound = sound;
-        whole = Whole-owned h (s ∷ ss) (AreServed-owned limits h 0 (o ∷ os) (s ∷ ss) served) (omega (arith, all.passed.made, none, made));
+        whole = Whole-owned workers h (s ∷ ss) (AreServed-owned limits h 0 (o ∷ os) (s ∷ ss) served) (omega (arith, all.passed.made, none, made)) (all_caused (is_caused workers (s ∷ ss)) h all.passed.events every all.passed.caused);
         named = λ i. here i ∷ others i;
         explained = subst (λ (l : Limits). AreExplained l h 0 given (s ∷ ss)) (sym same) explained;
       };
@@ -134,9 +161,9 @@ own_first limits h n (o ∷ os) (s ∷ ss) served =
     let here = subst IsOwn (sym end.1) (status_own end.0 s.session.receipts) in
     own_if (nat_eq s.session.status 0) (first_status ss) s.session.status (own_first limits h (n + 1) os ss served.1) here
 
-pub first-of-sessions : (limits : Limits) (old new : PassView) (os : List OpenedView) (ss : List EndedView) (status : ℕ) → ServedAll limits old new os ss → status ≡ first_status ss → (status ≢ 2) × (status ≢ 5)
+pub first-of-sessions : (limits : Limits) (workers : ℕ) (old new : PassView) (os : List OpenedView) (ss : List EndedView) (status : ℕ) → ServedAll limits workers old new os ss → status ≡ first_status ss → (status ≢ 2) × (status ≢ 5)
 unfolding IsOwn
-first-of-sessions limits old new os ss status all is =
+first-of-sessions limits workers old new os ss status all is =
     subst IsOwn (sym is) (own_first limits new.seen 0 os ss all.served)
 
 -- ---- the feeds

@@ -1,9 +1,11 @@
 -- A session by its own or a generated script.
-use Rattle.std.proofs.Common.{◌≡◌, ℕ, false, List, [], Option, Some, None, refl, sym, subst, arith, inl, inr, add-zero}
+use Rattle.std.proofs.Common.{◌≡◌, ℕ, true, false, List, [], Option, Some, None, refl, sym, subst, arith, inl, inr, add-zero, append-nil}
+use Rattle.std.proofs.lemmas.List.Elements.{All-nil}
 use Rattle.std.proofs.lemmas.List.Sums.{sum_by-cons}
 use Rattle.kq_turn.proofs.Beginnings.{IsPrefix-refl}
 use Rattle.kq_world.specs.Outside.{Contents, SourceView}
 use Rattle.kq_world.proofs.Faults.{same-later}
+use Rattle.kq_model.specs.declared.event.Event.{Event}
 use Rattle.kq_model.specs.declared.limits.Limits.{Limits}
 use Rattle.kq_model.specs.History.{History}
 use Rattle.kq_workers.specs.kq_engine.Shared.{PassView}
@@ -11,7 +13,7 @@ use Rattle.kq_session.specs.declared.end.End.{End}
 use Rattle.kq_session.specs.declared.end.End.TheVariants as ends
 use Rattle.kq_session.specs.Ends.{status_of}
 use Rattle.kq_session.specs.Objects.{Objects, SessionView}
-use Rattle.kq_session.specs.Session.{SessionEnds, Explained, PassGoesOn, owns}
+use Rattle.kq_session.specs.Session.{SessionEnds, Explained, PassGoesOn, is_receipted, owns}
 use Rattle.kq_session.specs.Exchanges.{Rises}
 use Rattle.kq_session.proofs.Serving.{SessionEnds-none}
 use Rattle.kq_gen.specs.Commands.{script}
@@ -43,6 +45,19 @@ pub explained-end : (limits : Limits) (h : History) (actor : ℕ) (generate : Op
 explained-end limits h actor None before s explained = (explained.end, explained.by_end)
 explained-end limits h actor (Some n) before s scripted = (scripted.holds.end, scripted.holds.by_end)
 
+-- ---- a session that is served by its own script
+
+pub ServedOne-own : (limits : Limits) (old new : PassView) (actor : ℕ) (name : List ℕ) (before : Objects) (s : SessionView) → PassGoesOn actor old new s.receipts → Explained limits new.seen actor before.contents s
+    → Rises before.source_faults s.objects.source_faults (s.status ≡ 3) → Rises before.sink_faults s.objects.sink_faults (s.status ≡ 4)
+    → ServedOne limits old new actor (record { name = name; generate = None; objects = before }) (record { name = name; session = s })
+ServedOne-own limits old new actor name before s goes_on explained source sink =
+    let total = sum_by-cons (λ (x : EndedView). owns x.session.receipts) (record { name = name; session = s }) [] in
+    let none : all_owns [] ≡ 0 = refl in
+    record {
+      passed = record { events = goes_on.events; added = goes_on.added; caused = goes_on.receipted; of = goes_on.of; worth = goes_on.worth; seen = goes_on.seen; made = omega (arith, goes_on.made, total, none) };
+      served = record { named = refl; explained = explained; source = source; sink = sink };
+    }
+
 -- ---- a session that is served by a generated script
 
 stays_as : (before now : ℕ) (fault : Type 0) → now ≡ before → (fault → ⊥) → Rises before now fault
@@ -59,7 +74,7 @@ by_script name n before = record { name = name; generate = Some n; objects = bef
 -- it was read in place of the session's own source
 pub ServedOne-script : (limits : Limits) (old new : PassView) (actor n : ℕ) (name : List ℕ) (first now : ScriptState) (before : Objects) (s : SessionView) (end : End)
     → first ≡ record { text = script n; at = 0; ended = false } → SessionEnds limits new.seen actor (with_source (script_told first) before.contents) (with_source (script_told now) s.objects.contents) s.receipts end → s.status ≡ status_of end s.receipts
-    → PassGoesOn old new s.receipts → s.objects.contents.source ≡ before.contents.source → s.objects.source_faults ≡ before.source_faults → Rises 0 0 (s.status ≡ 3) → Rises before.sink_faults s.objects.sink_faults (s.status ≡ 4)
+    → PassGoesOn actor old new s.receipts → s.objects.contents.source ≡ before.contents.source → s.objects.source_faults ≡ before.source_faults → Rises 0 0 (s.status ≡ 3) → Rises before.sink_faults s.objects.sink_faults (s.status ≡ 4)
     → ServedOne limits old new actor (by_script name n before) (record { name = name; session = s })
 ServedOne-script limits old new actor n name first now before s end is_first so by_end goes_on source faults fault sink =
     let unread = with_source (script_unread n) before.contents in
@@ -68,7 +83,7 @@ ServedOne-script limits old new actor n name first now before s end is_first so 
     let none : all_owns [] ≡ 0 = refl in
     let told = told-since n now from_first.bytes from_first.gave in
     record {
-      passed = record { of = goes_on.of; worth = goes_on.worth; seen = goes_on.seen; made = omega (arith, goes_on.made, total, none) };
+      passed = record { events = goes_on.events; added = goes_on.added; caused = goes_on.receipted; of = goes_on.of; worth = goes_on.worth; seen = goes_on.seen; made = omega (arith, goes_on.made, total, none) };
       served = record {
         named = refl;
         explained = record {
@@ -86,7 +101,7 @@ ServedOne-script limits old new actor n name first now before s end is_first so 
 -- there was no room for it
 pub ServedOne-unserved : (limits : Limits) (pass : PassView) (actor n : ℕ) (name : List ℕ) (before : Objects) → ServedOne limits pass pass actor (by_script name n before) (unserved name before)
 ServedOne-unserved limits pass actor n name before = record {
-  passed = record { of = refl; worth = refl; seen = IsPrefix-refl pass.seen; made = sym (add-zero pass.made) };
+  passed = record { events = []; added = sym (append-nil pass.added); caused = All-nil (λ (e : Event). is_receipted actor [] e ≡ true); of = refl; worth = refl; seen = IsPrefix-refl pass.seen; made = sym (add-zero pass.made) };
   served = record {
     named = refl;
     explained = record {

@@ -3,6 +3,7 @@ use Rattle.std.proofs.Common.{◌≡◌, ◌<◌, ◌≤◌, ◌⊎◌, ℕ, ◌
 use Rattle.std.proofs.lemmas.List.Sums.{sum_by-cons}
 use Rattle.std.proofs.lemmas.List.Elements.{All-cons, All-nil}
 use Rattle.std.proofs.lemmas.Bool.Decides.{nat_tests}
+use Rattle.kq_model.specs.declared.event.Event.{Event}
 use Rattle.kq_model.specs.declared.limits.Limits.{Limits}
 use Rattle.kq_model.specs.History.{History, CommitAt, cursor, commits_at}
 use Rattle.kq_workers.specs.kq_engine.Fits.{own_commit}
@@ -16,7 +17,7 @@ use Rattle.kq_session.proofs.Owned.{Follows, AreIn, AreOwned, Explained-owned}
 use Rattle.kq_program.specs.Scripts.{ByScript}
 use Rattle.kq_program.specs.Together.{AreServed, all_owns}
 use Rattle.kq_program.specs.Views.{OpenedView, EndedView}
-use Rattle.kq_program.specs.Whole.{Whole, AreOwn}
+use Rattle.kq_program.specs.Whole.{Whole, AreOwn, is_caused}
 
 rising_above : (q : ℕ) (ms : List CommitAt) (x : CommitAt) → IsRising q ms → IsIn x ms → q < x.place
 rising_above q [] x rising here = absurd here
@@ -223,12 +224,13 @@ owned_just h n (s ∷ ss) owned all =
     let same : n + 1 + length ss ≡ n + length (s ∷ ss) = omega arith in
     ((sym (one.same (omega (arith, few, split, one.short, count, total, all))), rest.0), subst (λ (k : ℕ). length (filter (is_from k) (commits_at h)) ≡ 0) same rest.1)
 
-pub Whole-owned : (h : History) (ss : List EndedView) → AllOwned h 0 ss → all_owns ss ≡ cursor h → Whole h ss
-Whole-owned h ss owned all =
+pub Whole-owned : (workers : ℕ) (h : History) (ss : List EndedView) → AllOwned h 0 ss → all_owns ss ≡ cursor h → All (λ (e : Event). is_caused workers ss e ≡ true) h → Whole workers h ss
+Whole-owned workers h ss owned all caused =
     let every = ap length (all_from (commits_at h)) in
     let just = owned_just h 0 ss owned (omega (arith, all, every, length-commits_at h)) in
     record {
       own = just.0;
+      caused = caused;
       no_others = none_from (length ss) (commits_at h) (subst (λ (k : ℕ). length (filter (is_from k) (commits_at h)) ≡ 0) (zero_plus (length ss)) just.1);
     }
   where

@@ -21,11 +21,11 @@ AreExplained limits h n [] (s ∷ ss) = ⊥
 AreExplained limits h n (g ∷ given) [] = ⊥
 AreExplained limits h n (g ∷ given) (s ∷ ss) = ByScript (Explained limits h n) g.generate (unfailed g.contents) s.session × AreExplained limits h (n + 1) given ss
 
--- the headline: the catalogue is sound, its commits are the sessions', there is session 0 and then one session per feed,
+-- the headline: the catalogue is sound, its commits are the sessions' and each of its events has its cause, there is session 0 and then one session per feed,
 -- and the catalogue's one history explains each
-pub record Headline (feeds : List (List ℕ)) (given : List Given) (c : CatalogView) (sessions : List EndedView) : Type 0 where
+pub record Headline (workers : ℕ) (feeds : List (List ℕ)) (given : List Given) (c : CatalogView) (sessions : List EndedView) : Type 0 where
   pub sound : Sound c
-  pub whole : Whole (hist c) sessions
+  pub whole : Whole workers (hist c) sessions
   pub named : map (λ (s : EndedView). s.name) sessions ≡ [] ∷ feeds
   pub explained : AreExplained c.limits (hist c) 0 given sessions
 
@@ -42,23 +42,23 @@ pub record IsCaused (s : EndedView) : Type 0 where
   pub sink_stays : s.session.status ≢ 4 → s.session.objects.sink_faults ≡ 0
 
 -- a run that began its sessions
-pub record RanSessions (feeds : List (List ℕ)) (given : List Given) (status : ℕ) (c : CatalogView) (sessions : List EndedView) : Type 0 where
-  pub headline : Headline feeds given c sessions
+pub record RanSessions (workers : ℕ) (feeds : List (List ℕ)) (given : List Given) (status : ℕ) (c : CatalogView) (sessions : List EndedView) : Type 0 where
+  pub headline : Headline workers feeds given c sessions
   pub limits : AreFull c.limits
   pub status_is : status ≡ first_status sessions
   pub caused : All IsCaused sessions
 
-abbrev pub RanBy : List (List ℕ) → List Given → ℕ → Option CatalogView → List EndedView → Type 0
-RanBy feeds given status None sessions = (sessions ≡ []) × ((status ≡ 2) ⊎ (status ≡ 5) ⊎ (status ≡ 1))
-RanBy feeds given status (Some c) sessions = RanSessions feeds given status c sessions
+abbrev pub RanBy : ℕ → List (List ℕ) → List Given → ℕ → Option CatalogView → List EndedView → Type 0
+RanBy workers feeds given status None sessions = (sessions ≡ []) × ((status ≡ 2) ⊎ (status ≡ 5) ⊎ (status ≡ 1))
+RanBy workers feeds given status (Some c) sessions = RanSessions workers feeds given status c sessions
 
 -- what the sessions are given: session 0, whose script may be generated, and then the feeds, whose scripts are their own
 abbrev pub given_to_sessions : Option ℕ → Contents → (List ℕ → Contents) → List (List ℕ) → List Given
 given_to_sessions generate first of_feed feeds = record { generate = generate; contents = first } ∷ map (λ (name : List ℕ). record { generate = None; contents = of_feed name }) feeds
 
--- a run, which has a catalogue exactly where it began its sessions
-abbrev pub RunsProgram : Option ℕ → List (List ℕ) → Contents → (List ℕ → Contents) → RunView → Type 0
-RunsProgram generate feeds first of_feed run = RanBy feeds (given_to_sessions generate first of_feed feeds) run.status run.catalog run.sessions
+-- a run with so many workers, which has a catalogue exactly where it began its sessions
+abbrev pub RunsProgram : ℕ → Option ℕ → List (List ℕ) → Contents → (List ℕ → Contents) → RunView → Type 0
+RunsProgram workers generate feeds first of_feed run = RanBy workers feeds (given_to_sessions generate first of_feed feeds) run.status run.catalog run.sessions
 
 -- ---- completeness
 

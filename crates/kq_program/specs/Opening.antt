@@ -38,5 +38,5 @@ pub record OpensFeeds (feeds before now : List (List ℕ)) (count_before count_n
   pub stays : run.status ≢ 5 → count_now ≡ count_before
 
 -- a run of feeds that were opened, whatever their names are and the world told of them
-abbrev pub RunsOpened : Option ℕ → List OpenedView → Contents → RunView → Type 0
-RunsOpened generate opened first run = (told : List ℕ → Contents) (names : List (List ℕ)) → AreOpened told names opened → RunsProgram generate names first told run
+abbrev pub RunsOpened : ℕ → Option ℕ → List OpenedView → Contents → RunView → Type 0
+RunsOpened workers generate opened first run = (told : List ℕ → Contents) (names : List (List ℕ)) → AreOpened told names opened → RunsProgram workers generate names first told run

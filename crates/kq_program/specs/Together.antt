@@ -1,17 +1,19 @@
 -- What sessions that are served together come to.
-use Rattle.std.specs.Prelude.{◌≡◌, ◌⊎◌, ◌+◌, ℕ, ℤ, Bool, List, [], ◌∷◌, Some, sum_by}
+use Rattle.std.specs.Prelude.{◌≡◌, ◌⊎◌, ◌+◌, ◌++◌, ℕ, ℤ, Bool, true, List, [], ◌∷◌, Some, All, sum_by}
 use mathlib.Core.List.{IsPrefix}
 use Rattle.kq_world.specs.Outside.{SourceView}
 use Rattle.kq_world.specs.declared.outside.Parts.{Parts}
+use Rattle.kq_model.specs.declared.event.Event.{Event}
 use Rattle.kq_model.specs.declared.limits.Limits.{Limits}
 use Rattle.kq_model.specs.History.{History}
 use Rattle.kq_workers.specs.kq_engine.Shared.{PassView}
 use Rattle.kq_session.specs.Objects.{Objects, objects}
-use Rattle.kq_session.specs.Session.{Explained, owns}
+use Rattle.kq_session.specs.Session.{Explained, is_receipted, owns}
 use Rattle.kq_session.specs.Exchanges.{Rises}
 use Rattle.kq_workers.specs.Rounds.{Works}
 use Rattle.kq_program.specs.Scripts.{ByScript}
 use Rattle.kq_program.specs.Views.{OpenedView, EndedView}
+use Rattle.kq_program.specs.Whole.{is_caused}
 
 -- the session of an actor was served: the history explains it by its script, and its faults have their causes
 pub record IsServed (limits : Limits) (h : History) (actor : ℕ) (o : OpenedView) (s : EndedView) : Type 0 where
@@ -39,9 +41,12 @@ AreServed limits h n (o ∷ os) (s ∷ ss) = IsServed limits h n o s × AreServe
 abbrev pub all_owns : List EndedView → ℕ
 all_owns = sum_by (λ (s : EndedView). owns s.session.receipts)
 
--- a pass went through sessions: it has seen at least as much, and the commits made through it since are theirs; a worker's
--- went through none
-pub record Passed (old new : PassView) (sessions : List EndedView) : Type 0 where
+-- a pass went through sessions: it has seen at least as much, the events made through it since have this cause, and the commits
+-- among them are the sessions'; a worker's went through none
+pub record Passed (cause : Event → Bool) (old new : PassView) (sessions : List EndedView) : Type 0 where
+  pub events : History
+  pub added : new.added ≡ old.added ++ events
+  pub caused : All (λ (e : Event). cause e ≡ true) events
   pub of : new.of ≡ old.of
   pub worth : new.worth ≡ old.worth
   pub seen : IsPrefix old.seen new.seen
@@ -53,10 +58,10 @@ RestsOrWorks limits actor old new = (new ≡ old) ⊎ ((short : Bool) × Works l
 
 -- the session of an actor was served through a pass
 pub record ServedOne (limits : Limits) (old new : PassView) (actor : ℕ) (o : OpenedView) (s : EndedView) : Type 0 where
-  pub passed : Passed old new (s ∷ [])
+  pub passed : Passed (is_receipted actor s.session.receipts) old new (s ∷ [])
   pub served : IsServed limits new.seen actor o s
 
--- all sessions were served through a pass
-pub record ServedAll (limits : Limits) (old new : PassView) (os : List OpenedView) (ss : List EndedView) : Type 0 where
-  pub passed : Passed old new ss
+-- all sessions were served through a pass, and beside them so many workers went to work
+pub record ServedAll (limits : Limits) (workers : ℕ) (old new : PassView) (os : List OpenedView) (ss : List EndedView) : Type 0 where
+  pub passed : Passed (is_caused workers ss) old new ss
   pub served : AreServed limits new.seen 0 os ss

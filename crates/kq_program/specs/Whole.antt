@@ -1,7 +1,9 @@
--- The commits of a history are those of its sessions.
-use Rattle.std.specs.Prelude.{◌≡◌, ◌<◌, ◌+◌, ℕ, List, [], ◌∷◌, length, filter, All, nat_eq}
+-- The events of a history are those of its sessions and workers.
+use Rattle.std.specs.Prelude.{◌≡◌, ◌<◌, ◌+◌, ◌&&◌, ◌||◌, ℕ, Bool, true, false, List, [], ◌∷◌, length, filter, All, nat_eq, nat_le, nat_lt}
+use Rattle.kq_model.specs.declared.event.Event.{Event}
 use Rattle.kq_model.specs.History.{History, CommitAt, commits_at}
-use Rattle.kq_session.specs.Session.{own_commits}
+use Rattle.kq_session.specs.Session.{is_receipted, own_commits}
+use Rattle.kq_workers.specs.Rounds.{is_fold_or_merge}
 use Rattle.kq_program.specs.Views.{EndedView}
 
 -- the commits of an actor
@@ -13,7 +15,21 @@ abbrev pub AreOwn : History → ℕ → List EndedView → Type 0
 AreOwn h n [] = Unit {0}
 AreOwn h n (s ∷ ss) = (commits_by n h ≡ own_commits n s.session.receipts) × AreOwn h (n + 1) ss
 
--- the commits of the history are just those of the sessions' receipts with `own`
-pub record Whole (h : History) (sessions : List EndedView) : Type 0 where
+-- the event was made for a receipt of a session from the n-th on, whose reply is no refusal
+abbrev pub is_of_sessions : ℕ → List EndedView → Event → Bool
+is_of_sessions n [] e = false
+is_of_sessions n (s ∷ ss) e = is_receipted n s.session.receipts e || is_of_sessions (n + 1) ss e
+
+-- the event is a fold or a merge by one of so many workers, whose actors are counted from 8
+abbrev pub is_of_workers : ℕ → Event → Bool
+is_of_workers workers e = nat_le 8 e.by.actor && (nat_lt e.by.actor (8 + workers) && is_fold_or_merge e.operation)
+
+-- the event has its cause: a session's command or a worker
+abbrev pub is_caused : ℕ → List EndedView → Event → Bool
+is_caused workers sessions e = is_of_sessions 0 sessions e || is_of_workers workers e
+
+-- the commits of the history are just those of the sessions' receipts with `own`, and each event has its cause
+pub record Whole (workers : ℕ) (h : History) (sessions : List EndedView) : Type 0 where
   pub own : AreOwn h 0 sessions
   pub no_others : All (λ (m : CommitAt). m.by.actor < length sessions) (commits_at h)
+  pub caused : All (λ (e : Event). is_caused workers sessions e ≡ true) h

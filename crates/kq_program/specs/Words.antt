@@ -16,6 +16,11 @@ abbrev pub generate_of : Option Asked → Option ℕ
 generate_of None = None
 generate_of (Some asked) = asked.generate
 
+-- how many workers the words ask for
+abbrev pub workers_of : Option Asked → ℕ
+workers_of None = 0
+workers_of (Some asked) = asked.workers
+
 -- the status is the code just where P holds, but that it may be 1 there, for want of memory
 abbrev pub IsJustWhere : ℕ → ℕ → Type 0 → Type 0
 IsJustWhere status code P = (status ≡ code → P) × (P → (status ≡ code) ⊎ (status ≡ 1))

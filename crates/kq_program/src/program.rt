@@ -3,7 +3,7 @@ ghost use Rattle.std.specs.Prelude.{◌≡◌, ◌≢◌, ◌≤◌, [], IsSome,
 ghost use Rattle.kq_words.specs.Words.{are_distinct};
 ghost use Rattle.kq_program.specs.Headline.{CompletesRun, RunsProgram, first_status};
 ghost use Rattle.kq_program.specs.Opening.{OpensFeeds, RunsOpened};
-ghost use Rattle.kq_program.specs.Words.{IsJustWhere, asked_in, feeds_of, generate_of};
+ghost use Rattle.kq_program.specs.Words.{IsJustWhere, asked_in, feeds_of, generate_of, workers_of};
 
 use crate::ended::{EndedSession, Run};
 use crate::feeds::open_feeds;
@@ -43,7 +43,7 @@ pub fn run<R: Threads + Wait + Sync, W: World, G: Gate + Sync>(
     ensures untouched { result.status ≡ WRONG_WORDS → world.new ≡ world.old }
     ensures served { IsSome result.catalog → IsSome (asked_in words.now) }
     ensures opens { OpensFeeds (feeds_of (asked_in words.now)) (W.asked world.old) (W.asked world.new) (W.faults world.old) (W.faults world.new) result }
-    ensures run { let said = asked_in words.now in RunsProgram (generate_of said) (feeds_of said) (W.first_contents world.old) (W.feed_contents world.old) result }
+    ensures run { let said = asked_in words.now in RunsProgram (workers_of said) (generate_of said) (feeds_of said) (W.first_contents world.old) (W.feed_contents world.old) result }
     ensures complete { CompletesRun (asked_in words.now) (W.faults world.old) (W.faults world.new) (W.first_contents world.old) (W.feed_contents world.old) result }
 {
     match Options::from_words(alloc, words) {
@@ -67,7 +67,7 @@ fn run_sessions<R: Threads + Wait + Sync, W: World, G: Gate + Sync>(
     requires few_workers { options.workers ≤ 8 }
     ensures status { result.status ≢ WRONG_WORDS }
     ensures opens { OpensFeeds options.feeds.items (W.asked world.old) (W.asked world.new) (W.faults world.old) (W.faults world.new) result }
-    ensures run { RunsProgram options.generate options.feeds.items (W.first_contents world.old) (W.feed_contents world.old) result }
+    ensures run { RunsProgram options.workers options.generate options.feeds.items (W.first_contents world.old) (W.feed_contents world.old) result }
 {
     let Options {
         workers,
@@ -98,7 +98,7 @@ fn run_opened<R: Threads + Wait + Sync, W: World, G: Gate + Sync>(
     ensures opened { result.status ≢ NOT_OPENED }
     ensures asked { W.asked world.new ≡ W.asked world.old }
     ensures faults { W.faults world.new ≡ W.faults world.old }
-    ensures run { RunsOpened generate feeds.items (W.first_contents world.old) result }
+    ensures run { RunsOpened workers generate feeds.items (W.first_contents world.old) result }
 {
     let sessions = feeds.len() + 1;
     // One pass more than there are sessions and workers.

@@ -54,7 +54,7 @@ pub(crate) fn serve_all<
     requires empty { sessions.items ≡ [] }
     requires room { length feeds.items < vec_capacity sessions }
     ensures room { vec_capacity result.sessions ≡ vec_capacity sessions }
-    ensures served { ServedAll shared.now.limits pass result.pass (first ∷ feeds.items) result.sessions.items }
+    ensures served { ServedAll shared.now.limits 0 pass result.pass (first ∷ feeds.items) result.sessions.items }
 {
     let mut feeds = feeds;
     let mut sessions = sessions;
@@ -78,7 +78,7 @@ pub(crate) fn serve_all<
             requires empty { sessions.items ≡ [] }
             requires room { length feeds.items < vec_capacity sessions }
             ensures room { vec_capacity result.sessions ≡ vec_capacity sessions }
-            ensures served { ServedAll shared.entry.now.limits rest result.pass (first ∷ feeds.items) result.sessions.items }
+            ensures served { ServedAll shared.entry.now.limits 0 rest result.pass (first ∷ feeds.items) result.sessions.items }
         { serve_all(rt, alloc, shared, rest, first, feeds, sessions, gate) },
     );
     let One {

@@ -1,6 +1,7 @@
 // Workers beside the sessions.
 ghost use Rattle.std.specs.Prelude.{◌≡◌, ◌<◌, ◌≤◌, ◌+◌, ◌∷◌, [], length, vec_capacity};
 ghost use Rattle.kq_program.specs.Together.{Passed, RestsOrWorks, ServedAll};
+ghost use Rattle.kq_workers.specs.Rounds.{is_upkeep};
 
 use crate::ended::EndedSession;
 use crate::opened::OpenedSession;
@@ -50,7 +51,7 @@ pub(crate) fn serve_beside_workers<
     requires few_workers { workers ≤ 8 }
     requires empty { sessions.items ≡ [] }
     requires room { length feeds.items < vec_capacity sessions }
-    ensures served { ServedAll shared.now.limits pass result.pass (first ∷ feeds.items) result.sessions.items }
+    ensures served { ServedAll shared.now.limits workers pass result.pass (first ∷ feeds.items) result.sessions.items }
 {
     if workers == 0 {
         let together = serve_all(rt, alloc, shared, pass, first, feeds, sessions, gate);
@@ -64,7 +65,7 @@ pub(crate) fn serve_beside_workers<
         rt,
         move || -> Pass
             requires of { mine.of ≡ shared.now.turn }
-            ensures passed { Passed mine result [] }
+            ensures passed { Passed (is_upkeep actor) mine result [] }
             ensures worked { RestsOrWorks shared.entry.now.limits actor mine result }
         { work_until(rt, shared, mine, actor, gate, stop) },
         move || -> Together<S, K, C>
@@ -74,7 +75,7 @@ pub(crate) fn serve_beside_workers<
             requires few_workers { others ≤ 8 }
             requires empty { sessions.items ≡ [] }
             requires room { length feeds.items < vec_capacity sessions }
-            ensures served { ServedAll shared.entry.now.limits rest result.pass (first ∷ feeds.items) result.sessions.items }
+            ensures served { ServedAll shared.entry.now.limits others rest result.pass (first ∷ feeds.items) result.sessions.items }
         {
             serve_beside_workers(
                 rt, alloc, shared, rest, others, stop, first, feeds, sessions, gate,
@@ -101,7 +102,7 @@ fn work_until<R: Wait, G: Gate>(
     stop: &AtomicBool,
 ) -> Pass
     requires { pass.of ≡ shared.now.turn }
-    ensures passed { Passed pass result [] }
+    ensures passed { Passed (is_upkeep actor) pass result [] }
     ensures worked { RestsOrWorks shared.now.limits actor pass result }
 {
     if stop.load(Ordering::SeqCst) {

@@ -1,5 +1,5 @@
 -- What fits a block goes on to fit.
-use Rattle.std.proofs.Common.{◌≡◌, ℕ, ℤ, Bool, ◌++◌, List, length, take, [], true, false, refl, inl, inr, subst, sym, arith, length-append, append-nil, add-zero, Result, Ok, Err}
+use Rattle.std.proofs.Common.{◌≡◌, ℕ, ℤ, Bool, ◌++◌, List, length, take, [], true, false, refl, inl, inr, subst, sym, arith, length-append, append-nil, add-zero, Option, Some, None, ◌∷◌, Result, Ok, Err}
 use Rattle.kq_turn.proofs.Beginnings.{IsPrefix-refl}
 use Rattle.kq_model.specs.declared.event.By.{By}
 use Rattle.kq_model.specs.declared.limits.Limits.{Limits}
@@ -18,7 +18,11 @@ use Rattle.kq_engine.specs.Shared.{PassView}
 use Rattle.kq_script.specs.Script.{Block, command, too_long}
 use Rattle.kq_engine.proofs.Advancing.{Fits-append}
 use Rattle.kq_engine.proofs.Telling.{refused_still, still_names}
-use Rattle.kq_session.specs.Blocks.{RefusesAlone, FitsRead, FitsBlock, AnswersBlock, is_early, refusal_of}
+use Rattle.kq_model.specs.declared.event.Operation.{Operation}
+use Rattle.kq_engine.specs.Fits.{MayMake}
+use Rattle.kq_engine.specs.Shared.{Applies}
+use Rattle.kq_engine.proofs.Accepting.{granted_kind}
+use Rattle.kq_session.specs.Blocks.{RefusesAlone, FitsRead, FitsBlock, AnswersBlock, IsBeside, is_early, refusal_of}
 
 RefusesAlone-append : (h more : History) (place : ℕ) (own : Bool) (reply : Reply) (r : Refusal) → RefusesAlone h place own reply r → RefusesAlone (h ++ more) place own reply r
 RefusesAlone-append h more place own reply r refuses = record {
@@ -50,6 +54,9 @@ AnswersBlock-refused limits p by block now r outcome is early fits = subst (λ (
   of = refl;
   worth = refl;
   seen = IsPrefix-refl p.seen;
+  operation = None;
+  added = sym (append-nil p.added);
+  beside = tt;
   made = sym (add-zero p.made);
   takes = [];
   taken = sym (append-nil p.taken);
@@ -86,3 +93,26 @@ AnswersBlock-memory limits p by text now outcome is = AnswersBlock-refused limit
   reads = tt;
   fits = record { within = omega arith; not_own = refl; reason = inr refl };
 })
+
+may_beside : (limits : Limits) (old : History) (asked : Command) (reply : Reply) (made : Option Operation) → MayMake limits old asked reply made → IsBeside reply made
+may_beside limits old asked reply None may = tt
+may_beside limits old asked reply (Some made) may = granted_kind reply may.0
+
+-- a command that the engine answered
+pub AnswersBlock-applied : (limits : Limits) (old new : PassView) (by : By) (text : List ℕ) (now : ℤ) (asked : Command) (outcome : Outcome) → ReadsAs text (Ok asked) → Applies limits old new (record { by = by; command = asked; now = now }) outcome → AnswersBlock limits old new by (command text) now outcome
+AnswersBlock-applied limits old new by text now asked outcome reads applies = record {
+  of = applies.of;
+  worth = applies.worth;
+  seen = applies.seen;
+  operation = applies.last.appends.made;
+  added = applies.last.added;
+  beside = may_beside limits applies.last.found asked outcome.reply applies.last.appends.made applies.last.appends.may_make;
+  made = applies.made;
+  takes = applies.takes.first ∷ applies.takes.more;
+  taken = applies.takes.gains;
+  enough = (applies.takes.since, applies.takes.few);
+  fits = record { read = Ok asked; reads = reads; fits = applies.fits };
+  since = applies.since;
+  names_all = applies.names_all;
+  within = applies.fits.within;
+}

@@ -1,14 +1,19 @@
 -- A session goes on by one exchange.
-use Rattle.std.proofs.Common.{◌≡◌, ◌≤◌, ◌+◌, ℕ, Bool, List, [], ◌∷◌, ◌++◌, length, map, take, Some, None, Result, Ok, Err, ap, sym, ◌∙◌, subst, refl, arith, append-nil, append_assoc, length-append, add-zero, zero-add}
+use Rattle.std.proofs.Common.{◌≡◌, ◌≤◌, ◌+◌, ◌&&◌, ◌||◌, ℕ, Bool, true, false, List, [], ◌∷◌, ◌++◌, length, map, take, nat_eq, All, Option, Some, None, Result, Ok, Err, ap, sym, ◌∙◌, subst, refl, arith, append-nil, append_assoc, length-append, add-zero, zero-add}
 use mathlib.Core.List.{IsPrefix}
 use Rattle.kq_turn.proofs.Beginnings.{IsPrefix-refl, IsPrefix-trans}
+use Rattle.std.specs.List.{list_any}
+use Rattle.std.proofs.lemmas.Bool.{eq-eqb}
+use Rattle.std.proofs.lemmas.List.Elements.{All-append, All-cons, All-nil, All-weaker}
+use Rattle.std.proofs.lemmas.List.Folds.{list_any-append}
 use Rattle.std.proofs.lemmas.List.Sums.{sum_by-append}
 use Rattle.std.proofs.lemmas.List.{map_push, flat_map_more, length_push, take-append-le}
 use Rattle.kq_world.specs.Told.{Adds}
 use Rattle.kq_world.specs.Outside.{Contents, Delivers}
 use Rattle.kq_world.proofs.Told.{Adds-none, Adds-trans, Delivers-none, Delivers-trans}
 use Rattle.kq_model.specs.declared.limits.Limits.{Limits}
-use Rattle.kq_model.specs.declared.event.By.{By}
+use Rattle.kq_model.specs.declared.event.Event.{Event}
+use Rattle.kq_model.specs.declared.event.Operation.{Operation}
 use Rattle.kq_model.specs.History.{History}
 use Rattle.kq_reply.specs.declared.reply.Reply.{Reply}
 use Rattle.kq_reply.specs.Number.{kind_of}
@@ -16,15 +21,16 @@ use Rattle.kq_reply.specs.Text.{text_of}
 use Rattle.kq_script.specs.Script.{Block, script_blocks}
 use Rattle.kq_script.specs.Reading.{IsReading, IsPrefix as Begins}
 use Rattle.kq_script.specs.declared.reader.ScriptReader.{ScriptReader}
+use Rattle.kq_engine.specs.Fits.{event_by}
 use Rattle.kq_engine.specs.Merges.{NamesAll}
 use Rattle.kq_engine.specs.Shared.{PassView, commit_count}
 use Rattle.kq_engine.proofs.Telling.{NamesAll-since}
 use Rattle.kq_session.specs.declared.end.End.{End}
 use Rattle.kq_session.specs.declared.end.End.TheVariants.{Finished, Short, SourceFault, SinkFault, InputLimit}
 use Rattle.kq_session.specs.declared.receipt.Receipt.{Receipt}
-use Rattle.kq_session.specs.Blocks.{FitsBlock, AnswersBlock, AreTakes}
+use Rattle.kq_session.specs.Blocks.{FitsBlock, AnswersBlock, AreTakes, IsBeside}
 use Rattle.kq_session.specs.Objects.{SessionView}
-use Rattle.kq_session.specs.Session.{Exchange, IsExchange, ComesAfter, AreExchanges, AreWritten, SessionEnds, Explained, PassGoesOn, blocks_of, moments_of, texts_of, owns, AreTaken, command_bytes, input_bytes}
+use Rattle.kq_session.specs.Session.{Exchange, IsExchange, ComesAfter, AreExchanges, AreWritten, SessionEnds, Explained, PassGoesOn, blocks_of, moments_of, texts_of, owns, is_receipted, AreTaken, command_bytes, input_bytes}
 use Rattle.kq_session.specs.Exchanges.{State, Progress, Went, Idle, ExchangeBy, SessionComesTo}
 use Rattle.kq_session.proofs.Blocks.{FitsBlock-append}
 use Rattle.kq_session.proofs.Exchanging.{given_at_end, open_still}
@@ -69,12 +75,57 @@ AreTaken-push (x ∷ receipts) r taken takes all last =
 owns-push : (receipts : List Receipt) (r : Receipt) → owns (receipts ++ r ∷ []) ≡ owns receipts + commit_count r.own
 owns-push receipts r = sum_by-append (λ (x : Receipt). commit_count x.own) receipts (r ∷ []) ∙ ap (λ (k : ℕ). owns receipts + k) (zero-add (commit_count r.own))
 
+-- ---- events
+
+and_both : (a b : Bool) → a ≡ true → b ≡ true → (a && b) ≡ true
+and_both true b e f = f
+and_both false b e f = e
+
+and_weaker : (a b c : Bool) → (b ≡ true → c ≡ true) → (a && b) ≡ true → (a && c) ≡ true
+and_weaker true b c f e = f e
+and_weaker false b c f e = e
+
+or_first : (a b : Bool) → a ≡ true → (a || b) ≡ true
+or_first true b e = refl
+or_first false b e = absurd (cc)
+
+or_second : (a b : Bool) → b ≡ true → (a || b) ≡ true
+or_second true b e = refl
+or_second false b e = e
+
+-- the receipt is of this number, and tells no refusal
+abbrev is_of : ℕ → Receipt → Bool
+is_of number r = nat_eq r.number number && nat_eq r.kind 0
+
+-- what was made for a receipt was made for one of more
+is_receipted-more : (actor : ℕ) (receipts : List Receipt) (r : Receipt) (e : Event) → is_receipted actor receipts e ≡ true → is_receipted actor (receipts ++ r ∷ []) e ≡ true
+is_receipted-more actor receipts r e is =
+    and_weaker (nat_eq e.by.actor actor) (list_any (is_of e.by.number) receipts) (list_any (is_of e.by.number) (receipts ++ r ∷ []))
+    (λ here. list_any-append (is_of e.by.number) receipts (r ∷ []) ∙ or_first (list_any (is_of e.by.number) receipts) (list_any (is_of e.by.number) (r ∷ [])) here) is
+
+-- an event with the last receipt's request id was made for it
+is_receipted-last : (actor n : ℕ) (receipts : List Receipt) (r : Receipt) (made : Operation) → r.number ≡ n → r.kind ≡ 0 → is_receipted actor (receipts ++ r ∷ []) (record { by = record { actor = actor; number = n }; operation = made }) ≡ true
+is_receipted-last actor n receipts r made number granted =
+    let last : is_of n r ≡ true = and_both (nat_eq r.number n) (nat_eq r.kind 0) (eq-eqb r.number n number) (eq-eqb r.kind 0 granted) in
+    let some : list_any (is_of n) (receipts ++ r ∷ []) ≡ true = list_any-append (is_of n) receipts (r ∷ []) ∙ or_second (list_any (is_of n) receipts) (list_any (is_of n) (r ∷ [])) (or_first (is_of n r) false last) in
+    and_both (nat_eq actor actor) (list_any (is_of n) (receipts ++ r ∷ [])) (eq-eqb actor actor refl) some
+
+event_receipted : (actor n : ℕ) (receipts : List Receipt) (r : Receipt) (reply : Reply) (made : Option Operation) → r.number ≡ n → r.kind ≡ kind_of reply → IsBeside reply made
+    → All (λ (e : Event). is_receipted actor (receipts ++ r ∷ []) e ≡ true) (event_by (record { actor = actor; number = n }) made)
+event_receipted actor n receipts r reply None number kind beside = All-nil (λ (e : Event). is_receipted actor (receipts ++ r ∷ []) e ≡ true)
+event_receipted actor n receipts r reply (Some made) number kind beside =
+    let e : Event = record { by = record { actor = actor; number = n }; operation = made } in
+    All-cons (λ (x : Event). is_receipted actor (receipts ++ r ∷ []) x ≡ true) e [] (is_receipted-last actor n receipts r made number (kind ∙ beside)) (All-nil (λ (x : Event). is_receipted actor (receipts ++ r ∷ []) x ≡ true))
+
 -- no receipt yet
-pub PassGoesOn-none : (p : PassView) → PassGoesOn p p []
-PassGoesOn-none p = record {
+pub PassGoesOn-none : (actor : ℕ) (p : PassView) → PassGoesOn actor p p []
+PassGoesOn-none actor p = record {
   of = refl;
   worth = refl;
   seen = IsPrefix-refl p.seen;
+  events = [];
+  added = sym (append-nil p.added);
+  receipted = All-nil (λ (e : Event). is_receipted actor [] e ≡ true);
   made = sym (add-zero p.made);
   more = [];
   taken = sym (append-nil p.taken);
@@ -82,11 +133,17 @@ PassGoesOn-none p = record {
 }
 
 -- one receipt more
-PassGoesOn-push : (limits : Limits) (first old new : PassView) (by : By) (block : Block) (receipts : List Receipt) (r : Receipt) (reply : Reply) → PassGoesOn first old receipts → r.kind ≡ kind_of reply → AnswersBlock limits old new by block r.moment (record { place = r.place; own = r.own; reply = reply }) → PassGoesOn first new (receipts ++ r ∷ [])
-PassGoesOn-push limits first old new by block receipts r reply goes_on kind step = record {
+PassGoesOn-push : (limits : Limits) (first old new : PassView) (actor n : ℕ) (block : Block) (receipts : List Receipt) (r : Receipt) (reply : Reply) → PassGoesOn actor first old receipts → r.number ≡ n → r.kind ≡ kind_of reply
+    → AnswersBlock limits old new (record { actor = actor; number = n }) block r.moment (record { place = r.place; own = r.own; reply = reply }) → PassGoesOn actor first new (receipts ++ r ∷ [])
+PassGoesOn-push limits first old new actor n block receipts r reply goes_on number kind step = record {
   of = step.of ∙ goes_on.of;
   worth = step.worth ∙ goes_on.worth;
   seen = IsPrefix-trans first.seen old.seen new.seen goes_on.seen step.seen;
+  events = goes_on.events ++ event_by (record { actor = actor; number = n }) step.operation;
+  added = step.added ∙ ap (λ (h : History). h ++ event_by (record { actor = actor; number = n }) step.operation) goes_on.added ∙ append_assoc first.added goes_on.events (event_by (record { actor = actor; number = n }) step.operation);
+  receipted = All-append (λ (e : Event). is_receipted actor (receipts ++ r ∷ []) e ≡ true) goes_on.events (event_by (record { actor = actor; number = n }) step.operation)
+      (All-weaker (λ (e : Event). is_receipted actor receipts e ≡ true) (λ (e : Event). is_receipted actor (receipts ++ r ∷ []) e ≡ true) (is_receipted-more actor receipts r) goes_on.events goes_on.receipted)
+      (event_receipted actor n receipts r reply step.operation number kind step.beside);
   made = omega (arith, step.made, goes_on.made, owns-push receipts r);
   more = goes_on.more ++ step.takes;
   taken = step.taken ∙ ap (λ (l : List ℕ). l ++ step.takes) goes_on.taken ∙ append_assoc first.taken goes_on.more step.takes;
@@ -103,7 +160,7 @@ pub record SoFar (limits : Limits) (actor : ℕ) (start now : State) (reader : S
   pub reading : IsReading command_bytes input_bytes reader start.contents.source now.contents.source bytes (blocks_of exchanges)
   pub moments : Adds start.contents.readings now.contents.readings (moments_of exchanges)
   pub written : Adds start.contents.accepted now.contents.accepted (texts_of exchanges)
-  pub goes_on : PassGoesOn start.pass now.pass now.receipts
+  pub goes_on : PassGoesOn actor start.pass now.pass now.receipts
   pub count : length exchanges + 1 ≡ n
 
 pub SoFar-none : (limits : Limits) (actor : ℕ) (s : State) (reader : ScriptReader) → s.receipts ≡ [] → IsReading command_bytes input_bytes reader s.contents.source s.contents.source [] [] → SoFar limits actor s s reader 1
@@ -116,7 +173,7 @@ SoFar-none limits actor s reader fresh reading = record {
   reading = reading;
   moments = Adds-none s.contents.readings;
   written = Adds-none s.contents.accepted;
-  goes_on = subst (PassGoesOn s.pass s.pass) (sym fresh) (PassGoesOn-none s.pass);
+  goes_on = subst (PassGoesOn actor s.pass s.pass) (sym fresh) (PassGoesOn-none actor s.pass);
   count = refl;
 }
 
@@ -135,7 +192,7 @@ record More (limits : Limits) (actor : ℕ) (start now : State) (reader : Script
   pub gave : Delivers start.contents.source now.contents.source bytes
   pub reading : IsReading command_bytes input_bytes reader start.contents.source now.contents.source bytes (blocks_of exchanges)
   pub moments : Adds start.contents.readings now.contents.readings (moments_of exchanges)
-  pub goes_on : PassGoesOn start.pass now.pass now.receipts
+  pub goes_on : PassGoesOn actor start.pass now.pass now.receipts
   pub count : length exchanges + 1 ≡ n
 
 more_by : {E : Type 0} (limits : Limits) (actor n : ℕ) (start old new : State) (was reader : ScriptReader) (so_far : SoFar limits actor start old was n) (result : Result (Unit {0}) E)
@@ -161,7 +218,7 @@ more_by limits actor n start old new was reader so_far result went =
       gave = Delivers-trans start.contents.source old.contents.source new.contents.source so_far.bytes went.reads.bytes so_far.gave went.reads.gave;
       reading = subst (IsReading command_bytes input_bytes reader start.contents.source new.contents.source (so_far.bytes ++ went.reads.bytes)) (ap (λ (b : Block). blocks_of exchanges ++ b ∷ []) (sym went.replied.same_block) ∙ sym (map_push (λ (u : Exchange). u.block) exchanges t)) went.reads.reading;
       moments = subst (Adds start.contents.readings new.contents.readings) (sym (map_push (λ (u : Exchange). u.receipt.moment) exchanges t)) (Adds-trans start.contents.readings old.contents.readings new.contents.readings (moments_of exchanges) _ so_far.moments answered.moment);
-      goes_on = subst (PassGoesOn start.pass new.pass) (sym answered.receipt) (PassGoesOn-push limits start.pass old.pass new.pass (record { actor = actor; number = n }) t.block old.receipts r t.reply so_far.goes_on answered.kind step);
+      goes_on = subst (PassGoesOn actor start.pass new.pass) (sym answered.receipt) (PassGoesOn-push limits start.pass old.pass new.pass actor n t.block old.receipts r t.reply so_far.goes_on answered.number answered.kind step);
       count = omega (arith, so_far.count, length_push exchanges t);
     }
 
@@ -199,14 +256,14 @@ SessionEnds-idle limits actor n start old new was end so_far idle all_written = 
   written = all_written so_far.exchanges (idle.accepted ∙ so_far.written);
 }
 
-PassGoesOn-idle : (first old new : PassView) (receipts more : List Receipt) → PassGoesOn first old receipts → new ≡ old → more ≡ receipts → PassGoesOn first new more
-PassGoesOn-idle first old new receipts more goes_on same same_receipts = subst (λ (p : PassView). PassGoesOn first p more) (sym same) (subst (PassGoesOn first old) (sym same_receipts) goes_on)
+PassGoesOn-idle : (actor : ℕ) (first old new : PassView) (receipts more : List Receipt) → PassGoesOn actor first old receipts → new ≡ old → more ≡ receipts → PassGoesOn actor first new more
+PassGoesOn-idle actor first old new receipts more goes_on same same_receipts = subst (λ (p : PassView). PassGoesOn actor first p more) (sym same) (subst (PassGoesOn actor first old) (sym same_receipts) goes_on)
 
 idle_comes : (limits : Limits) (actor n : ℕ) (start old new : State) (was : ScriptReader) (end : End) (so_far : SoFar limits actor start old was n) → Idle (progress so_far) old new end
     → ((exchanges : List Exchange) → Adds start.contents.accepted new.contents.accepted (texts_of exchanges) → AreWritten end start.contents.accepted new.contents.accepted exchanges) → SessionComesTo limits actor start new end
 idle_comes limits actor n start old new was end so_far idle all_written = record {
   ends = SessionEnds-idle limits actor n start old new was end so_far idle all_written;
-  goes_on = PassGoesOn-idle start.pass old.pass new.pass old.receipts new.receipts so_far.goes_on idle.same_pass idle.same_receipts;
+  goes_on = PassGoesOn-idle actor start.pass old.pass new.pass old.receipts new.receipts so_far.goes_on idle.same_pass idle.same_receipts;
 }
 
 pub SessionComesTo-end : (limits : Limits) (actor n : ℕ) (start old new : State) (was reader : ScriptReader) (end : End) (so_far : SoFar limits actor start old was n)

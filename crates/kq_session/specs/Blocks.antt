@@ -1,8 +1,9 @@
 -- When a reply fits a block of a script.
-use Rattle.std.specs.Prelude.{◌≡◌, ◌≤◌, ◌⊎◌, ◌+◌, ℕ, ℤ, Bool, true, false, List, [], ◌∷◌, ◌++◌, length, take, Result, Ok, Err, nat_eq}
+use Rattle.std.specs.Prelude.{◌≡◌, ◌≤◌, ◌⊎◌, ◌+◌, ℕ, ℤ, Bool, true, false, List, [], ◌∷◌, ◌++◌, length, take, Option, Some, None, Result, Ok, Err, nat_eq}
 use Rattle.std.specs.List.{list_any}
 use mathlib.Core.List.{IsPrefix}
 use Rattle.kq_model.specs.declared.event.By.{By}
+use Rattle.kq_model.specs.declared.event.Operation.{Operation}
 use Rattle.kq_model.specs.declared.limits.Limits.{Limits}
 use Rattle.kq_model.specs.History.{History}
 use Rattle.kq_command.specs.declared.command.Command.{Command}
@@ -16,7 +17,7 @@ use Rattle.kq_reply.specs.declared.reply.Reply.TheVariants as replies
 use Rattle.kq_reply.specs.Number.{kind_of, number_of}
 use Rattle.kq_script.specs.Script.{Block, command, too_long}
 use Rattle.kq_engine.specs.declared.work.Outcome.{Outcome}
-use Rattle.kq_engine.specs.Fits.{Fits}
+use Rattle.kq_engine.specs.Fits.{Fits, event_by}
 use Rattle.kq_engine.specs.Merges.{NamesAll}
 use Rattle.kq_engine.specs.Shared.{PassView, commit_count}
 
@@ -66,12 +67,20 @@ abbrev pub AreTakes : ℕ → ℕ → List ℕ → Type 0
 AreTakes kind place [] = is_early kind ≡ true
 AreTakes kind place (first ∷ more) = (first ≤ place) × (length more ≤ 1)
 
--- one block was answered through a pass: the outcome fits what it has then seen, at a place not below what it had seen, and
+-- an event was made only beside a reply that is no refusal
+abbrev pub IsBeside : Reply → Option Operation → Type 0
+IsBeside reply None = Unit {0}
+IsBeside reply (Some made) = kind_of reply ≡ 0
+
+-- one block was answered through a pass: it made at most one event, the outcome fits what the pass has then seen, at a place not below what it had seen, and
 -- a merge that it tells is of all that were picked at such a place, and a fold up to the cursor there or a later one
 pub record AnswersBlock (limits : Limits) (old new : PassView) (by : By) (block : Block) (now : ℤ) (outcome : Outcome) : Type 0 where
   pub of : new.of ≡ old.of
   pub worth : new.worth ≡ old.worth
   pub seen : IsPrefix old.seen new.seen
+  pub operation : Option Operation
+  pub added : new.added ≡ old.added ++ event_by by operation
+  pub beside : IsBeside outcome.reply operation
   pub made : new.made ≡ old.made + commit_count outcome.own
   pub takes : List ℕ
   pub taken : new.taken ≡ old.taken ++ takes

@@ -99,7 +99,7 @@ TakesExchange told accepted readings limits by was reader old new end =
 
 -- what a session comes to from its start
 pub record SessionComesTo (limits : Limits) (actor : ℕ) (old new : State) (end : End) : Type 0 where
-  pub goes_on : PassGoesOn old.pass new.pass new.receipts
+  pub goes_on : PassGoesOn actor old.pass new.pass new.receipts
   pub ends : SessionEnds limits new.pass.seen actor old.contents new.contents new.receipts end
 
 -- the count of faults never falls, rose where this holds, and stays where it doesn't

@@ -1,9 +1,10 @@
 -- When a session is explained by a history.
-use Rattle.std.specs.Prelude.{◌≡◌, ◌<◌, ◌≤◌, ◌+◌, ℕ, ℤ, Bool, true, false, List, [], ◌∷◌, ◌++◌, length, take, map, count_by}
-use Rattle.std.specs.List.{flat_map}
+use Rattle.std.specs.Prelude.{◌≡◌, ◌<◌, ◌≤◌, ◌+◌, ◌&&◌, ℕ, ℤ, Bool, true, false, List, [], ◌∷◌, ◌++◌, length, take, map, count_by, All, nat_eq}
+use Rattle.std.specs.List.{flat_map, list_any}
 use mathlib.Core.List.{IsPrefix}
 use Rattle.kq_world.specs.Told.{Adds}
 use Rattle.kq_world.specs.Outside.{SourceView, Contents, Delivers}
+use Rattle.kq_model.specs.declared.event.Event.{Event}
 use Rattle.kq_model.specs.declared.limits.Limits.{Limits}
 use Rattle.kq_model.specs.History.{History, CommitAt}
 use Rattle.kq_reply.specs.declared.reply.Reply.{Reply}
@@ -124,12 +125,19 @@ abbrev pub AreTaken : List Receipt → List ℕ → Type 0
 AreTaken [] taken = taken ≡ []
 AreTaken (r ∷ receipts) taken = (takes : List ℕ) × (more : List ℕ) × (taken ≡ takes ++ more) × AreTakes r.kind r.place takes × AreTaken receipts more
 
--- a pass after these receipts: it has seen at least as much, the commits made through it since are those of the receipts
--- with `own`, and it took the catalogue for each of them, twice at most
-pub record PassGoesOn (old new : PassView) (receipts : List Receipt) : Type 0 where
+-- the event was made for one of an actor's receipts, whose reply is no refusal
+abbrev pub is_receipted : ℕ → List Receipt → Event → Bool
+is_receipted actor receipts e = nat_eq e.by.actor actor && list_any (λ (r : Receipt). nat_eq r.number e.by.number && nat_eq r.kind 0) receipts
+
+-- an actor's pass after these receipts: it has seen at least as much, the events made through it since were made for them, and
+-- the commits among these are those of the receipts with `own`; it took the catalogue for each of them, twice at most
+pub record PassGoesOn (actor : ℕ) (old new : PassView) (receipts : List Receipt) : Type 0 where
   pub of : new.of ≡ old.of
   pub worth : new.worth ≡ old.worth
   pub seen : IsPrefix old.seen new.seen
+  pub events : History
+  pub added : new.added ≡ old.added ++ events
+  pub receipted : All (λ (e : Event). is_receipted actor receipts e ≡ true) events
   pub made : new.made ≡ old.made + owns receipts
   pub more : List ℕ
   pub taken : new.taken ≡ old.taken ++ more

@@ -45,7 +45,7 @@ pub fn serve<R: Wait, S: Source, K: Sink, C: Clock, G: Gate>(
     gate: &G,
 ) -> Served<S, K, C>
     requires { pass.of ≡ shared.now.turn }
-    ensures pass { PassGoesOn pass result.pass result.session.receipts }
+    ensures pass { PassGoesOn actor pass result.pass result.session.receipts }
     ensures explained { Explained shared.now.limits result.pass.seen actor (contents S.told K.accepted C.readings parts) result.session }
     ensures complete { CompletesSession shared.now.limits result.pass.seen actor (objects S.told S.faults K.accepted K.faults C.readings parts) result.session }
     ensures source { Rises (S.faults parts.source) result.session.objects.source_faults (result.session.status ≡ 3) }

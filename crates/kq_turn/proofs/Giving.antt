@@ -1,6 +1,6 @@
 -- `count store` and `turn store` keep the rule, and so does `count load`.
-use Rattle.std.proofs.Common.{◌≡◌, ◌≢◌, ◌⊎◌, ◌+◌, ℕ, Bool, true, false, true≢false, List, [], ◌∷◌, ◌++◌, length, Some, sym, ap, ◌∙◌, refl, subst, inl, inr, arith}
-use Rattle.std.specs.Prelude.{Option, unwrap_or, slice_index, slice_set}
+use Rattle.std.proofs.Common.{◌≡◌, ◌≢◌, ◌⊎◌, ◌+◌, ℕ, Bool, true, false, true≢false, List, [], ◌∷◌, ◌++◌, length, set, cond, Some, sym, ap, ◌∙◌, refl, subst, inl, inr, arith}
+use Rattle.std.specs.Prelude.{Option, unwrap_or, slice_index, slice_set, sum_by, count_by}
 use mathlib.Core.Option.{some, none, some-injective}
 use mathlib.Core.List.{IsPrefix}
 use lib.ListN.{get_elem?}
@@ -12,18 +12,19 @@ use Rattle.kq_turn.specs.Views.{counted_view, given_view}
 use Rattle.kq_turn.specs.Steps.{Counts, GivesBack, Learns}
 use Rattle.kq_turn.specs.Rule.{IsLive, Knows, IsHome, IsOut, Kept}
 use Rattle.kq_turn.proofs.Beginnings.{IsPrefix-refl, append-gained}
+use Rattle.std.proofs.lemmas.List.Sums.{sum_by-append}
 use Rattle.kq_turn.proofs.Sums.{within, sum_by-set_at, sum_by-set_same}
 use Rattle.kq_turn.proofs.Seats.{each_set, Knows-longer, knows_set, spent_set}
 
-module _ {S E : Type 0} (history : S → List E) (tally : List E → ℕ) (fixed : S → List ℕ) (passes : ℕ) (fx : List ℕ) where
+module _ {S E : Type 0} (history : S → List E) (fixed : S → List ℕ) (passes : ℕ) (fx : List ℕ) where
   abbrev K : State (Option S) (View E) → Type 0
-  K = Kept history tally fixed passes fx
+  K = Kept history fixed passes fx
 
   abbrev Home : List E → State (Option S) (View E) → Type 0
-  Home = IsHome history tally fixed passes fx
+  Home = IsHome history fixed passes fx
 
   abbrev Out : List E → State (Option S) (View E) → Type 0
-  Out = IsOut history tally fixed passes fx
+  Out = IsOut history fixed passes fx
 
   -- the value that a seat carries is x, where it is known to carry one
   abbrev value_of : S → List (ℕ × Option S) → S
@@ -35,24 +36,22 @@ module _ {S E : Type 0} (history : S → List E) (tally : List E → ℕ) (fixed
   base_is h s id v at holds out =
       ap (λ (u : View E). u.base) (some-injective v out.holder (sym at ∙ ap (get_elem? s.views) (out.alone id v at holds) ∙ out.there)) ∙ out.base
 
-  pub allows_count : (slots id : ℕ) (v : View E) (x : S) (c : List (ℕ × Option S)) (new : ℕ) → ((xs ys : List E) → tally (xs ++ ys) ≡ tally xs + tally ys)
+  pub allows_count : (slots id : ℕ) (v : View E) (x : S) (c : List (ℕ × Option S)) (new : ℕ)
       → v.holds ≡ true → IsLive v → c ≡ (0, Some x) ∷ [] → IsPrefix v.base (history x) → new ≡ length (history x)
-      → Allows K slots id (v, c) 1 (λ _. new) (λ _. Counts history tally (step slots 1 new 0 none) (v, c) new)
-  allows_count slots id v x c new adds holds live carries begins is s kept one at small = go kept.place
+      → Allows K slots id (v, c) 1 (λ _. new) (λ _. Counts history (step slots 1 new 0 none) (v, c) new)
+  allows_count slots id v x c new holds live carries begins is s kept one at small = go kept.place
     where
-      grown : tally (history x) ≡ tally v.base + tally (gained v.base (history x))
-      grown = ap tally (sym (append-gained v.base (history x) begins)) ∙ adds v.base (gained v.base (history x))
+      grown : (test : E → Bool) → count_by test (history x) ≡ count_by test v.base + count_by test (gained v.base (history x))
+      grown test = ap (count_by test) (sym (append-gained v.base (history x) begins)) ∙ sum_by-append (λ y. cond (test y) 1 0) v.base (gained v.base (history x))
 
       longer : Out kept.h s → IsPrefix kept.h (history x)
       longer out = subst (λ l. IsPrefix l (history x)) (base_is kept.h s id v at holds out) begins
 
-      counted : (out : Out kept.h s) → K (stepped s 1 new id c (counted_view tally v (history x)) keeps)
+      counted : (out : Out kept.h s) → K (stepped s 1 new id c (counted_view v (history x)) keeps)
       counted out =
-          let w' = counted_view tally v (history x) in
+          let w' = counted_view v (history x) in
           let same = out.alone id v at holds in
           let f = kept.knows id v at live in
-          let made = sum_by-set_at (λ (u : View E). u.made) s.views id v w' at in
-          let based = ap tally (base_is kept.h s id v at holds out) in
           record {
             h = history x;
             place = inr (record {
@@ -69,18 +68,23 @@ module _ {S E : Type 0} (history : S → List E) (tally : List E → ℕ) (fixed
             knows = knows_set passes fx kept.h (history x) s.views id w' kept.knows (longer out)
                 (λ _. let k = Knows-longer passes fx kept.h (history x) v (longer out) f in record { seen = k.seen; olds = k.olds; passes_is = k.passes_is; fixed_is = k.fixed_is });
             worths = sum_by-set_same (λ u. u.worth) s.views id passes v w' at refl kept.worths;
-            mades = omega (arith, made, grown, kept.mades, based);
+            adds = λ test.
+                let f : View E → ℕ = λ u. count_by test u.added in
+                let changed : sum_by f (set s.views id w') + count_by test v.added ≡ sum_by f s.views + count_by test (v.added ++ gained v.base (history x)) = sum_by-set_at f s.views id v w' at in
+                let more : count_by test (v.added ++ gained v.base (history x)) ≡ count_by test v.added + count_by test (gained v.base (history x)) = sum_by-append (λ y. cond (test y) 1 0) v.added (gained v.base (history x)) in
+                let based : count_by test v.base ≡ count_by test kept.h = ap (count_by test) (base_is kept.h s id v at holds out) in
+                omega (arith, changed, more, grown test, kept.adds test, based);
             spent = spent_set s.views id w' kept.spent (λ gone. absurd (omega (arith, live, gone)));
           }
 
-      go : Home kept.h s ⊎ Out kept.h s → (u : View E) × (a : Act (Option S)) × Valid s.homes c a × K (stepped s 1 new id c u a) × Counts history tally (step slots 1 new 0 none) (v, c) new (u, carried_after c a)
+      go : Home kept.h s ⊎ Out kept.h s → (u : View E) × (a : Act (Option S)) × Valid s.homes c a × K (stepped s 1 new id c u a) × Counts history (step slots 1 new 0 none) (v, c) new (u, carried_after c a)
       go (inl home) = absurd (true≢false (sym holds ∙ home.nobody id v at))
       go (inr out) = (
-        counted_view tally v (history x),
+        counted_view v (history x),
         keeps,
         tt,
         counted out,
-        λ y e. ap (λ z. (counted_view tally v (history z), c)) (ap (value_of x) (sym carries ∙ e)),
+        λ y e. ap (λ z. (counted_view v (history z), c)) (ap (value_of x) (sym carries ∙ e)),
       )
 
   pub allows_give : (slots id : ℕ) (v : View E) (x : S) (c : List (ℕ × Option S)) → v.holds ≡ true → IsLive v → c ≡ (0, Some x) ∷ [] → v.base ≡ history x → fixed x ≡ v.fixed
@@ -114,7 +118,7 @@ module _ {S E : Type 0} (history : S → List E) (tally : List E → ℕ) (fixed
             knows = knows_set passes fx kept.h kept.h s.views id w kept.knows (IsPrefix-refl kept.h)
                 (λ _. record { seen = subst (λ l. IsPrefix l kept.h) (sym base') (IsPrefix-refl kept.h); olds = f.olds; passes_is = f.passes_is; fixed_is = f.fixed_is });
             worths = sum_by-set_same (λ u. u.worth) s.views id passes v w at refl kept.worths;
-            mades = sum_by-set_same (λ u. u.made) s.views id (tally kept.h) v w at refl kept.mades;
+            adds = λ test. sum_by-set_same (λ u. count_by test u.added) s.views id (count_by test kept.h) v w at refl (kept.adds test);
             spent = spent_set s.views id w kept.spent (λ gone. absurd (omega (arith, live, gone)));
           }
 

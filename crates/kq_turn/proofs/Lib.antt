@@ -5,3 +5,4 @@ mod Takes
 mod Giving
 mod Passes
 mod Closes
+mod Starts

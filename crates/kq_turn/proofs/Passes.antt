@@ -1,6 +1,6 @@
 -- `seat split` and `seat join` keep the rule.
-use Rattle.std.proofs.Common.{◌≡◌, ◌≢◌, ◌⊎◌, ◌≤◌, ◌+◌, ℕ, Bool, true, false, true≢false, List, [], ◌∷◌, ◌++◌, length, set, sym, ap, ◌∙◌, refl, subst, inl, inr, ⊎_elim, arith}
-use Rattle.std.specs.Prelude.{Option, All, nat_lt, if◌then◌else◌, sum_by}
+use Rattle.std.proofs.Common.{◌≡◌, ◌≢◌, ◌⊎◌, ◌≤◌, ◌+◌, ℕ, Bool, true, false, true≢false, List, [], ◌∷◌, ◌++◌, length, set, sym, ap, ◌∙◌, refl, subst, inl, inr, ⊎_elim, arith, cond, add-zero}
+use Rattle.std.specs.Prelude.{Option, All, nat_lt, if◌then◌else◌, sum_by, count_by}
 use Rattle.std.proofs.lemmas.List.Elements.{All-nil, All-cons, All-append}
 use Rattle.std.proofs.lemmas.List.Sums.{sum_by-append, sum_by-cons}
 use mathlib.Core.Option.{some, some-injective}
@@ -16,15 +16,15 @@ use Rattle.kq_turn.proofs.Beginnings.{IsPrefix-refl, longer_of}
 use Rattle.kq_turn.proofs.Sums.{sum_by-set_at}
 use Rattle.kq_turn.proofs.Seats.{each_set, knows_set, spent_set}
 
-module _ {S E : Type 0} (history : S → List E) (tally : List E → ℕ) (fixed : S → List ℕ) (passes : ℕ) (fx : List ℕ) where
+module _ {S E : Type 0} (history : S → List E) (fixed : S → List ℕ) (passes : ℕ) (fx : List ℕ) where
   abbrev K : State (Option S) (View E) → Type 0
-  K = Kept history tally fixed passes fx
+  K = Kept history fixed passes fx
 
   abbrev Home : List E → State (Option S) (View E) → Type 0
-  Home = IsHome history tally fixed passes fx
+  Home = IsHome history fixed passes fx
 
   abbrev Out : List E → State (Option S) (View E) → Type 0
-  Out = IsOut history tally fixed passes fx
+  Out = IsOut history fixed passes fx
 
   -- the seat that holds the value is another than one that doesn't
   apart_from : (h : List E) (s : State (Option S) (View E)) (id : ℕ) (v : View E) → get_elem? s.views id ≡ some v → v.holds ≡ false → (out : Out h s) → out.seat ≢ id
@@ -59,8 +59,8 @@ module _ {S E : Type 0} (history : S → List E) (tally : List E → ℕ) (fixed
         (knows_set passes fx kept.h kept.h s.views id (left_view v) kept.knows (IsPrefix-refl kept.h) (λ _. record { seen = f.seen; olds = f.olds; passes_is = f.passes_is; fixed_is = f.fixed_is }))
         (λ _ _. record { seen = f.seen; olds = All-nil (λ old. IsPrefix old kept.h); passes_is = f.passes_is; fixed_is = f.fixed_is });
     worths = sum_split (λ u. u.worth) s.views id passes v at (omega (arith, two)) kept.worths;
-    mades = sum_split (λ u. u.made) s.views id (tally kept.h) v at (omega arith) kept.mades;
-    spent = each_snoc (λ _ u. IsSpent u → u.made ≡ 0) (set s.views id (left_view v)) (right_view v)
+    adds = λ test. sum_split (λ u. count_by test u.added) s.views id (count_by test kept.h) v at (add-zero (count_by test v.added)) (kept.adds test);
+    spent = each_snoc (λ _ u. IsSpent u → u.added ≡ []) (set s.views id (left_view v)) (right_view v)
         (spent_set s.views id (left_view v) kept.spent (λ gone. absurd (omega (arith, gone, two))))
         (λ _ _. refl);
   }
@@ -103,7 +103,7 @@ module _ {S E : Type 0} (history : S → List E) (tally : List E → ℕ) (fixed
         (IsPrefix-refl kept.h)
         (λ alive. absurd (omega (arith, alive)));
     worths = sum_join (λ u. u.worth) s.views id other passes v w at there refl refl kept.worths;
-    mades = sum_join (λ u. u.made) s.views id other (tally kept.h) v w at there refl refl kept.mades;
+    adds = λ test. sum_join (λ u. count_by test u.added) s.views id other (count_by test kept.h) v w at there (sum_by-append (λ x. cond (test x) 1 0) v.added w.added) refl (kept.adds test);
     spent = spent_set (set s.views id (joined_view v w)) other spent_view
         (spent_set s.views id (joined_view v w) kept.spent (λ gone. absurd (omega (arith, gone, live))))
         (λ _. refl);

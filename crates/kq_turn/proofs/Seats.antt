@@ -1,5 +1,5 @@
 -- What is so of each view stays so where one seat's view changes.
-use Rattle.std.proofs.Common.{◌≡◌, ◌≢◌, ℕ, List, set, sym, subst, ⊎_elim}
+use Rattle.std.proofs.Common.{◌≡◌, ◌≢◌, ℕ, List, [], set, sym, subst, ⊎_elim}
 use mathlib.Core.Option.{some}
 use mathlib.Core.List.{IsPrefix}
 use lib.ListN.{get_elem?}
@@ -27,6 +27,6 @@ module _ {E : Type 0} (passes : ℕ) (fx : List ℕ) where
   knows_set g h views i w old longer mine = each_set (λ _ v. IsLive v → Knows passes fx h v) views i w mine (λ j v _ e live. Knows-longer g h v longer (old j v e live))
 
 module _ {E : Type 0} where
-  pub spent_set : (views : List (View E)) (i : ℕ) (w : View E) → EachView views (λ _ v. IsSpent v → v.made ≡ 0) → (IsSpent w → w.made ≡ 0)
-      → EachView (set views i w) (λ _ v. IsSpent v → v.made ≡ 0)
-  spent_set views i w old mine = each_set (λ _ v. IsSpent v → v.made ≡ 0) views i w mine (λ j v _ e. old j v e)
+  pub spent_set : (views : List (View E)) (i : ℕ) (w : View E) → EachView views (λ _ v. IsSpent v → v.added ≡ []) → (IsSpent w → w.added ≡ [])
+      → EachView (set views i w) (λ _ v. IsSpent v → v.added ≡ [])
+  spent_set views i w old mine = each_set (λ _ v. IsSpent v → v.added ≡ []) views i w mine (λ j v _ e. old j v e)

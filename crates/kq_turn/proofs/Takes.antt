@@ -1,6 +1,6 @@
 -- `won take` and `lost take` keep the rule.
 use Rattle.std.proofs.Common.{◌≡◌, ◌⊎◌, ◌==◌, ℕ, true, false, true≢false, List, [], ◌∷◌, Some, sym, ap, ◌∙◌, refl, subst, inl, inr, arith}
-use Rattle.std.specs.Prelude.{Option, slice_index, slice_set}
+use Rattle.std.specs.Prelude.{Option, slice_index, slice_set, count_by}
 use mathlib.Core.Option.{none}
 use mathlib.Core.List.{IsPrefix}
 use lib.ListN.{get_elem?}
@@ -15,9 +15,9 @@ use Rattle.kq_turn.proofs.Beginnings.{IsPrefix-refl}
 use Rattle.kq_turn.proofs.Sums.{within, sum_by-set_same}
 use Rattle.kq_turn.proofs.Seats.{each_set, knows_set, spent_set}
 
-module _ {S E : Type 0} (history : S → List E) (tally : List E → ℕ) (fixed : S → List ℕ) (passes : ℕ) (fx : List ℕ) where
+module _ {S E : Type 0} (history : S → List E) (fixed : S → List ℕ) (passes : ℕ) (fx : List ℕ) where
   abbrev K : State (Option S) (View E) → Type 0
-  K = Kept history tally fixed passes fx
+  K = Kept history fixed passes fx
 
   -- what the word becomes: 1 where it was 0
   abbrev pub raised : ℕ → ℕ
@@ -30,7 +30,7 @@ module _ {S E : Type 0} (history : S → List E) (tally : List E → ℕ) (fixed
       f : Knows passes fx kept.h v
       f = kept.knows id v at live
 
-      won : (home : IsHome history tally fixed passes fx kept.h s) → K (stepped s 0 1 id [] (taking_view v (history home.value)) (takes 0 (Some home.value)))
+      won : (home : IsHome history fixed passes fx kept.h s) → K (stepped s 0 1 id [] (taking_view v (history home.value)) (takes 0 (Some home.value)))
       won home = let w = taking_view v (history home.value) in record {
         h = kept.h;
         place = inr (record {
@@ -46,16 +46,16 @@ module _ {S E : Type 0} (history : S → List E) (tally : List E → ℕ) (fixed
         });
         knows = knows_set passes fx kept.h kept.h s.views id w kept.knows (IsPrefix-refl kept.h) (λ _. record { seen = f.seen; olds = f.olds; passes_is = f.passes_is; fixed_is = f.fixed_is });
         worths = sum_by-set_same (λ u. u.worth) s.views id passes v w at refl kept.worths;
-        mades = sum_by-set_same (λ u. u.made) s.views id (tally kept.h) v w at refl kept.mades;
+        adds = λ test. sum_by-set_same (λ u. count_by test u.added) s.views id (count_by test kept.h) v w at refl (kept.adds test);
         spent = spent_set s.views id w kept.spent (λ gone. absurd (omega (arith, live, gone)));
       }
 
-      lost : (out : IsOut history tally fixed passes fx kept.h s) → K (stepped s 0 1 id [] v keeps)
+      lost : (out : IsOut history fixed passes fx kept.h s) → K (stepped s 0 1 id [] v keeps)
       lost out =
           let same = ap (λ ws. slice_set ws 0 1) out.words ∙ sym out.words in
           subst K (λ i. record { words = sym same i; homes = s.homes; views = sym (set_again s.views id v at) i }) kept
 
-      go : IsHome history tally fixed passes fx kept.h s ⊎ IsOut history tally fixed passes fx kept.h s
+      go : IsHome history fixed passes fx kept.h s ⊎ IsOut history fixed passes fx kept.h s
           → (w : View E) × (a : Act (Option S)) × Valid s.homes [] a × K (stepped s 0 (raised (slice_index s.words 0)) id [] w a) × TakesOrNot history fixed (step slots 0 0 1 none) (v, []) (slice_index s.words 0) (w, carried_after [] a)
       go (inl home) =
           let x = home.value in

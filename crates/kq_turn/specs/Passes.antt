@@ -14,7 +14,7 @@ pub record Known (E : Type 0) : Type 0 where
   pub of : TurnId
   pub seen : List E
   pub worth : ℕ
-  pub made : ℕ
+  pub added : List E
   pub taken : List ℕ
   -- whether it holds the value, and the history that it took then; once it gave the value back, the one that it gave
   pub holds : Bool
@@ -29,7 +29,7 @@ module _ {E : Type 0} where
     of = record { table = table; passes = v.passes; fixed = v.fixed };
     seen = v.seen;
     worth = v.worth;
-    made = v.made;
+    added = v.added;
     taken = v.taken;
     holds = v.holds;
     base = v.base;

@@ -1,5 +1,5 @@
 -- The rule of the lock: two words, `turn` and `count`, one slot, and a view for each pass.
-use Rattle.std.specs.Prelude.{◌≡◌, ◌⊎◌, ◌<◌, ℕ, true, false, List, [], ◌∷◌, length, Option, Some, All, sum_by}
+use Rattle.std.specs.Prelude.{◌≡◌, ◌⊎◌, ◌<◌, ℕ, Bool, true, false, List, [], ◌∷◌, length, Option, Some, All, sum_by, count_by}
 use mathlib.Core.Option.{some, none}
 use mathlib.Core.List.{IsPrefix}
 use lib.ListN.{get_elem?}
@@ -25,7 +25,7 @@ module _ {E : Type 0} where
     pub passes_is : v.passes ≡ passes
     pub fixed_is : v.fixed ≡ fx
 
-module _ {S E : Type 0} (history : S → List E) (tally : List E → ℕ) (fixed : S → List ℕ) (passes : ℕ) (fx : List ℕ) where
+module _ {S E : Type 0} (history : S → List E) (fixed : S → List ℕ) (passes : ℕ) (fx : List ℕ) where
   -- `turn` is 0, no view holds, and the slot is home with a value, whose history is h
   pub record IsHome (h : List E) (s : State (Option S) (View E)) : Type 0 where
     pub value : S
@@ -53,5 +53,5 @@ module _ {S E : Type 0} (history : S → List E) (tally : List E → ℕ) (fixed
     pub place : IsHome h s ⊎ IsOut h s
     pub knows : EachView s.views (λ _ v. IsLive v → Knows passes fx h v)
     pub worths : sum_by (λ v. v.worth) s.views ≡ passes
-    pub mades : sum_by (λ v. v.made) s.views ≡ tally h
-    pub spent : EachView s.views (λ _ v. IsSpent v → v.made ≡ 0)
+    pub adds : (test : E → Bool) → sum_by (λ v. count_by test v.added) s.views ≡ count_by test h
+    pub spent : EachView s.views (λ _ v. IsSpent v → v.added ≡ [])

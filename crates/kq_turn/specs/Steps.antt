@@ -23,10 +23,10 @@ module _ {S E : Type 0} (history : S → List E) (fixed : S → List ℕ) where
   abbrev pub TakesOrNot : Step (Option S) → Me (Option S) (View E) → ℕ → Me (Option S) (View E) → Type 0
   TakesOrNot _ m found w = MatchBool (found == 0) (Takes m w) (w ≡ m)
 
-module _ {S E : Type 0} (history : S → List E) (tally : List E → ℕ) where
+module _ {S E : Type 0} (history : S → List E) where
   -- `count store`, at the value in the seat's slot
   abbrev pub Counts : Step (Option S) → Me (Option S) (View E) → ℕ → Me (Option S) (View E) → Type 0
-  Counts _ m _ w = (x : S) → HasValue m x → w ≡ (counted_view tally m.0 (history x), m.1)
+  Counts _ m _ w = (x : S) → HasValue m x → w ≡ (counted_view m.0 (history x), m.1)
 
 module _ {S E : Type 0} where
   -- `turn store`: the slot comes home

@@ -3,10 +3,10 @@ use Rattle.std.specs.Prelude.{◌+◌, ◌-◌, ℕ, true, false, List, [], ◌�
 use Rattle.kq_turn.specs.declared.view.View.{View}
 use Rattle.kq_turn.specs.Histories.{gained, longer}
 
-module _ {S E : Type 0} (history : S → List E) (tally : List E → ℕ) (fixed : S → List ℕ) where
+module _ {S E : Type 0} (history : S → List E) (fixed : S → List ℕ) where
   -- the view of the first pass, at the first value
   abbrev pub first_view : ℕ → S → View E
-  first_view passes x = record { seen = history x; olds = []; holds = false; base = []; worth = passes; passes = passes; fixed = fixed x; made = tally (history x); taken = [] }
+  first_view passes x = record { seen = history x; olds = []; holds = false; base = []; worth = passes; passes = passes; fixed = fixed x; added = history x; taken = [] }
 
 module _ {E : Type 0} where
   -- after `won take` of a value with the history h
@@ -14,8 +14,8 @@ module _ {E : Type 0} where
   taking_view v h = record v { holds = true; base = h; taken = v.taken ++ length h ∷ [] }
 
   -- after `count store`, where h is the new history
-  abbrev pub counted_view : (List E → ℕ) → View E → List E → View E
-  counted_view tally v h = record v { base = h; made = v.made + tally (gained v.base h) }
+  abbrev pub counted_view : View E → List E → View E
+  counted_view v h = record v { base = h; added = v.added ++ gained v.base h }
 
   -- after `turn store`
   abbrev pub given_view : View E → View E
@@ -26,11 +26,11 @@ module _ {E : Type 0} where
   left_view v = record v { worth = v.worth - 1 }
 
   abbrev pub right_view : View E → View E
-  right_view v = record { seen = v.seen; olds = []; holds = false; base = []; worth = 1; passes = v.passes; fixed = v.fixed; made = 0; taken = [] }
+  right_view v = record { seen = v.seen; olds = []; holds = false; base = []; worth = 1; passes = v.passes; fixed = v.fixed; added = []; taken = [] }
 
   -- after `seat join`: the seat's view, and that of the seat which is spent
   abbrev pub joined_view : View E → View E → View E
-  joined_view v w = record v { seen = longer v.seen w.seen; olds = v.seen ∷ w.seen ∷ (v.olds ++ w.olds); worth = v.worth + w.worth; made = v.made + w.made; taken = v.taken ++ w.taken }
+  joined_view v w = record v { seen = longer v.seen w.seen; olds = v.seen ∷ w.seen ∷ (v.olds ++ w.olds); worth = v.worth + w.worth; added = v.added ++ w.added; taken = v.taken ++ w.taken }
 
   abbrev pub spent_view : View E
-  spent_view = record { seen = []; olds = []; holds = false; base = []; worth = 0; passes = 0; fixed = []; made = 0; taken = [] }
+  spent_view = record { seen = []; olds = []; holds = false; base = []; worth = 0; passes = 0; fixed = []; added = []; taken = [] }

@@ -7,9 +7,9 @@ use std::marker::Model;
 /// A pass of a `Turn`, with which one thread at a time takes the value. It has no bytes.
 ///
 /// Contracts see in it the turn that it is `of`, with the turn's `passes` and `fixed`; the history
-/// that it has `seen`; its `worth`, which the passes of a turn share out among them; what was `made`
-/// through it, a tally; and in `taken` the length of each history that it took. While it `holds` the
-/// value, `base` is the history that it took, and afterwards the one that it gave.
+/// that it has `seen`; its `worth`, which the passes of a turn share out among them; the entries that
+/// were `added` to the history through it; and in `taken` the length of each history that it took.
+/// While it `holds` the value, `base` is the history that it took, and afterwards the one that it gave.
 ///
 /// A pass that is dropped takes its worth with it, so that its turn is never closed; one that is
 /// dropped while it holds the value keeps all others waiting.

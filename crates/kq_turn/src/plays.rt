@@ -19,7 +19,7 @@ pub struct StoreCount<S>(PhantomData<S>);
 impl<S: Grows> Play<Option<S>, View<S::Entry>> for StoreCount<S> {
     ghost use Rattle.kq_turn.specs.Steps.{Counts};
 
-    ghost then = { Counts S.history S.tally };
+    ghost then = { Counts S.history };
 }
 
 /// `turn store`.

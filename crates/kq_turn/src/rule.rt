@@ -19,7 +19,7 @@ impl<S: Grows> TableRule<Option<S>, View<S::Entry>, About<S>> for OneHistory<S> 
     ghost use Rattle.kq_turn.specs.Rule.{Kept};
     ghost use Rattle.kq_turn.specs.Views.{first_view};
 
-    ghost holds = { λ about. Kept S.history S.tally S.fixed about.passes (S.fixed about.first.value) };
+    ghost holds = { λ about. Kept S.history S.fixed about.passes (S.fixed about.first.value) };
 
-    ghost first = { λ about. first_view S.history S.tally S.fixed about.passes about.first.value };
+    ghost first = { λ about. first_view S.history S.fixed about.passes about.first.value };
 }

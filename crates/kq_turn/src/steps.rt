@@ -86,7 +86,7 @@ impl<S: Grows> Turn<S> {
             × IsPrefix seat.old.me.0.base (S.history x) × (count ≡ length (S.history x)) }
         ensures of { seat.new.table_id ≡ seat.old.table_id }
         ensures me { (x : S) → HasValue seat.old.me x
-            → seat.new.me ≡ (counted_view S.tally seat.old.me.0 (S.history x), seat.old.me.1) }
+            → seat.new.me ≡ (counted_view seat.old.me.0 (S.history x), seat.old.me.1) }
     {
         self.table.shared.store::<StoreCount<S>>(seat, COUNT, count);
     }

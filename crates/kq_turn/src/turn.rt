@@ -1,5 +1,5 @@
 // The lock.
-ghost use Rattle.std.specs.Prelude.{◌≡◌, ◌≤◌, ◌<◌, ◌+◌, ◌-◌, ◌++◌, ◌∷◌, [], true, false, length, IfOk};
+ghost use Rattle.std.specs.Prelude.{◌≡◌, ◌≤◌, ◌<◌, ◌+◌, ◌-◌, ◌++◌, ◌∷◌, [], Bool, true, false, length, count_by, IfOk};
 ghost use mathlib.Core.List.{IsPrefix};
 ghost use Rattle.kq_turn.specs.Histories.{gained, IsLongerOf};
 ghost use Rattle.kq_turn.specs.Passes.{IsIdle};
@@ -53,7 +53,7 @@ impl<S: Grows + Drop> Turn<S> {
 
         ensures seen { IfOk result (λ r. r.1.seen ≡ S.history value) }
         ensures worth { IfOk result (λ r. r.1.worth ≡ passes) }
-        ensures made { IfOk result (λ r. r.1.made ≡ S.tally (S.history value)) }
+        ensures added { IfOk result (λ r. r.1.added ≡ S.history value) }
         ensures taken { IfOk result (λ r. r.1.taken ≡ []) }
         ensures idle { IfOk result (λ r. IsIdle r.1) }
     {
@@ -82,7 +82,7 @@ impl<S: Grows> Turn<S> {
         ensures second_of { result.1.of ≡ pass.of }
         ensures second_seen { result.1.seen ≡ pass.seen }
         ensures second_worth { result.1.worth ≡ 1 }
-        ensures second_made { result.1.made ≡ 0 }
+        ensures second_added { result.1.added ≡ [] }
         ensures second_taken { result.1.taken ≡ [] }
         ensures second_idle { IsIdle result.1 }
     {
@@ -104,7 +104,7 @@ impl<S: Grows> Turn<S> {
         ensures first_seen { IsPrefix first.seen result.seen }
         ensures second_seen { IsPrefix second.seen result.seen }
         ensures worth { result.worth ≡ first.worth + second.worth }
-        ensures made { result.made ≡ first.made + second.made }
+        ensures added { result.added ≡ first.added ++ second.added }
         ensures taken { result.taken ≡ first.taken ++ second.taken }
     {
         let mut both = first;
@@ -165,7 +165,7 @@ impl<S: Grows> Turn<S> {
           holds = false;
           base = S.history value;
           seen = S.history value;
-          made = pass.old.made + S.tally (gained pass.old.base (S.history value));
+          added = pass.old.added ++ gained pass.old.base (S.history value);
         } }
     {
         let count = value.count();
@@ -181,7 +181,8 @@ impl<S: Grows> Turn<S> {
         requires idle { IsIdle pass }
         requires whole { pass.worth ≡ pass.of.passes }
         ensures seen { IsPrefix pass.seen (S.history result) }
-        ensures made { S.tally (S.history result) ≡ pass.made }
+        // Each entry was added through some pass, once: however they are told apart, there are as many.
+        ensures added { (test : S.Entry → Bool) → count_by test (S.history result) ≡ count_by test pass.added }
         ensures fixed { S.fixed result ≡ pass.of.fixed }
     {
         let Turn { table } = self;

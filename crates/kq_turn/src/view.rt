@@ -14,6 +14,7 @@ pub struct View<E> {
     pub worth: u64,
     pub passes: u64,
     pub fixed: LinkedList<u64>,
-    pub made: u64,
+    /// The entries that were added to the history while it held the value, in order.
+    pub added: LinkedList<E>,
     pub taken: LinkedList<u64>,
 }

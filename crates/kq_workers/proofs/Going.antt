@@ -1,12 +1,22 @@
 -- Chores and rounds, one after another.
-use Rattle.std.proofs.Common.{◌≡◌, ◌||◌, Bool, true, false, ℕ, List, [], ◌∷◌, ◌++◌, refl, ap, sym, ◌∙◌, subst}
+use Rattle.std.proofs.Common.{◌≡◌, ◌||◌, ◌&&◌, All, Bool, true, false, ℕ, List, [], ◌∷◌, ◌++◌, Option, Some, None, refl, ap, sym, ◌∙◌, subst, append-nil, append_assoc}
+use Rattle.std.proofs.lemmas.Bool.{eq-eqb}
+use Rattle.std.proofs.lemmas.List.Elements.{All-append, All-cons, All-nil}
 use mathlib.Core.List.{IsPrefix}
 use Rattle.kq_turn.proofs.Beginnings.{IsPrefix-refl, IsPrefix-trans}
+use Rattle.kq_model.specs.declared.event.Event.{Event}
+use Rattle.kq_model.specs.declared.event.Operation.{Operation}
+use Rattle.kq_model.specs.declared.event.Operation.TheVariants as operation
 use Rattle.kq_model.specs.declared.limits.Limits.{Limits}
+use Rattle.kq_model.specs.History.{History}
+use Rattle.kq_reply.specs.declared.reply.Reply.{Reply}
 use Rattle.kq_engine.specs.declared.upkeep.Upkeep.{Upkeep}
+use Rattle.kq_engine.specs.declared.upkeep.Upkeep.TheVariants as upkeeps
+use Rattle.kq_engine.specs.Fits.{event_by}
 use Rattle.kq_engine.specs.Shared.{PassView}
+use Rattle.kq_engine.specs.Upkeeps.{MakesOwn}
 use Rattle.kq_workers.specs.declared.worker.Worker.{Worker}
-use Rattle.kq_workers.specs.Rounds.{GoesRound, GoesRounds, HasRound, HasRounds, HasChores, Looks, TakesOne, TakesChore, TakesChores, Chore, Works, begun, wants_memory}
+use Rattle.kq_workers.specs.Rounds.{GoesRound, GoesRounds, HasRound, HasRounds, HasChores, Looks, TakesOne, TakesChore, TakesChores, Chore, Works, begun, is_fold_or_merge, is_upkeep, wants_memory}
 
 -- ---- short
 
@@ -54,53 +64,91 @@ TakesOne-granted limits actor old new upkeep one none = or_second old.short _ (s
 
 -- ---- passes
 
--- a pass that has seen at least as much, of the same lock and worth, through which no commit was made
-pub record Carries (old new : PassView) : Type 0 where
+one_upkeep : (actor n : ℕ) (made : Operation) → is_fold_or_merge made ≡ true → All (λ (e : Event). is_upkeep actor e ≡ true) (record { by = record { actor = actor; number = n }; operation = made } ∷ [])
+one_upkeep actor n made keeps =
+    let e : Event = record { by = record { actor = actor; number = n }; operation = made } in
+    let own : is_upkeep actor e ≡ true = ap (λ (b : Bool). b && is_fold_or_merge made) (eq-eqb actor actor refl) ∙ keeps in
+    All-cons (λ (x : Event). is_upkeep actor x ≡ true) e [] own (All-nil (λ (x : Event). is_upkeep actor x ≡ true))
+
+-- an upkeep's own event is a fold or a merge
+own_upkeep : (actor n : ℕ) (upkeep : Upkeep) (reply : Reply) (made : Option Operation) → MakesOwn upkeep reply made → All (λ (e : Event). is_upkeep actor e ≡ true) (event_by (record { actor = actor; number = n }) made)
+own_upkeep actor n upkeep reply None own = All-nil (λ (e : Event). is_upkeep actor e ≡ true)
+own_upkeep actor n (upkeeps.Fold view) reply (Some (operation.Fold number to)) own = one_upkeep actor n (operation.Fold number to) refl
+own_upkeep actor n (upkeeps.Merge table) reply (Some (operation.Merge number old new)) own = one_upkeep actor n (operation.Merge number old new) refl
+own_upkeep actor n (upkeeps.Fold view) reply (Some (operation.Commit c)) own = absurd own
+own_upkeep actor n (upkeeps.Fold view) reply (Some (operation.Merge number old new)) own = absurd own
+own_upkeep actor n (upkeeps.Merge table) reply (Some (operation.Commit c)) own = absurd own
+own_upkeep actor n (upkeeps.Merge table) reply (Some (operation.Fold number to)) own = absurd own
+
+-- a pass that has seen at least as much, of the same lock and worth, through which an actor's folds and merges were made, and no commit
+pub record Carries (actor : ℕ) (old new : PassView) : Type 0 where
+  pub events : History
+  pub added : new.added ≡ old.added ++ events
+  pub upkeep : All (λ (e : Event). is_upkeep actor e ≡ true) events
   pub of : new.of ≡ old.of
   pub worth : new.worth ≡ old.worth
   pub made : new.made ≡ old.made
   pub seen : IsPrefix old.seen new.seen
 
-Carries-same : (old new : PassView) → old ≡ new → Carries old new
-Carries-same old new same = record {
+Carries-same : (actor : ℕ) (old new : PassView) → old ≡ new → Carries actor old new
+Carries-same actor old new same = record {
+  events = [];
+  added = ap (λ (p : PassView). p.added) (sym same) ∙ sym (append-nil old.added);
+  upkeep = All-nil (λ (e : Event). is_upkeep actor e ≡ true);
   of = ap (λ (p : PassView). p.of) (sym same);
   worth = ap (λ (p : PassView). p.worth) (sym same);
   made = ap (λ (p : PassView). p.made) (sym same);
   seen = subst (λ (p : PassView). IsPrefix old.seen p.seen) same (IsPrefix-refl old.seen);
 }
 
-Carries-trans : (a b c : PassView) → Carries a b → Carries b c → Carries a c
-Carries-trans a b c first later = record {
+Carries-trans : (actor : ℕ) (a b c : PassView) → Carries actor a b → Carries actor b c → Carries actor a c
+Carries-trans actor a b c first later = record {
+  events = first.events ++ later.events;
+  added = later.added ∙ ap (λ (h : History). h ++ later.events) first.added ∙ append_assoc a.added first.events later.events;
+  upkeep = All-append (λ (e : Event). is_upkeep actor e ≡ true) first.events later.events first.upkeep later.upkeep;
   of = later.of ∙ first.of;
   worth = later.worth ∙ first.worth;
   made = later.made ∙ first.made;
   seen = IsPrefix-trans a.seen b.seen c.seen first.seen later.seen;
 }
 
-pub Carries-looks : (old new : PassView) → Looks old new → Carries old new
-Carries-looks old new looks = record {
+pub Carries-looks : (actor : ℕ) (old new : PassView) → Looks old new → Carries actor old new
+Carries-looks actor old new looks = record {
+  events = [];
+  added = ap (λ (p : PassView). p.added) looks.pass ∙ sym (append-nil old.added);
+  upkeep = All-nil (λ (e : Event). is_upkeep actor e ≡ true);
   of = ap (λ (p : PassView). p.of) looks.pass;
   worth = ap (λ (p : PassView). p.worth) looks.pass;
   made = ap (λ (p : PassView). p.made) looks.pass;
   seen = looks.seen;
 }
 
-chore_carries : (limits : Limits) (actor : ℕ) (old new : Worker) (t : Chore) → TakesChore limits actor old new t → Carries old.pass new.pass
-chore_carries limits actor old new t chore = record { of = chore.keeps.of; worth = chore.keeps.worth; made = chore.keeps.made; seen = chore.keeps.seen }
+chore_carries : (limits : Limits) (actor : ℕ) (old new : Worker) (t : Chore) → TakesChore limits actor old new t → Carries actor old.pass new.pass
+chore_carries limits actor old new t chore =
+    let up = chore.keeps.last.upholds in
+    record {
+      events = event_by (record { actor = actor; number = new.number }) up.made;
+      added = chore.keeps.last.added;
+      upkeep = own_upkeep actor new.number t.upkeep t.outcome.reply up.made up.own_event;
+      of = chore.keeps.of;
+      worth = chore.keeps.worth;
+      made = chore.keeps.made;
+      seen = chore.keeps.seen;
+    }
 
-chores_carry : (limits : Limits) (actor : ℕ) (chores : List Chore) (old new : Worker) → TakesChores limits actor chores old new → Carries old.pass new.pass
-chores_carry limits actor [] old new same = Carries-same old.pass new.pass (ap (λ (w : Worker). w.pass) same)
-chores_carry limits actor (t ∷ chores) old new went = Carries-trans old.pass went.0.pass new.pass (chore_carries limits actor old went.0 t went.1) (chores_carry limits actor chores went.0 new went.2)
+chores_carry : (limits : Limits) (actor : ℕ) (chores : List Chore) (old new : Worker) → TakesChores limits actor chores old new → Carries actor old.pass new.pass
+chores_carry limits actor [] old new same = Carries-same actor old.pass new.pass (ap (λ (w : Worker). w.pass) same)
+chores_carry limits actor (t ∷ chores) old new went = Carries-trans actor old.pass went.0.pass new.pass (chore_carries limits actor old went.0 t went.1) (chores_carry limits actor chores went.0 new went.2)
 
-pub HasChores-carries : (limits : Limits) (actor : ℕ) (old new : Worker) → HasChores limits actor old new → Carries old.pass new.pass
+pub HasChores-carries : (limits : Limits) (actor : ℕ) (old new : Worker) → HasChores limits actor old new → Carries actor old.pass new.pass
 HasChores-carries limits actor old new has = chores_carry limits actor has.chores old new has.taken
 
-round_carries : (limits : Limits) (actor : ℕ) (chores : List Chore) (old new : Worker) → GoesRound limits actor chores old new → Carries old.pass new.pass
-round_carries limits actor chores old new round = Carries-trans old.pass round.looked.pass new.pass (Carries-looks old.pass round.looked.pass round.looks) (chores_carry limits actor chores round.looked new round.chore)
+round_carries : (limits : Limits) (actor : ℕ) (chores : List Chore) (old new : Worker) → GoesRound limits actor chores old new → Carries actor old.pass new.pass
+round_carries limits actor chores old new round = Carries-trans actor old.pass round.looked.pass new.pass (Carries-looks actor old.pass round.looked.pass round.looks) (chores_carry limits actor chores round.looked new round.chore)
 
-rounds_carry : (limits : Limits) (actor : ℕ) (rounds : List (List Chore)) (old new : Worker) → GoesRounds limits actor rounds old new → Carries old.pass new.pass
-rounds_carry limits actor [] old new same = Carries-same old.pass new.pass (ap (λ (w : Worker). w.pass) same)
-rounds_carry limits actor (chores ∷ rounds) old new went = Carries-trans old.pass went.0.pass new.pass (round_carries limits actor chores old went.0 went.1) (rounds_carry limits actor rounds went.0 new went.2)
+rounds_carry : (limits : Limits) (actor : ℕ) (rounds : List (List Chore)) (old new : Worker) → GoesRounds limits actor rounds old new → Carries actor old.pass new.pass
+rounds_carry limits actor [] old new same = Carries-same actor old.pass new.pass (ap (λ (w : Worker). w.pass) same)
+rounds_carry limits actor (chores ∷ rounds) old new went = Carries-trans actor old.pass went.0.pass new.pass (round_carries limits actor chores old went.0 went.1) (rounds_carry limits actor rounds went.0 new went.2)
 
 -- ---- rounds
 
@@ -122,7 +170,7 @@ pub record SoFar (limits : Limits) (actor : ℕ) (old new : Worker) : Type 0 whe
   pub rounds : List (List Chore)
   pub went : GoesRounds limits actor rounds old new
 
-pub SoFar-carries : (limits : Limits) (actor : ℕ) (old new : Worker) → SoFar limits actor old new → Carries old.pass new.pass
+pub SoFar-carries : (limits : Limits) (actor : ℕ) (old new : Worker) → SoFar limits actor old new → Carries actor old.pass new.pass
 SoFar-carries limits actor old new so_far = rounds_carry limits actor so_far.rounds old new so_far.went
 
 rounds_push : (limits : Limits) (actor : ℕ) (rounds : List (List Chore)) (chores : List Chore) (a b c : Worker) → GoesRounds limits actor rounds a b → GoesRound limits actor chores b c → GoesRounds limits actor (rounds ++ chores ∷ []) a c
@@ -148,6 +196,9 @@ Works-rounds limits actor pass new has =
     record {
       of = carries.of;
       worth = carries.worth;
+      events = carries.events;
+      added = carries.added;
+      upkeep = carries.upkeep;
       made = carries.made;
       seen = carries.seen;
       first = has.first;

@@ -1,6 +1,9 @@
 -- What a worker does to its pass: rounds of chores.
-use Rattle.std.specs.Prelude.{◌≡◌, ◌+◌, ◌-◌, ◌^◌, ◌||◌, ◌++◌, ◌∷◌, [], ℕ, Bool, true, false, List, length, min}
+use Rattle.std.specs.Prelude.{◌≡◌, ◌+◌, ◌-◌, ◌^◌, ◌||◌, ◌&&◌, ◌++◌, ◌∷◌, [], ℕ, Bool, true, false, List, length, min, All, nat_eq}
 use mathlib.Core.List.{IsPrefix}
+use Rattle.kq_model.specs.declared.event.Event.{Event}
+use Rattle.kq_model.specs.declared.event.Operation.{Operation}
+use Rattle.kq_model.specs.declared.event.Operation.TheVariants as operation
 use Rattle.kq_model.specs.declared.limits.Limits.{Limits}
 use Rattle.kq_model.specs.History.{History}
 use Rattle.kq_model.specs.Lawful.{AreLawful}
@@ -67,10 +70,23 @@ GoesRounds limits actor (chores ∷ rounds) old new = (mid : Worker) × GoesRoun
 abbrev pub begun : PassView → Worker
 begun pass = record { pass = pass; number = 0; short = false }
 
--- a pass after a worker's rounds, of which there is one or more: it has seen at least as much, and no commit was made through it; each chore made, under its last take, at most one event, a fold or a merge with the actor's request id; memory was wanting in one of them, or not
+-- a fold or a merge
+abbrev pub is_fold_or_merge : Operation → Bool
+is_fold_or_merge (operation.Commit c) = false
+is_fold_or_merge (operation.Fold view to) = true
+is_fold_or_merge (operation.Merge table ids new) = true
+
+-- the event is an actor's fold or merge
+abbrev pub is_upkeep : ℕ → Event → Bool
+is_upkeep actor e = nat_eq e.by.actor actor && is_fold_or_merge e.operation
+
+-- a pass after a worker's rounds, of which there is one or more: it has seen at least as much, and all events that were made through it are folds and merges of the actor; each chore made, under its last take, at most one event, a fold or a merge with the actor's request id; memory was wanting in one of them, or not
 pub record Works (limits : Limits) (actor : ℕ) (old new : PassView) (short : Bool) : Type 0 where
   pub of : new.of ≡ old.of
   pub worth : new.worth ≡ old.worth
+  pub events : History
+  pub added : new.added ≡ old.added ++ events
+  pub upkeep : All (λ (e : Event). is_upkeep actor e ≡ true) events
   pub made : new.made ≡ old.made
   pub seen : IsPrefix old.seen new.seen
   pub first : List Chore

@@ -23,18 +23,11 @@ struct Log {
 impl Grows for Log {
     type Entry = u64;
 
-    ghost use Rattle.std.specs.Prelude.{length, ◌∷◌, [], refl};
-    ghost use Rattle.std.proofs.Common.{length-append};
+    ghost use Rattle.std.specs.Prelude.{◌∷◌, []};
 
     ghost history = { λ l. l.items.items };
 
-    ghost tally = { length };
-
     ghost fixed = { λ l. l.name ∷ [] };
-
-    ghost tally_nil = { refl };
-
-    ghost tally_append = { length-append };
 
     fn count(&self) -> u64 {
         self.items.len() as u64
@@ -56,7 +49,7 @@ fn add<R: Wait>(rt: &R, turn: &Turn<Log>, pass: &mut Pass<Log>, x: u64) -> bool
     ensures idle { IsIdle pass.new }
     ensures worth { pass.new.worth ≡ pass.old.worth }
     ensures seen { IsPrefix pass.old.seen pass.new.seen }
-    ensures made { pass.new.made ≡ pass.old.made + (if result then 1 else 0) }
+    ensures made { length pass.new.added ≡ length pass.old.added + (if result then 1 else 0) }
 {
     let mut log = turn.take(rt, pass);
     let added = log.items.push(x).is_ok();
@@ -72,7 +65,7 @@ fn add_all<R: Wait>(rt: &R, turn: &Turn<Log>, mut pass: Pass<Log>, first: u64) -
     ensures of { result.pass.of ≡ pass.of }
     ensures idle { IsIdle result.pass }
     ensures worth { result.pass.worth ≡ pass.worth }
-    ensures made { result.pass.made ≡ pass.made + result.count }
+    ensures made { length result.pass.added ≡ length pass.added + result.count }
     ensures count { result.count ≤ 1000 }
 {
     let mut count = 0;
@@ -106,7 +99,7 @@ fn by_two<R: Threads + Wait + Sync>(rt: &R, alloc: Global) -> Option<(Log, u64)>
             ensures of { result.pass.of ≡ one.of }
             ensures idle { IsIdle result.pass }
             ensures worth { result.pass.worth ≡ one.worth }
-            ensures made { result.pass.made ≡ one.made + result.count }
+            ensures made { length result.pass.added ≡ length one.added + result.count }
             ensures count { result.count ≤ 1000 }
         { add_all(rt, lock, one, 0) },
         move || -> Added
@@ -115,7 +108,7 @@ fn by_two<R: Threads + Wait + Sync>(rt: &R, alloc: Global) -> Option<(Log, u64)>
             ensures of { result.pass.of ≡ two.of }
             ensures idle { IsIdle result.pass }
             ensures worth { result.pass.worth ≡ two.worth }
-            ensures made { result.pass.made ≡ two.made + result.count }
+            ensures made { length result.pass.added ≡ length two.added + result.count }
             ensures count { result.count ≤ 1000 }
         { add_all(rt, lock, two, 5000) },
     );
@@ -164,7 +157,7 @@ fn spread<R: Threads + Wait + Sync>(
     ensures of { result.pass.of ≡ pass.of }
     ensures idle { IsIdle result.pass }
     ensures worth { result.pass.worth ≡ pass.worth }
-    ensures made { result.pass.made ≡ pass.made + result.count }
+    ensures made { length result.pass.added ≡ length pass.added + result.count }
     ensures count { result.count ≤ 1000 * threads }
 {
     let first = 1000 * threads;
@@ -184,7 +177,7 @@ fn spread<R: Threads + Wait + Sync>(
             ensures of { result.pass.of ≡ rest.of }
             ensures idle { IsIdle result.pass }
             ensures worth { result.pass.worth ≡ rest.worth }
-            ensures made { result.pass.made ≡ rest.made + result.count }
+            ensures made { length result.pass.added ≡ length rest.added + result.count }
             ensures count { result.count ≤ 1000 * (threads - 1) }
         { spread(rt, turn, rest, threads - 1) },
         move || -> Added
@@ -194,7 +187,7 @@ fn spread<R: Threads + Wait + Sync>(
             ensures of { result.pass.of ≡ mine.of }
             ensures idle { IsIdle result.pass }
             ensures worth { result.pass.worth ≡ mine.worth }
-            ensures made { result.pass.made ≡ mine.made + result.count }
+            ensures made { length result.pass.added ≡ length mine.added + result.count }
             ensures count { result.count ≤ 1000 }
         { add_all(rt, turn, mine, first) },
     );

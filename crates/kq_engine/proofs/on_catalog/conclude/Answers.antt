@@ -1,4 +1,4 @@
-use Rattle.std.proofs.Common.{◌≡◌, true, drop, length, take, ap, subst, sym, ◌∙◌}
+use Rattle.std.proofs.Common.{◌≡◌, OnErr, true, drop, length, take, ap, subst, sym, ◌∙◌}
 use Rattle.kq_model.specs.declared.limits.Limits.{Limits}
 use Rattle.kq_model.specs.History.{History, log}
 use Rattle.kq_catalog.specs.Seen.{CatalogView, hist}
@@ -61,7 +61,7 @@ returns-in-Err-Moved-clause-step c =
     let mid = c.merge.new.catalog in
     let new = hist c.decide-in-Err-Moved.new.catalog in
     let outcome = outcome_of new c.decide-in-Err-Moved.result in
-    let acts = subst (λ (h : History). Acts mid.limits h new work (length h) outcome) c.in-Err-Moved.ensures.kept c.decide-in-Err-Moved.ensures.acts in
+    let acts = subst (λ (v : CatalogView). Acts mid.limits (hist v) new work (length (hist v)) outcome) c.in-Err-Moved.ensures.kept c.decide-in-Err-Moved.ensures.acts in
     Advances-decided now.limits old new work c.args.place outcome within (subst (λ (l : Limits). Acts l old new work (length old) outcome) c.in-Err-Moved.ensures.limits acts)
 
 pub returns-in_ok-fold-in-ToFold-clause-step : goal.returns-in_ok-fold-in-ToFold-clause-step
@@ -80,3 +80,6 @@ returns-in-Pending-clause-step c =
     let old = hist c.args.catalog.now in
     let within = c.requires.within in
     Advances-decided c.args.catalog.now.limits old (hist c.decide-in-Pending.new.catalog) c.args.work.now c.args.place (outcome_of (hist c.decide-in-Pending.new.catalog) c.decide-in-Pending.result) within c.decide-in-Pending.ensures.acts
+
+pub returns-in-Err-Moved-clause-kept : goal.returns-in-Err-Moved-clause-kept
+returns-in-Err-Moved-clause-kept c = subst (λ (v : CatalogView). OnErr c.decide-in-Err-Moved.result (c.decide-in-Err-Moved.new.catalog ≡ v)) c.in-Err-Moved.ensures.kept c.decide-in-Err-Moved.ensures.kept

@@ -1,6 +1,5 @@
 use Rattle.std.proofs.Common.{length, subst}
-use Rattle.kq_model.specs.History.{History}
-use Rattle.kq_catalog.specs.Seen.{hist}
+use Rattle.kq_catalog.specs.Seen.{CatalogView, hist}
 use Rattle.kq_engine.specs.declared.upkeep.Upkeep.TheVariants as upkeeps
 use Rattle.kq_engine.specs.Upkeeps.{Upholds}
 use Rattle.kq_engine.proofs.Upholding.{PutsChore-again, PutsChore-merge}
@@ -14,5 +13,5 @@ returns-in-Err-Moved-clause-puts c =
     let new = hist c.merge_again.new.catalog in
     let m = c.args.merging in
     let outcome = c.merge_again.result in
-    let up = subst (λ (h : History). Upholds h new c.args.by (upkeeps.Merge m.table) (length h) outcome) c.in-Err-Moved.ensures.kept c.merge_again.ensures.upholds in
+    let up = subst (λ (v : CatalogView). Upholds (hist v) new c.args.by (upkeeps.Merge m.table) (length (hist v)) outcome) c.in-Err-Moved.ensures.kept c.merge_again.ensures.upholds in
     PutsChore-again (hist c.args.catalog.now) new c.args.by m outcome up

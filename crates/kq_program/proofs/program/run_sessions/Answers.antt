@@ -12,7 +12,7 @@ pub returns-in-Ok-clause-run : goal.returns-in-Ok-clause-run
 returns-in-Ok-clause-run g c =
     let of_feed = g.W.World.feed_contents c.args.world.now in
     let options = c.args.options in
-    subst (λ (first : Contents). RunsProgram options.generate options.feeds.items first of_feed c.run_opened.result) c.in-Ok.ensures.first (c.run_opened.ensures.run of_feed options.feeds.items c.in-Ok.ensures.opened)
+    subst (λ (first : Contents). RunsProgram options.workers options.generate options.feeds.items first of_feed c.run_opened.result) c.in-Ok.ensures.first (c.run_opened.ensures.run of_feed options.feeds.items c.in-Ok.ensures.opened)
 
 pub returns-in-Ok-clause-opens : goal.returns-in-Ok-clause-opens
 returns-in-Ok-clause-opens g c =

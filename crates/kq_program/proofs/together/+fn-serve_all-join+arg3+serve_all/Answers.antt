@@ -36,7 +36,7 @@ pub push_reserved-requires-2 : goal.push_reserved-requires-2
 push_reserved-requires-2 g t c =
     let others = c.join-one.ensures.second in
     let all = c.join-one.result.1.sessions in
-    let count = served_count _ _ _ _ c.pop.new.self.items all.items others.1 in
+    let count = served_count _ _ _ _ _ c.pop.new.self.items all.items others.1 in
     let whole : length c.args.feeds.items ≡ length c.pop.new.self.items + 1 = ap length c.in-Some.ensures.items ∙ length_push c.pop.new.self.items c.in-Some.last in
     omega (arith, count, whole, all.ok.0, others.0, c.requires.room)
 
@@ -47,4 +47,4 @@ returns-clause-served g t c =
     let feeds = c.pop.new.self.items in
     let whole : length c.args.feeds.items ≡ length feeds + 1 = ap length c.in-Some.ensures.items ∙ length_push feeds c.in-Some.last in
     let some : 2 ≤ c.args.pass.worth = omega (arith, whole, c.requires.worth) in
-    ServedAll-more c.args.shared.now.limits c.args.shared.now.turn c.args.pass _ _ _ _ c.join.result _ c.in-Some.last c.args.feeds.items feeds _ _ _ _ c.in-Some.ensures.items c.push_reserved-2.ensures.items c.requires.of some c.split-rest.ensures.first c.split-rest.ensures.second others.1 one (omega (arith, c.len.ensures, c.pop.new.self.ok.0, c.requires.few, whole)) c.join.ensures.of c.join.ensures.first_seen c.join.ensures.second_seen c.join.ensures.worth c.join.ensures.made
+    ServedAll-more c.args.shared.now.limits 0 c.args.shared.now.turn c.args.pass _ _ _ _ c.join.result _ c.in-Some.last c.args.feeds.items feeds _ _ _ _ c.in-Some.ensures.items c.push_reserved-2.ensures.items c.requires.of some c.split-rest.ensures.first c.split-rest.ensures.second others.1 one (omega (arith, c.len.ensures, c.pop.new.self.ok.0, c.requires.few, whole)) c.join.ensures.of c.join.ensures.first_seen c.join.ensures.second_seen c.join.ensures.worth c.join.ensures.added c.join.ensures.made

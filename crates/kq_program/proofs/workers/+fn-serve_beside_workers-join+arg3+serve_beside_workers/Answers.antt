@@ -25,6 +25,7 @@ join-worked-requires-send-A g t c κs within = search (pass_send, sendable, cros
 pub returns : goal.returns
 returns g t c =
     let some : 2 ≤ c.args.pass.worth = omega (arith, c.requires.worth) in
+    let one_more : c.args.workers ≡ c.others + 1 = omega arith in
     record {
-      served = ServedAll-worker c.args.shared.now.limits c.args.shared.now.turn c.args.pass _ _ _ _ c.join.result _ _ c.requires.of some c.split-rest.ensures.first c.split-rest.ensures.second c.join-worked.ensures.second c.join-worked.ensures.first.0 c.join.ensures.of c.join.ensures.first_seen c.join.ensures.worth c.join.ensures.made;
+      served = ServedAll-worker c.args.shared.now.limits c.args.workers _ _ c.args.shared.now.turn c.args.pass _ _ _ _ c.join.result _ _ c.requires.of some c.split-rest.ensures.first c.split-rest.ensures.second one_more c.actor_of-actor.ensures c.join-worked.ensures.second c.join-worked.ensures.first.0 c.join.ensures.of c.join.ensures.first_seen c.join.ensures.worth c.join.ensures.added c.join.ensures.made;
     }

@@ -21,7 +21,7 @@ merge_tables-merged-requires-clause-of g c =
     let old = c.args.worker.now in
     let looked : Worker = record { pass = c.snapshot.new.pass; number = old.number; short = old.short } in
     let looks : Looks old.pass looked.pass = record { seen = c.snapshot.ensures.seen; pass = c.snapshot.ensures.pass } in
-    (HasChores-carries post.shared.now.limits post.actor looked c.fold_views-folded.new.worker c.fold_views-folded.ensures.chores).of ∙ (Carries-looks old.pass looked.pass looks).of ∙ c.requires
+    (HasChores-carries post.shared.now.limits post.actor looked c.fold_views-folded.new.worker c.fold_views-folded.ensures.chores).of ∙ (Carries-looks post.actor old.pass looked.pass looks).of ∙ c.requires
 
 pub returns-clause-round : goal.returns-clause-round
 returns-clause-round g c =

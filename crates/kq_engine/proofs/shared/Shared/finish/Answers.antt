@@ -39,4 +39,4 @@ returns g c =
     let fixed : numbers_of c.take-catalog.result.limits ≡ numbers_of c.args.self.now.limits = search rules in
     let told = subst (λ (o : Outcome). Advances c.take-catalog.result.limits old new work began o) (sym c.told-outcome.ensures) c.conclude-answer.ensures.step in
     let step = subst (λ (l : Limits). Advances l old new work began c.told-outcome.result) (same_limits _ _ fixed) told in
-    rw (← c.pass.view_is, c.give.ensures.pass, c.take-catalog.ensures.pass) (Finishes-step c.args.self.now.limits pass.of pass.seen old new pass.worth pass.made pass.taken work began c.told-outcome.result c.pass.invariant.1 c.take-catalog.ensures.seen step)
+    rw (← c.pass.view_is, c.give.ensures.pass, c.take-catalog.ensures.pass) (Finishes-step c.args.self.now.limits pass.of pass.seen old new pass.added pass.worth pass.taken work began c.told-outcome.result c.pass.invariant.1 c.take-catalog.ensures.seen step)

@@ -40,4 +40,4 @@ returns g c =
     let fixed : numbers_of taken.limits ≡ numbers_of limits = search rules in
     let lawful = subst (λ (l : Limits). AreLawful l (hist put)) (c.put_chore-outcome.ensures.limits ∙ same_limits _ _ fixed) c.place-pass-inside.ensures.sound.lawful in
     rw (← c.pass.view_is, c.give.ensures.pass, c.take-catalog.ensures.pass)
-    (FinishesUpkeep-step limits pass.of seen (hist taken) (hist put) pass.worth pass.made pass.taken c.args.by c.args.upkeep c.put_chore-outcome.result c.take-catalog.ensures.seen lawful up)
+    (FinishesUpkeep-step limits pass.of seen (hist taken) (hist put) pass.added pass.worth pass.taken c.args.by c.args.upkeep c.put_chore-outcome.result c.take-catalog.ensures.seen lawful up)

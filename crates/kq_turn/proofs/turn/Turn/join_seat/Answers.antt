@@ -12,6 +12,6 @@ join_seat-requires g c =
       c.requires.of.1 ∙ table,
       c.requires.other_idle.1,
       omega (arith, words),
-      joins g.S.Grows.history g.S.Grows.tally g.S.Grows.fixed key.passes (g.S.Grows.fixed key.first.value) _ c.args.seat.now.me.0 _ c.args.other.me.0
+      joins g.S.Grows.history g.S.Grows.fixed key.passes (g.S.Grows.fixed key.first.value) _ c.args.seat.now.me.0 _ c.args.other.me.0
           c.requires.idle.0 c.requires.other_idle.0 c.requires.live.0 c.requires.live.1,
     )

@@ -9,5 +9,5 @@ load-requires g c =
     let words = c.self.invariant.0 in (
       c.requires.of ∙ sym (ap (λ (t : TurnId). t.table) c.self.view_is),
       omega (arith, words),
-      allows_load g.S.Grows.history g.S.Grows.tally g.S.Grows.fixed key.passes (g.S.Grows.fixed key.first.value) _ _ c.args.seat.now.me c.requires.live,
+      allows_load g.S.Grows.history g.S.Grows.fixed key.passes (g.S.Grows.fixed key.first.value) _ _ c.args.seat.now.me c.requires.live,
     )

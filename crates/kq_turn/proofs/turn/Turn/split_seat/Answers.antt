@@ -9,5 +9,5 @@ split_seat-requires g c =
     let words = c.self.invariant.0 in (
       c.requires.of ∙ sym (ap (λ (t : TurnId). t.table) c.self.view_is),
       omega (arith, words),
-      splits g.S.Grows.history g.S.Grows.tally g.S.Grows.fixed key.passes (g.S.Grows.fixed key.first.value) _ c.args.seat.now.me.0 c.requires.idle.0 c.requires.worth,
+      splits g.S.Grows.history g.S.Grows.fixed key.passes (g.S.Grows.fixed key.first.value) _ c.args.seat.now.me.0 c.requires.idle.0 c.requires.worth,
     )

@@ -10,6 +10,6 @@ store-requires g c =
     let value = c.requires.value in (
       c.requires.of ∙ sym (ap (λ (t : TurnId). t.table) c.self.view_is),
       omega (arith, words),
-      allows_count g.S.Grows.history g.S.Grows.tally g.S.Grows.fixed key.passes (g.S.Grows.fixed key.first.value) _ _ c.args.seat.now.me.0 value.0 c.args.seat.now.me.1 c.args.count
-          g.met.S.Grows.tally_append c.requires.holds c.requires.live value.1 value.2 value.3,
+      allows_count g.S.Grows.history g.S.Grows.fixed key.passes (g.S.Grows.fixed key.first.value) _ _ c.args.seat.now.me.0 value.0 c.args.seat.now.me.1 c.args.count
+          c.requires.holds c.requires.live value.1 value.2 value.3,
     )

@@ -9,6 +9,6 @@ compare_exchange-found-requires g c =
     let words = c.self.invariant.0 in (
       c.requires.of ∙ sym (ap (λ (t : TurnId). t.table) c.self.view_is),
       omega (arith, words),
-      allows_take_at g.S.Grows.history g.S.Grows.tally g.S.Grows.fixed key.passes (g.S.Grows.fixed key.first.value) _ _ c.args.seat.now.me
+      allows_take_at g.S.Grows.history g.S.Grows.fixed key.passes (g.S.Grows.fixed key.first.value) _ _ c.args.seat.now.me
           c.requires.idle.0 c.requires.live c.requires.idle.1,
     )

@@ -7,6 +7,6 @@ invariant-loop-x g l = record {
   of : l.pass.of ≡ l.fn.pass.of;
   idle : IsIdle l.pass;
   worth : l.pass.worth ≡ l.fn.pass.worth;
-  made : l.pass.made ≡ l.fn.pass.made + l.count;
+  added : length l.pass.added ≡ length l.fn.pass.added + l.count;
   count : l.count ≤ l.x;
 }
