@@ -1,7 +1,7 @@
 #!/usr/bin/env python3
 """answers.py access|audit: prints what the program has to answer to access.make or audit.make.
 
-The answers come from the lines of access.log and audit.jsonl alone, by ways of this file's own.
+The answers come from the lines of access.log and audit.jsonl alone, and are computed in this file's own way.
 """
 
 import datetime
