@@ -8,14 +8,14 @@ use Rattle.kq_turn.specs.Passes.{TurnId}
 use Rattle.kq_turn.proofs.Beginnings.{IsPrefix-trans}
 use Rattle.kq_model.specs.declared.event.Event.{Event}
 use Rattle.kq_model.specs.declared.limits.Limits.{Limits}
-use Rattle.kq_model.specs.History.{History}
+use Rattle.kq_model.specs.History.{History, commits_of}
 use Rattle.kq_workers.specs.kq_engine.Shared.{PassView}
 use Rattle.kq_session.specs.Session.{Explained, is_receipted, owns}
 use Rattle.kq_session.proofs.Serving.{Explained-later}
 use Rattle.kq_program.specs.Together.{IsServed, AreServed, Passed, ServedOne, ServedAll, all_owns}
 use Rattle.kq_program.specs.Views.{OpenedView, EndedView}
 use Rattle.kq_program.specs.Whole.{is_caused, is_of_sessions, is_of_workers}
-use Rattle.kq_workers.specs.Rounds.{is_fold_or_merge, is_upkeep}
+use Rattle.kq_workers.specs.Rounds.{is_upkeep}
 use Rattle.kq_program.proofs.Scripting.{ByScript-map}
 
 IsServed-later : (limits : Limits) (h new : History) (actor : ℕ) (o : OpenedView) (s : EndedView) → IsPrefix h new → IsServed limits h actor o s → IsServed limits new actor o s
@@ -108,10 +108,10 @@ caused_before workers others ss is e caused = or_weaker (is_of_sessions 0 ss e) 
   where
     more : is_of_workers others e ≡ true → is_of_workers workers e ≡ true
     more one =
-        let parts = and_parts (nat_le 8 e.by.actor) (nat_lt e.by.actor (8 + others) && is_fold_or_merge e.operation) one in
-        let rest = and_parts (nat_lt e.by.actor (8 + others)) (is_fold_or_merge e.operation) parts.1 in
-        and_both (nat_le 8 e.by.actor) (nat_lt e.by.actor (8 + workers) && is_fold_or_merge e.operation) parts.0
-        (and_both (nat_lt e.by.actor (8 + workers)) (is_fold_or_merge e.operation) (lower e.by.actor workers others is rest.0) rest.1)
+        let parts = and_parts (nat_le 8 e.by.actor) (nat_lt e.by.actor (8 + others) && nat_eq (length (commits_of e.operation)) 0) one in
+        let rest = and_parts (nat_lt e.by.actor (8 + others)) (nat_eq (length (commits_of e.operation)) 0) parts.1 in
+        and_both (nat_le 8 e.by.actor) (nat_lt e.by.actor (8 + workers) && nat_eq (length (commits_of e.operation)) 0) parts.0
+        (and_both (nat_lt e.by.actor (8 + workers)) (nat_eq (length (commits_of e.operation)) 0) (lower e.by.actor workers others is rest.0) rest.1)
 
 above : (a actor others : ℕ) → actor ≡ 8 + others → nat_eq a actor ≡ true → nat_le 8 a ≡ true
 above a actor others is same = grind (arith, nat_tests, is, same)
@@ -122,10 +122,10 @@ below a actor workers others more is same = grind (arith, nat_tests, more, is, s
 -- a worker's own have their cause
 caused_worker : (workers others actor : ℕ) (ss : List EndedView) → workers ≡ others + 1 → actor ≡ 8 + others → (e : Event) → is_upkeep actor e ≡ true → is_caused workers ss e ≡ true
 caused_worker workers others actor ss more is e own =
-    let parts = and_parts (nat_eq e.by.actor actor) (is_fold_or_merge e.operation) own in
+    let parts = and_parts (nat_eq e.by.actor actor) (nat_eq (length (commits_of e.operation)) 0) own in
     or_second (is_of_sessions 0 ss e) (is_of_workers workers e)
-    (and_both (nat_le 8 e.by.actor) (nat_lt e.by.actor (8 + workers) && is_fold_or_merge e.operation) (above e.by.actor actor others is parts.0)
-    (and_both (nat_lt e.by.actor (8 + workers)) (is_fold_or_merge e.operation) (below e.by.actor actor workers others more is parts.0) parts.1))
+    (and_both (nat_le 8 e.by.actor) (nat_lt e.by.actor (8 + workers) && nat_eq (length (commits_of e.operation)) 0) (above e.by.actor actor others is parts.0)
+    (and_both (nat_lt e.by.actor (8 + workers)) (nat_eq (length (commits_of e.operation)) 0) (below e.by.actor actor workers others more is parts.0) parts.1))
 
 -- ---- passes
 

@@ -1,9 +1,8 @@
 -- The events of a history are those of its sessions and workers.
 use Rattle.std.specs.Prelude.{◌≡◌, ◌<◌, ◌+◌, ◌&&◌, ◌||◌, ℕ, Bool, true, false, List, [], ◌∷◌, length, filter, All, nat_eq, nat_le, nat_lt}
 use Rattle.kq_model.specs.declared.event.Event.{Event}
-use Rattle.kq_model.specs.History.{History, CommitAt, commits_at}
+use Rattle.kq_model.specs.History.{History, CommitAt, commits_at, commits_of}
 use Rattle.kq_session.specs.Session.{is_receipted, own_commits}
-use Rattle.kq_workers.specs.Rounds.{is_fold_or_merge}
 use Rattle.kq_program.specs.Views.{EndedView}
 
 -- the commits of an actor
@@ -20,9 +19,9 @@ abbrev pub is_of_sessions : ℕ → List EndedView → Event → Bool
 is_of_sessions n [] e = false
 is_of_sessions n (s ∷ ss) e = is_receipted n s.session.receipts e || is_of_sessions (n + 1) ss e
 
--- the event is a fold or a merge by one of so many workers, whose actors are counted from 8
+-- the event is by one of so many workers, whose actors are counted from 8, and no commit, so a fold or a merge
 abbrev pub is_of_workers : ℕ → Event → Bool
-is_of_workers workers e = nat_le 8 e.by.actor && (nat_lt e.by.actor (8 + workers) && is_fold_or_merge e.operation)
+is_of_workers workers e = nat_le 8 e.by.actor && (nat_lt e.by.actor (8 + workers) && nat_eq (length (commits_of e.operation)) 0)
 
 -- the event has its cause: a session's command or a worker
 abbrev pub is_caused : ℕ → List EndedView → Event → Bool

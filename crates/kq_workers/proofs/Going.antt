@@ -1,5 +1,5 @@
 -- Chores and rounds, one after another.
-use Rattle.std.proofs.Common.{◌≡◌, ◌||◌, ◌&&◌, All, Bool, true, false, ℕ, List, [], ◌∷◌, ◌++◌, Option, Some, None, refl, ap, sym, ◌∙◌, subst, append-nil, append_assoc}
+use Rattle.std.proofs.Common.{◌≡◌, ◌||◌, ◌&&◌, All, Bool, true, false, ℕ, List, [], ◌∷◌, ◌++◌, length, nat_eq, Option, Some, None, refl, ap, sym, ◌∙◌, subst, append-nil, append_assoc}
 use Rattle.std.proofs.lemmas.Bool.{eq-eqb}
 use Rattle.std.proofs.lemmas.List.Elements.{All-append, All-cons, All-nil}
 use mathlib.Core.List.{IsPrefix}
@@ -8,7 +8,7 @@ use Rattle.kq_model.specs.declared.event.Event.{Event}
 use Rattle.kq_model.specs.declared.event.Operation.{Operation}
 use Rattle.kq_model.specs.declared.event.Operation.TheVariants as operation
 use Rattle.kq_model.specs.declared.limits.Limits.{Limits}
-use Rattle.kq_model.specs.History.{History}
+use Rattle.kq_model.specs.History.{History, commits_of}
 use Rattle.kq_reply.specs.declared.reply.Reply.{Reply}
 use Rattle.kq_engine.specs.declared.upkeep.Upkeep.{Upkeep}
 use Rattle.kq_engine.specs.declared.upkeep.Upkeep.TheVariants as upkeeps
@@ -16,7 +16,7 @@ use Rattle.kq_engine.specs.Fits.{event_by}
 use Rattle.kq_engine.specs.Shared.{PassView}
 use Rattle.kq_engine.specs.Upkeeps.{MakesOwn}
 use Rattle.kq_workers.specs.declared.worker.Worker.{Worker}
-use Rattle.kq_workers.specs.Rounds.{GoesRound, GoesRounds, HasRound, HasRounds, HasChores, Looks, TakesOne, TakesChore, TakesChores, Chore, Works, begun, is_fold_or_merge, is_upkeep, wants_memory}
+use Rattle.kq_workers.specs.Rounds.{GoesRound, GoesRounds, HasRound, HasRounds, HasChores, Looks, TakesOne, TakesChore, TakesChores, Chore, Works, begun, is_upkeep, wants_memory}
 
 -- ---- short
 
@@ -64,10 +64,10 @@ TakesOne-granted limits actor old new upkeep one none = or_second old.short _ (s
 
 -- ---- passes
 
-one_upkeep : (actor n : ℕ) (made : Operation) → is_fold_or_merge made ≡ true → All (λ (e : Event). is_upkeep actor e ≡ true) (record { by = record { actor = actor; number = n }; operation = made } ∷ [])
+one_upkeep : (actor n : ℕ) (made : Operation) → nat_eq (length (commits_of made)) 0 ≡ true → All (λ (e : Event). is_upkeep actor e ≡ true) (record { by = record { actor = actor; number = n }; operation = made } ∷ [])
 one_upkeep actor n made keeps =
     let e : Event = record { by = record { actor = actor; number = n }; operation = made } in
-    let own : is_upkeep actor e ≡ true = ap (λ (b : Bool). b && is_fold_or_merge made) (eq-eqb actor actor refl) ∙ keeps in
+    let own : is_upkeep actor e ≡ true = ap (λ (b : Bool). b && nat_eq (length (commits_of made)) 0) (eq-eqb actor actor refl) ∙ keeps in
     All-cons (λ (x : Event). is_upkeep actor x ≡ true) e [] own (All-nil (λ (x : Event). is_upkeep actor x ≡ true))
 
 -- an upkeep's own event is a fold or a merge

@@ -2,10 +2,8 @@
 use Rattle.std.specs.Prelude.{◌≡◌, ◌+◌, ◌-◌, ◌^◌, ◌||◌, ◌&&◌, ◌++◌, ◌∷◌, [], ℕ, Bool, true, false, List, length, min, All, nat_eq}
 use mathlib.Core.List.{IsPrefix}
 use Rattle.kq_model.specs.declared.event.Event.{Event}
-use Rattle.kq_model.specs.declared.event.Operation.{Operation}
-use Rattle.kq_model.specs.declared.event.Operation.TheVariants as operation
 use Rattle.kq_model.specs.declared.limits.Limits.{Limits}
-use Rattle.kq_model.specs.History.{History}
+use Rattle.kq_model.specs.History.{History, commits_of}
 use Rattle.kq_model.specs.Lawful.{AreLawful}
 use Rattle.kq_reply.specs.declared.refusal.Refusal.TheVariants as refusals
 use Rattle.kq_reply.specs.declared.reply.Reply.{Reply}
@@ -70,15 +68,9 @@ GoesRounds limits actor (chores ∷ rounds) old new = (mid : Worker) × GoesRoun
 abbrev pub begun : PassView → Worker
 begun pass = record { pass = pass; number = 0; short = false }
 
--- a fold or a merge
-abbrev pub is_fold_or_merge : Operation → Bool
-is_fold_or_merge (operation.Commit c) = false
-is_fold_or_merge (operation.Fold view to) = true
-is_fold_or_merge (operation.Merge table ids new) = true
-
--- the event is an actor's fold or merge
+-- the event is an actor's fold or merge, since it is no commit
 abbrev pub is_upkeep : ℕ → Event → Bool
-is_upkeep actor e = nat_eq e.by.actor actor && is_fold_or_merge e.operation
+is_upkeep actor e = nat_eq e.by.actor actor && nat_eq (length (commits_of e.operation)) 0
 
 -- a pass after a worker's rounds, of which there is one or more: it has seen at least as much, and all events that were made through it are folds and merges of the actor; each chore made, under its last take, at most one event, a fold or a merge with the actor's request id; memory was wanting in one of them, or not
 pub record Works (limits : Limits) (actor : ℕ) (old new : PassView) (short : Bool) : Type 0 where
