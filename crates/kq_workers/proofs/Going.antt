@@ -14,7 +14,7 @@ use Rattle.kq_engine.specs.declared.upkeep.Upkeep.{Upkeep}
 use Rattle.kq_engine.specs.declared.upkeep.Upkeep.TheVariants as upkeeps
 use Rattle.kq_engine.specs.Fits.{event_by}
 use Rattle.kq_engine.specs.Shared.{PassView}
-use Rattle.kq_engine.specs.Upkeeps.{MakesOwn}
+use Rattle.kq_engine.specs.Upkeeps.{IsWanted, MakesOwn}
 use Rattle.kq_workers.specs.declared.worker.Worker.{Worker}
 use Rattle.kq_workers.specs.Rounds.{GoesRound, GoesRounds, HasRound, HasRounds, HasChores, Looks, TakesOne, TakesChore, TakesChores, Chore, Works, begun, is_upkeep, wants_memory}
 
@@ -42,22 +42,28 @@ chores_append : (limits : Limits) (actor : ℕ) (xs ys : List Chore) (a b c : Wo
 chores_append limits actor [] ys a b c same rest = subst (λ (w : Worker). TakesChores limits actor ys w c) (sym same) rest
 chores_append limits actor (t ∷ xs) ys a b c went rest = (went.0, went.1, chores_append limits actor xs ys went.0 b c went.2 rest)
 
-pub HasChores-none : (limits : Limits) (actor : ℕ) (w : Worker) → HasChores limits actor w w
-HasChores-none limits actor w = record { chores = []; taken = refl }
+pub HasChores-none : (limits : Limits) (actor : ℕ) (first : History) (w : Worker) → HasChores limits actor first w w
+HasChores-none limits actor first w = record { chores = []; wanted = All-nil (λ (t : Chore). IsWanted first t.upkeep); taken = refl }
 
-pub HasChores-one : (limits : Limits) (actor : ℕ) (old new : Worker) (upkeep : Upkeep) → TakesOne limits actor old new upkeep → HasChores limits actor old new
-HasChores-one limits actor old new upkeep one = record { chores = record { upkeep = upkeep; outcome = one.outcome } ∷ []; taken = (new, one.chore, refl) }
+pub HasChores-one : (limits : Limits) (actor : ℕ) (first : History) (old new : Worker) (upkeep : Upkeep) → IsWanted first upkeep → TakesOne limits actor old new upkeep → HasChores limits actor first old new
+HasChores-one limits actor first old new upkeep wanted one =
+    let t : Chore = record { upkeep = upkeep; outcome = one.outcome } in
+    record { chores = t ∷ []; wanted = All-cons (λ (x : Chore). IsWanted first x.upkeep) t [] wanted (All-nil (λ (x : Chore). IsWanted first x.upkeep)); taken = (new, one.chore, refl) }
 
-pub HasChores-append : (limits : Limits) (actor : ℕ) (a b c : Worker) → HasChores limits actor a b → HasChores limits actor b c → HasChores limits actor a c
-HasChores-append limits actor a b c first later = record { chores = first.chores ++ later.chores; taken = chores_append limits actor first.chores later.chores a b c first.taken later.taken }
+pub HasChores-append : (limits : Limits) (actor : ℕ) (first : History) (a b c : Worker) → HasChores limits actor first a b → HasChores limits actor first b c → HasChores limits actor first a c
+HasChores-append limits actor first a b c before later = record {
+  chores = before.chores ++ later.chores;
+  wanted = All-append (λ (t : Chore). IsWanted first t.upkeep) before.chores later.chores before.wanted later.wanted;
+  taken = chores_append limits actor before.chores later.chores a b c before.taken later.taken;
+}
 
 chores_short : (limits : Limits) (actor : ℕ) (chores : List Chore) (old new : Worker) → TakesChores limits actor chores old new → new.short ≡ false → old.short ≡ false
 chores_short limits actor [] old new same none = ap (λ (w : Worker). w.short) same ∙ none
 chores_short limits actor (t ∷ chores) old new went none = or_first old.short _ (sym went.1.short ∙ chores_short limits actor chores went.0 new went.2 none)
 
 -- where memory was wanting in no chore, it was wanting in none before
-pub HasChores-short : (limits : Limits) (actor : ℕ) (old new : Worker) → HasChores limits actor old new → new.short ≡ false → old.short ≡ false
-HasChores-short limits actor old new has none = chores_short limits actor has.chores old new has.taken none
+pub HasChores-short : (limits : Limits) (actor : ℕ) (first : History) (old new : Worker) → HasChores limits actor first old new → new.short ≡ false → old.short ≡ false
+HasChores-short limits actor first old new has none = chores_short limits actor has.chores old new has.taken none
 
 pub TakesOne-granted : (limits : Limits) (actor : ℕ) (old new : Worker) (upkeep : Upkeep) (one : TakesOne limits actor old new upkeep) → new.short ≡ false → wants_memory one.outcome.reply ≡ false
 TakesOne-granted limits actor old new upkeep one none = or_second old.short _ (sym one.chore.short ∙ none)
@@ -140,8 +146,8 @@ chores_carry : (limits : Limits) (actor : ℕ) (chores : List Chore) (old new : 
 chores_carry limits actor [] old new same = Carries-same actor old.pass new.pass (ap (λ (w : Worker). w.pass) same)
 chores_carry limits actor (t ∷ chores) old new went = Carries-trans actor old.pass went.0.pass new.pass (chore_carries limits actor old went.0 t went.1) (chores_carry limits actor chores went.0 new went.2)
 
-pub HasChores-carries : (limits : Limits) (actor : ℕ) (old new : Worker) → HasChores limits actor old new → Carries actor old.pass new.pass
-HasChores-carries limits actor old new has = chores_carry limits actor has.chores old new has.taken
+pub HasChores-carries : (limits : Limits) (actor : ℕ) (first : History) (old new : Worker) → HasChores limits actor first old new → Carries actor old.pass new.pass
+HasChores-carries limits actor first old new has = chores_carry limits actor has.chores old new has.taken
 
 round_carries : (limits : Limits) (actor : ℕ) (chores : List Chore) (old new : Worker) → GoesRound limits actor chores old new → Carries actor old.pass new.pass
 round_carries limits actor chores old new round = Carries-trans actor old.pass round.looked.pass new.pass (Carries-looks actor old.pass round.looked.pass round.looks) (chores_carry limits actor chores round.looked new round.chore)
@@ -156,13 +162,13 @@ rounds_carry limits actor (chores ∷ rounds) old new went = Carries-trans actor
 pub HasRound-refused : (limits : Limits) (actor : ℕ) (old new : Worker) → Looks old.pass new.pass → new.number ≡ old.number → new.short ≡ true → HasRound limits actor old new
 HasRound-refused limits actor old new looks number short = record {
   chores = [];
-  went = record { looked = new; looks = looks; number = number; refused = true; short = short ∙ or_true old.short; none = λ e. refl; chore = refl };
+  went = record { looked = new; looks = looks; number = number; refused = true; short = short ∙ or_true old.short; none = λ e. refl; wanted = All-nil (λ (t : Chore). IsWanted new.pass.seen t.upkeep); chore = refl };
 }
 
-pub HasRound-chores : (limits : Limits) (actor : ℕ) (old looked new : Worker) → Looks old.pass looked.pass → looked.number ≡ old.number → looked.short ≡ old.short → HasChores limits actor looked new → HasRound limits actor old new
+pub HasRound-chores : (limits : Limits) (actor : ℕ) (old looked new : Worker) → Looks old.pass looked.pass → looked.number ≡ old.number → looked.short ≡ old.short → HasChores limits actor looked.pass.seen looked new → HasRound limits actor old new
 HasRound-chores limits actor old looked new looks number short has = record {
   chores = has.chores;
-  went = record { looked = looked; looks = looks; number = number; refused = false; short = short ∙ or_false old.short; none = λ e. absurd (cc); chore = has.taken };
+  went = record { looked = looked; looks = looks; number = number; refused = false; short = short ∙ or_false old.short; none = λ e. absurd (cc); wanted = has.wanted; chore = has.taken };
 }
 
 -- rounds that were gone so far

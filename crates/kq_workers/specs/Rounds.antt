@@ -11,7 +11,7 @@ use Rattle.kq_reply.specs.declared.reply.Reply.TheVariants as replies
 use Rattle.kq_engine.specs.declared.upkeep.Upkeep.{Upkeep}
 use Rattle.kq_engine.specs.declared.work.Outcome.{Outcome}
 use Rattle.kq_engine.specs.Shared.{PassView}
-use Rattle.kq_engine.specs.Upkeeps.{KeepsUp}
+use Rattle.kq_engine.specs.Upkeeps.{IsWanted, KeepsUp}
 use Rattle.kq_workers.specs.declared.worker.Worker.{Worker}
 
 -- the number after another one, which stands still at the last of its type
@@ -49,7 +49,7 @@ pub record Looks (old new : PassView) : Type 0 where
   pub seen : IsPrefix old.seen new.seen
   pub pass : new ≡ record old { seen = new.seen; taken = old.taken ++ length new.seen ∷ [] }
 
--- a round: a look and its chores, or a look for which memory was wanting, and none
+-- a round: a look and its chores, for each of which there was something to do at the look; or a look for which memory was wanting, and none
 pub record GoesRound (limits : Limits) (actor : ℕ) (chores : List Chore) (old new : Worker) : Type 0 where
   pub looked : Worker
   pub looks : Looks old.pass looked.pass
@@ -57,6 +57,7 @@ pub record GoesRound (limits : Limits) (actor : ℕ) (chores : List Chore) (old 
   pub refused : Bool
   pub short : looked.short ≡ (old.short || refused)
   pub none : refused ≡ true → chores ≡ []
+  pub wanted : All (λ (t : Chore). IsWanted looked.pass.seen t.upkeep) chores
   pub chore : TakesChores limits actor chores looked new
 
 -- rounds, one after another
@@ -92,9 +93,10 @@ pub record HasRounds (limits : Limits) (actor : ℕ) (old new : Worker) : Type 0
   pub more : List (List Chore)
   pub went : GoesRounds limits actor (first ∷ more) old new
 
--- chores under way
-pub record HasChores (limits : Limits) (actor : ℕ) (old new : Worker) : Type 0 where
+-- chores under way, for each of which there was something to do at the history's end
+pub record HasChores (limits : Limits) (actor : ℕ) (first : History) (old new : Worker) : Type 0 where
   pub chores : List Chore
+  pub wanted : All (λ (t : Chore). IsWanted first t.upkeep) chores
   pub taken : TakesChores limits actor chores old new
 
 -- a round under way

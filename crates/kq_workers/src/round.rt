@@ -30,7 +30,7 @@ pub(crate) fn round<R: Wait, G: Gate>(post: &Post<R, G>, worker: &mut Worker) ->
 fn fold_views<R: Wait, G: Gate>(post: &Post<R, G>, worker: &mut Worker, snapshot: &Snapshot) -> bool
     requires of { worker.old.pass.of ≡ post.now.shared.now.turn }
     requires since { SeenGoesOn post.now.shared.now.limits snapshot.now.history worker.old.pass.seen }
-    ensures chores { HasChores post.now.shared.now.limits post.now.actor worker.old worker.new }
+    ensures chores { HasChores post.now.shared.now.limits post.now.actor snapshot.now.history worker.old worker.new }
     ensures since { SeenGoesOn post.now.shared.now.limits snapshot.now.history worker.new.pass.seen }
     ensures kept { worker.new.short ≡ false → AreKeptBelow snapshot.now.history worker.new.pass.seen Upkeep.Fold (view_count (log snapshot.now.history)) }
 {
@@ -50,7 +50,7 @@ fn merge_tables<R: Wait, G: Gate>(
 ) -> bool
     requires of { worker.old.pass.of ≡ post.now.shared.now.turn }
     requires since { SeenGoesOn post.now.shared.now.limits snapshot.now.history worker.old.pass.seen }
-    ensures chores { HasChores post.now.shared.now.limits post.now.actor worker.old worker.new }
+    ensures chores { HasChores post.now.shared.now.limits post.now.actor snapshot.now.history worker.old worker.new }
     ensures since { SeenGoesOn post.now.shared.now.limits snapshot.now.history worker.new.pass.seen }
     ensures kept { worker.new.short ≡ false → AreKeptBelow snapshot.now.history worker.new.pass.seen Upkeep.Merge (length (tables (log snapshot.now.history))) }
 {
@@ -73,7 +73,7 @@ fn tend<R: Wait, G: Gate>(
     requires of { worker.old.pass.of ≡ post.now.shared.now.turn }
     requires since { SeenGoesOn post.now.shared.now.limits snapshot.now.history worker.old.pass.seen }
     requires there { IsThere (log snapshot.now.history) upkeep }
-    ensures chores { HasChores post.now.shared.now.limits post.now.actor worker.old worker.new }
+    ensures chores { HasChores post.now.shared.now.limits post.now.actor snapshot.now.history worker.old worker.new }
     ensures since { SeenGoesOn post.now.shared.now.limits snapshot.now.history worker.new.pass.seen }
     ensures kept { worker.new.short ≡ false → IsKept snapshot.now.history worker.new.pass.seen upkeep }
 {

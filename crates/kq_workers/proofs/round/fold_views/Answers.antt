@@ -8,7 +8,7 @@ pub loop-view-init : goal.loop-view-init
 loop-view-init g c = let post = c.args.post.now in Tending-none post.shared.now.limits post.actor c.args.snapshot.now.history (λ (n : ℕ). upkeeps.Fold n) c.args.worker.now c.requires.since
 
 pub tend-requires-clause-of : goal.tend-requires-clause-of
-tend-requires-clause-of g c = let post = c.args.post.now in (HasChores-carries post.shared.now.limits post.actor c.args.worker.now c.loop-view.worker c.loop-view.invariant.chores).of ∙ c.requires.of
+tend-requires-clause-of g c = let post = c.args.post.now in (HasChores-carries post.shared.now.limits post.actor c.args.snapshot.now.history c.args.worker.now c.loop-view.worker c.loop-view.invariant.chores).of ∙ c.requires.of
 
 pub loop-view-preserved : goal.loop-view-preserved
 loop-view-preserved g c =

@@ -8,7 +8,7 @@ pub loop-table-init : goal.loop-table-init
 loop-table-init g c = let post = c.args.post.now in Tending-none post.shared.now.limits post.actor c.args.snapshot.now.history (λ (n : ℕ). upkeeps.Merge n) c.args.worker.now c.requires.since
 
 pub tend-requires-clause-of : goal.tend-requires-clause-of
-tend-requires-clause-of g c = let post = c.args.post.now in (HasChores-carries post.shared.now.limits post.actor c.args.worker.now c.loop-table.worker c.loop-table.invariant.chores).of ∙ c.requires.of
+tend-requires-clause-of g c = let post = c.args.post.now in (HasChores-carries post.shared.now.limits post.actor c.args.snapshot.now.history c.args.worker.now c.loop-table.worker c.loop-table.invariant.chores).of ∙ c.requires.of
 
 pub loop-table-preserved : goal.loop-table-preserved
 loop-table-preserved g c =
