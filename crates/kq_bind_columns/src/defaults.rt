@@ -28,8 +28,8 @@ fn if_column(
     }
 }
 
-// The name of the column that an expression is.
-fn column_of(
+/// The name of the column that an expression is, also in parentheses.
+pub fn column_of(
     alloc: Global,
     text: &str,
     columns: &[Field],

@@ -11,7 +11,7 @@ mod print;
 mod renaming;
 
 pub use choosing::{all_chosen, chosen, chosen_by_second, columns_at, place_in, without};
-pub use defaults::default_name;
+pub use defaults::{column_of, default_name};
 pub use items::{
     Made, all_made, items_made, nothing_made, operand, unsupported_item, unsupported_items,
 };

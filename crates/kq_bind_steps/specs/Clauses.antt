@@ -9,8 +9,9 @@ use Rattle.kq_bind_clauses.specs.Ranges.{Ranging, ranged, range_column}
 use Rattle.kq_bind_clauses.specs.Sorts.{sort_key, sort_keys}
 use Rattle.kq_bind_clauses.specs.Tables.{tabled, word_type}
 use Rattle.kq_bind_clauses.specs.Unions.{is_inner, arms_filled, columns_in, union_sources, union_columns}
-use Rattle.kq_bind_columns.specs.Defaults.{first_token, default_name}
+use Rattle.kq_bind_columns.specs.Defaults.{first_token, column_of, default_name}
 use Rattle.kq_bind_columns.specs.Items.{field, nothing_made, items_made}
+use Rattle.kq_bind_columns.specs.Naming.{free_name}
 use Rattle.kq_bind_expression.specs.Bound.{bound}
 use Rattle.kq_bind_expression.specs.Lookup.{first_named}
 use Rattle.kq_bind_expression.specs.Verdicts.{Verdict, mistyped, and_then}
@@ -77,8 +78,17 @@ abbrev pub or_first_column : Option (List ℕ) → List ℕ
 or_first_column (Some name) = name
 or_first_column None = codes "Column1"
 
+-- the name of the item's own column, or else this one, with the least suffix that is free where a column has it: so only its own column is replaced
+abbrev pub own_or_free : List Field → Option (List ℕ) → List ℕ → List ℕ
+own_or_free cs (Some own) name = own
+own_or_free cs None name = free_name cs [] name
+
+-- its own column is the one that the item is; a member of a column, or what is made of it, isn't that column
+abbrev pub unnamed_item : List ℕ → List Field → Tree → List ℕ
+unnamed_item text cs e = own_or_free cs (column_of text cs e) (or_first_column (default_name text cs e))
+
 abbrev pub item_name : Scoping → List Field → ItemTree → List ℕ
-item_name s cs (plain e) = or_first_column (default_name s.text cs e)
+item_name s cs (plain e) = unnamed_item s.text cs e
 item_name s cs (named n e) = name_said s.text n
 
 abbrev pub item_value : ItemTree → Tree

@@ -9,7 +9,7 @@ ghost use Rattle.kq_grammar.specs.Views.{tree_of, item_view};
 use crate::flow::{Flow, columns, copied, following};
 use crate::scope::{Scope, expression_scope};
 use kq_bind_clauses::word_type;
-use kq_bind_columns::{default_name, first_token};
+use kq_bind_columns::{column_of, default_name, first_token, free_name};
 use kq_bind_expression::{BindFault, bind_expression, first_named};
 use kq_expr::Typed;
 use kq_grammar::{Expression, Item};
@@ -46,6 +46,23 @@ fn or_first_column(alloc: Global, name: Option<Text>) -> Result<Text, Memory>
     }
 }
 
+// The name of an item that is given none: its own column's, or else its default name, made free of all columns.
+fn unnamed_item(
+    alloc: Global,
+    text: &str,
+    columns: &[Field],
+    tree: &Expression,
+) -> Result<Text, Memory>
+    ensures { IfOk result (λ t. t ≡ the.unnamed_item text.now columns.now (tree_of tree.now)) }
+{
+    if let Some(own) = column_of(alloc, text, columns, tree)? {
+        return Ok(own);
+    }
+    let name = default_name(alloc, text, columns, tree)?;
+    let name = or_first_column(alloc, name)?;
+    free_name(alloc, columns, &[], name)
+}
+
 fn item_name<N: Names>(
     alloc: Global,
     scope: &Scope<N>,
@@ -55,10 +72,7 @@ fn item_name<N: Names>(
     ensures { IfOk result (λ t. t ≡ the.item_name (scoping_of N.known scope.now) columns.now (item_view item.now)) }
 {
     match item {
-        Item::Plain(tree) => or_first_column(
-            alloc,
-            default_name(alloc, scope.text, columns, tree)?,
-        ),
+        Item::Plain(tree) => unnamed_item(alloc, scope.text, columns, tree),
         Item::Named(name, _) => name_text(alloc, scope.text, *name),
     }
 }

@@ -18,6 +18,7 @@ pub mod Together
 pub mod Differing
 pub mod Suffixed
 pub mod Beside
+pub mod Expanded
 pub mod Staging
 pub mod Stages
 pub mod Filled

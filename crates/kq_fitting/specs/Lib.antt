@@ -1,6 +1,7 @@
 pub mod Different
 pub mod Suffixes
 pub mod Paired
+pub mod Expanded
 pub mod Staged
 pub mod United
 pub mod Counted

@@ -1,13 +1,20 @@
 // Laws of the names and the columns that queries are bound to, which hold of the definitions alone.
-ghost use Rattle.std.specs.Prelude.{◌≡◌, ◌↔◌, ℕ, Bool, true, false, List, ◌∷◌, length, take, Some, Ok, slice_get};
+ghost use Rattle.std.specs.Prelude.{◌≡◌, ◌↔◌, ℕ, Bool, true, false, List, [], ◌∷◌, length, take, Option, Some, None, Ok, slice_get};
+ghost use Rattle.kq_bind.specs.kq_bind_steps.Clauses.{or_first_column, parts_of};
+ghost use Rattle.kq_bind.specs.kq_bind_steps.Flows.{Flowing, columns};
+ghost use Rattle.kq_bind.specs.kq_bind_steps.Scopes.{Scoping};
 ghost use Rattle.kq_bind_clauses.specs.Joins.{join_columns};
 ghost use Rattle.kq_bind_clauses.specs.Tables.{Tabled, tabled};
 ghost use Rattle.kq_bind_clauses.specs.Unions.{union_sources};
+ghost use Rattle.kq_bind_columns.specs.Defaults.{column_of, default_name};
 ghost use Rattle.kq_bind_columns.specs.Naming.{free_name};
 ghost use Rattle.kq_grammar.specs.declared.clause.Cell.{Cell};
 ghost use Rattle.kq_grammar.specs.declared.clause.Column.{Column};
+ghost use Rattle.kq_grammar.specs.Trees.{Tree, plain};
 ghost use Rattle.kq_plan.specs.declared.work.JoinKind.{JoinKind};
+ghost use Rattle.kq_syntax.specs.declared.kind.Symbol.{Symbol};
 ghost use Rattle.kq_value.specs.declared.schema.Field.{Field};
+ghost use Rattle.kq_fitting.specs.Expanded.{ReplacesOwn, StandsLast};
 ghost use Rattle.kq_fitting.specs.Paired.{AllStandBehind, IsPaired};
 ghost use Rattle.kq_fitting.specs.Suffixes.{HaveRoom, IsMadeFree};
 ghost use Rattle.kq_fitting.specs.United.{AllFillOne, Has, IsOfAll, IsOfSome, StandsInUnion};
@@ -16,6 +23,14 @@ ghost use Rattle.kq_fitting.specs.Written.{HoldsCells};
 /// A column without a name of its own gets the least suffix that is free, where its default name isn't.
 pub fn default_names_are_free()
     ensures { (given avoided : List Field) (base : List ℕ) → HaveRoom given avoided → IsMadeFree given avoided base (free_name given avoided base) }
+{}
+
+/// `mv-expand` of an item without a name replaces a column only where the item is that column. Any other item adds one, whose default name is made free of all.
+pub fn expansions_replace_their_own_column()
+    ensures own { (s : Scoping) (w v : Flowing) (e : Tree) (t : Option Symbol) (name : List ℕ) →
+        column_of s.text (columns w) e ≡ Some name → parts_of s w (plain e) t ≡ Ok v → ReplacesOwn name w v }
+    ensures other { (s : Scoping) (w v : Flowing) (e : Tree) (t : Option Symbol) → HaveRoom (columns w) [] →
+        column_of s.text (columns w) e ≡ None → parts_of s w (plain e) t ≡ Ok v → StandsLast (or_first_column (default_name s.text (columns w) e)) w v }
 {}
 
 /// A join that pairs rows has the left columns as they are, and behind them the right ones, whose names are made free.
