@@ -5,6 +5,7 @@ mod count;
 mod element;
 mod finish;
 mod kind;
+mod laws;
 mod set;
 mod states;
 mod sum;
@@ -12,4 +13,5 @@ mod table;
 mod taken;
 
 pub use kind::Kind;
+pub use laws::order_is_free;
 pub use states::States;
