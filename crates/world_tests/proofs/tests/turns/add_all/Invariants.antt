@@ -1,4 +1,4 @@
-use Rattle.std.proofs.Common.{◌≡◌, ◌+◌, ◌≤◌}
+use Rattle.std.proofs.Common.{◌≡◌, ◌+◌, ◌≤◌, length}
 use Rattle.kq_turn.specs.Passes.{IsIdle}
 use Rattle.world_tests.proofs.tests.turns.add_all.Given as goal
 
