@@ -1,23 +1,25 @@
 -- What one take of the catalogue does to a pass.
-use Rattle.std.proofs.Common.{◌≡◌, ◌≤◌, ◌+◌, ℕ, false, List, [], ◌∷◌, ◌++◌, length, take, refl, ap, sym, ◌∙◌, subst, append-nil, append_assoc, length-append, arith, inr}
+use Rattle.std.proofs.Common.{◌≡◌, ◌≤◌, ◌+◌, ℕ, false, List, [], ◌∷◌, ◌++◌, length, take, refl, ap, sym, ◌∙◌, subst, append-nil, append_assoc, length-append, arith, inr, None, add-zero}
 use Rattle.std.proofs.lemmas.List.{take_all}
 use mathlib.Core.List.{IsPrefix}
 use Rattle.kq_turn.specs.Histories.{gained}
 use Rattle.kq_turn.specs.Passes.{TurnId}
 use Rattle.kq_turn.proofs.Beginnings.{IsPrefix-refl, IsPrefix-trans, gained-append}
 use Rattle.kq_model.specs.declared.limits.Limits.{Limits}
-use Rattle.kq_model.specs.History.{History, cursor}
+use Rattle.kq_model.specs.History.{History, commits_at, cursor}
 use Rattle.kq_engine.specs.declared.work.Outcome.{Outcome}
 use Rattle.kq_engine.specs.declared.work.Work.{Work}
-use Rattle.kq_engine.specs.Fits.{Advances, event_by}
+use Rattle.kq_reply.specs.declared.refusal.Refusal.{Refusal}
+use Rattle.kq_reply.specs.declared.reply.Reply.TheVariants as replies
+use Rattle.kq_engine.specs.Fits.{Advances, AnswersCommand, event_by}
 use Rattle.kq_engine.specs.Found.{IsReady}
 use Rattle.kq_reply.specs.declared.reply.Reply.{Reply}
 use Rattle.kq_engine.specs.declared.work.Ready.TheVariants as readies
 use Rattle.kq_engine.specs.Shared.{PassView, Applies, Finishes, IsJustTaken, Concludes, commit_count}
-use Rattle.kq_engine.proofs.Advancing.{Appends-none, Fits-end}
+use Rattle.kq_engine.proofs.Advancing.{Fits-end}
 use Rattle.kq_engine.proofs.Counting.{cursor-append, cursor-gained}
 use Rattle.kq_engine.specs.Merges.{NamesAll}
-use Rattle.kq_engine.proofs.Telling.{NamesAll-since, cursor_take, settled_requested, settled_names}
+use Rattle.kq_engine.proofs.Telling.{NamesAll-since, cursor_take, refused_still, settled_requested, settled_names, still_names, still_requested}
 
 -- what a history gained is what was appended
 pub gained_of : (old new more : History) → new ≡ old ++ more → gained old new ≡ more
@@ -54,7 +56,7 @@ Concludes-answered limits pass work reply fresh due = record {
   more = [];
   few = omega arith;
   taken = sym (append-nil pass.taken);
-  last = record { found = pass.seen; begins = IsPrefix-refl pass.seen; before = fresh.before; last = fresh.last; appends = Appends-none limits pass.seen work.by work.command (length pass.seen) reply; added = sym (append-nil pass.added) };
+  last = record { found = pass.seen; begins = IsPrefix-refl pass.seen; before = fresh.before; last = fresh.last; appends = record { made = None; may_make = tt; appended = sym (append-nil pass.seen); commits = sym (append-nil (commits_at pass.seen)) }; added = sym (append-nil pass.added) };
   made = omega arith;
   fits = Fits-end limits pass.seen work.by work.command work.now (length pass.seen) false reply refl (inr due.0) (settled_requested (cursor pass.seen) pass.seen work.by reply due.1);
   since = omega arith;
@@ -66,6 +68,30 @@ Concludes-answered limits pass work reply fresh due = record {
 
 pub longer : (old new : History) → IsPrefix old new → length old ≤ length new
 longer old new begins = let whole = ap length begins.1 in omega (arith, whole, length-append old begins.0)
+
+-- refused on what one take found
+pub Applies-refused : (limits : Limits) (old new : PassView) (work : Work) (r : Refusal) → IsPrefix old.seen new.seen → new ≡ record old { seen = new.seen; taken = old.taken ++ length new.seen ∷ [] }
+    → AnswersCommand limits new.seen work.now work.command (replies.Refused r) → Applies limits old new work (record { place = length new.seen; own = false; reply = replies.Refused r })
+Applies-refused limits old new work r begins took answers =
+    let low = longer old.seen new.seen begins in
+    record {
+      of = ap (λ (p : PassView). p.of) took;
+      worth = ap (λ (p : PassView). p.worth) took;
+      seen = begins;
+      takes = record { first = length new.seen; more = []; gains = ap (λ (p : PassView). p.taken) took; few = omega arith; since = omega arith };
+      last = record {
+        found = new.seen;
+        begins = begins;
+        before = old.taken;
+        last = ap (λ (p : PassView). p.taken) took;
+        appends = record { made = None; may_make = tt; appended = sym (append-nil new.seen); commits = sym (append-nil (commits_at new.seen)) };
+        added = ap (λ (p : PassView). p.added) took ∙ sym (append-nil old.added);
+      };
+      made = ap (λ (p : PassView). p.made) took ∙ sym (add-zero old.made);
+      fits = Fits-end limits new.seen work.by work.command work.now (length new.seen) false (replies.Refused r) refl answers (still_requested new.seen work.by (replies.Refused r) (refused_still r));
+      since = omega (arith, low);
+      names_all = still_names (take (length new.seen) new.seen) (length old.seen) (replies.Refused r) (refused_still r);
+    }
 
 -- prepared on what one take found, and concluded
 pub Applies-concluded : (limits : Limits) (old mid new : PassView) (work : Work) (outcome : Outcome) → IsPrefix old.seen mid.seen → mid ≡ record old { seen = mid.seen; taken = old.taken ++ length mid.seen ∷ [] } → Concludes limits mid new work outcome → Applies limits old new work outcome

@@ -299,6 +299,7 @@ appended_prefix old new by upkeep began outcome up = (event_by by up.made, sym u
 -- found on what one take found, and finished
 pub KeepsUp-finished : (limits : Limits) (old mid new : PassView) (by : By) (upkeep : Upkeep) (outcome : Outcome) → IsPrefix old.seen mid.seen → mid ≡ record old { seen = mid.seen; taken = old.taken ++ length mid.seen ∷ [] } → IsWanted mid.seen upkeep
     → FinishesUpkeep limits mid new by upkeep outcome → KeepsUp limits old new by upkeep outcome
+unfolding Upholds-since
 KeepsUp-finished limits old mid new by upkeep outcome begins took wanted f =
     let low = length-IsPrefix old.seen mid.seen begins in
     let first = length-IsPrefix mid.seen f.found f.begins in
@@ -338,6 +339,7 @@ KeepsUp-finished limits old mid new by upkeep outcome begins took wanted f =
 -- told of what one take found
 pub KeepsUp-told : (limits : Limits) (old new : PassView) (by : By) (upkeep : Upkeep) (reply : Reply) → IsPrefix old.seen new.seen → new ≡ record old { seen = new.seen; taken = old.taken ++ length new.seen ∷ [] } → AreLawful limits new.seen → IsToldAt new.seen upkeep reply
     → KeepsUp limits old new by upkeep (record { place = length new.seen; own = false; reply = reply })
+unfolding Upholds-told
 KeepsUp-told limits old new by upkeep reply begins took lawful told =
     let low = length-IsPrefix old.seen new.seen begins in
     record {
