@@ -14,6 +14,7 @@ use Rattle.kq_reply.specs.declared.refusal.Refusal.TheVariants as refusals
 use Rattle.kq_reply.specs.declared.reply.Reply.{Reply}
 use Rattle.kq_reply.specs.declared.reply.Reply.TheVariants as replies
 use Rattle.kq_engine.specs.declared.work.Outcome.{Outcome}
+use Rattle.kq_engine.specs.declared.work.Work.{Work}
 use Rattle.kq_engine.specs.Shared.{PassView}
 use Rattle.kq_script.specs.Script.{Block, command, too_long}
 use Rattle.kq_engine.proofs.Advancing.{Fits-append}
@@ -99,19 +100,19 @@ may_beside limits old asked reply None may = tt
 may_beside limits old asked reply (Some made) may = granted_kind reply may.0
 
 -- a command that the engine answered
-pub AnswersBlock-applied : (limits : Limits) (old new : PassView) (by : By) (text : List ℕ) (now : ℤ) (asked : Command) (outcome : Outcome) → ReadsAs text (Ok asked) → Applies limits old new (record { by = by; command = asked; now = now }) outcome → AnswersBlock limits old new by (command text) now outcome
-AnswersBlock-applied limits old new by text now asked outcome reads applies = record {
+pub AnswersBlock-applied : (limits : Limits) (old new : PassView) (work : Work) (text : List ℕ) (outcome : Outcome) → ReadsAs text (Ok work.command) → Applies limits old new work outcome → AnswersBlock limits old new work.by (command text) work.now outcome
+AnswersBlock-applied limits old new work text outcome reads applies = record {
   of = applies.of;
   worth = applies.worth;
   seen = applies.seen;
   operation = applies.last.appends.made;
   added = applies.last.added;
-  beside = may_beside limits applies.last.found asked outcome.reply applies.last.appends.made applies.last.appends.may_make;
+  beside = may_beside limits applies.last.found work.command outcome.reply applies.last.appends.made applies.last.appends.may_make;
   made = applies.made;
   takes = applies.takes.first ∷ applies.takes.more;
   taken = applies.takes.gains;
   enough = (applies.takes.since, applies.takes.few);
-  fits = record { read = Ok asked; reads = reads; fits = applies.fits };
+  fits = record { read = Ok work.command; reads = reads; fits = applies.fits };
   since = applies.since;
   names_all = applies.names_all;
   within = applies.fits.within;
