@@ -1,0 +1,13 @@
+pub mod Names
+pub mod Each
+pub mod Items
+pub mod Steps
+pub mod Laid
+pub mod Picked
+pub mod Sorted
+pub mod Starred
+pub mod Aggregates
+pub mod Summarized
+pub mod Expanded
+pub mod Owned
+pub mod Leftmost

@@ -1,0 +1,11 @@
+pub mod Columns
+pub mod Items
+pub mod Extended
+pub mod Picked
+pub mod Sorted
+pub mod Starred
+pub mod Aggregates
+pub mod Summarized
+pub mod Expanded
+pub mod Owned
+pub mod Leftmost
