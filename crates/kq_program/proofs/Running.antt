@@ -26,22 +26,25 @@ use Rattle.kq_program.proofs.Wholes.{AreServed-owned, Whole-owned}
 
 -- ---- events
 
+abbrev failing : Bool → ℕ
+failing b = cond (not b) 1 0
+
 none_fails : (test : Event → Bool) (h : History) → All (λ (e : Event). test e ≡ true) h → count_by (λ (e : Event). not (test e)) h ≡ 0
 none_fails test [] all = refl
 none_fails test (e ∷ h) all =
-    let here : cond (not (test e)) 1 0 ≡ 0 = ap (λ (b : Bool). let n : ℕ = cond (not b) 1 0 in n) (All-head (λ (x : Event). test x ≡ true) e h all) in
+    let here : failing (test e) ≡ 0 = ap failing (All-head (λ (x : Event). test x ≡ true) e h all) in
     let rest = none_fails test h (All-tail (λ (x : Event). test x ≡ true) e h all) in
-    omega (arith, sum_by-cons (λ (x : Event). cond (not (test x)) 1 0) e h, here, rest)
+    omega (arith, sum_by-cons (λ (x : Event). failing (test x)) e h, here, rest)
 
 all_pass : (test : Event → Bool) (h : History) → count_by (λ (e : Event). not (test e)) h ≡ 0 → All (λ (e : Event). test e ≡ true) h
 all_pass test [] none = All-nil (λ (e : Event). test e ≡ true)
 all_pass test (e ∷ h) none =
-    let cons = sum_by-cons (λ (x : Event). cond (not (test x)) 1 0) e h in
+    let cons = sum_by-cons (λ (x : Event). failing (test x)) e h in
     All-cons (λ (x : Event). test x ≡ true) e h (passes (test e) refl (omega (arith, cons, none))) (all_pass test h (omega (arith, cons, none)))
   where
-    passes : (b : Bool) → test e ≡ b → cond (not (test e)) 1 0 ≡ 0 → test e ≡ true
+    passes : (b : Bool) → test e ≡ b → failing (test e) ≡ 0 → test e ≡ true
     passes true is zero = is
-    passes false is zero = let one : cond (not (test e)) 1 0 ≡ 1 = ap (λ (b : Bool). let n : ℕ = cond (not b) 1 0 in n) is in absurd (omega (arith, one, zero))
+    passes false is zero = let one : failing (test e) ≡ 1 = ap failing is in absurd (omega (arith, one, zero))
 
 -- what is so of all events that were added is so of each of the history, which has just these
 all_caused : (test : Event → Bool) (h added : History) → ((t : Event → Bool) → count_by t h ≡ count_by t added) → All (λ (e : Event). test e ≡ true) added → All (λ (e : Event). test e ≡ true) h

@@ -129,6 +129,10 @@ caused_worker workers others actor ss more is e own =
 
 -- ---- passes
 
+pub empty_of : {X : Type 0} (xs : List X) → length xs ≡ 0 → xs ≡ []
+empty_of [] e = refl
+empty_of (x ∷ xs) e = absurd (omega (arith, e))
+
 -- session 0 alone
 pub ServedAll-first : (limits : Limits) (old new : PassView) (o : OpenedView) (s : EndedView) → ServedOne limits old new 0 o s → ServedAll limits 0 old new (o ∷ []) (s ∷ [])
 ServedAll-first limits old new o s one = record {

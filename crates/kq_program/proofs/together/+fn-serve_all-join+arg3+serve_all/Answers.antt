@@ -1,10 +1,10 @@
 use denote.Param.{param}
 use denote.Param.Send.{IsSend, IsSync, sendable}
 use Rattle.std.proofs.Crossing.{crosses}
-use Rattle.std.proofs.Common.{arith, rules, length, ◌≡◌, ◌≤◌, ◌+◌, ap, ◌∙◌}
+use Rattle.std.proofs.Common.{arith, rules, length, ◌≡◌, ◌≤◌, ◌+◌, ◌++◌, ◌∷◌, [], ap, ◌∙◌}
 use Rattle.std.proofs.lemmas.List.{length_push}
 use Rattle.kq_workers.proofs.kq_engine.Crossing.{pass_send, shared_sync}
-use Rattle.kq_program.proofs.Serving.{served_count, ServedAll-more}
+use Rattle.kq_program.proofs.Serving.{empty_of, served_count, ServedAll-first, ServedAll-more}
 use Rattle.kq_program.proofs.together.+fn-serve_all-join+arg3+serve_all.Goals as goal
 
 pub fn::serve_all::join+arg3+FnOnce::call_once-join+arg3-requires :
@@ -48,3 +48,10 @@ returns-clause-served g t c =
     let whole : length c.args.feeds.items ≡ length feeds + 1 = ap length c.in-Some.ensures.items ∙ length_push feeds c.in-Some.last in
     let some : 2 ≤ c.args.pass.worth = omega (arith, whole, c.requires.worth) in
     ServedAll-more c.args.shared.now.limits 0 c.args.shared.now.turn c.args.pass _ _ _ _ c.join.result _ c.in-Some.last c.args.feeds.items feeds _ _ _ _ c.in-Some.ensures.items c.push_reserved-2.ensures.items c.requires.of some c.split-rest.ensures.first c.split-rest.ensures.second others.1 one (omega (arith, c.len.ensures, c.pop.new.self.ok.0, c.requires.few, whole)) c.join.ensures.of c.join.ensures.first_seen c.join.ensures.second_seen c.join.ensures.worth c.join.ensures.added c.join.ensures.made
+
+pub returns-in_default-clause-served : goal.returns-in_default-clause-served
+returns-in_default-clause-served g t c =
+    let one = c.serve_one-pass.result in
+    let sessions : c.push_reserved.new.self.items ≡ one.session ∷ [] = c.push_reserved.ensures.items ∙ ap (λ l. l ++ one.session ∷ []) c.requires.empty in
+    let none : c.args.feeds.items ≡ [] = empty_of c.args.feeds.items (omega (arith, c.in_default.ensures.cases.0, c.args.feeds.ok.0)) in
+    rw (sessions, none) (ServedAll-first c.args.shared.now.limits c.args.pass one.pass c.args.first one.session c.serve_one-pass.ensures)
