@@ -1,7 +1,7 @@
 //! The program: it hands the words of its command line and the real world to `kq_program`, and ends with the status of the run.
 #![tactic(auto)]
 
-use kq_program::{MEMORY, WRONG_WORDS, run};
+use kq_program::{MEMORY, WRONG_WORDS, exit_status};
 use kq_world::{OpenGate, RealWorld};
 use std::io::ErrorKind;
 use std::process::ExitCode;
@@ -19,7 +19,7 @@ fn main(rt: HostRuntime) -> ExitCode {
     let status = match words(&rt) {
         Ok(words) => {
             let mut world = RealWorld::new(rt);
-            run(&rt, rt.alloc(), words.as_slice(), &mut world, &OpenGate).status
+            exit_status(&rt, rt.alloc(), words.as_slice(), &mut world, &OpenGate)
         }
         Err(error) if error.kind() == ErrorKind::OutOfMemory => MEMORY,
         // Words that are no text haven't the form.

@@ -12,4 +12,4 @@ mod together;
 mod workers;
 
 pub use ended::{Ended, EndedSession, Run};
-pub use program::{MEMORY, NOT_OPENED, WRONG_WORDS, run};
+pub use program::{MEMORY, NOT_OPENED, WRONG_WORDS, exit_status, run};

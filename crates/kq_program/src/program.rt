@@ -3,6 +3,7 @@ ghost use Rattle.std.specs.Prelude.{◌≡◌, ◌≢◌, ◌≤◌, [], IsSome,
 ghost use Rattle.kq_words.specs.Words.{are_distinct};
 ghost use Rattle.kq_program.specs.Headline.{CompletesRun, RunsProgram, first_status};
 ghost use Rattle.kq_program.specs.Opening.{OpensFeeds, RunsOpened};
+ghost use Rattle.kq_program.specs.Views.{RunView};
 ghost use Rattle.kq_program.specs.Words.{IsJustWhere, asked_in, feeds_of, generate_of, workers_of};
 
 use crate::ended::{EndedSession, Run};
@@ -51,6 +52,22 @@ pub fn run<R: Threads + Wait + Sync, W: World, G: Gate + Sync>(
         Err(OptionsError::Form) => not_begun(alloc, WRONG_WORDS),
         Err(OptionsError::Memory) => not_begun(alloc, MEMORY),
     }
+}
+
+/// Runs as `run` does, and returns the status alone.
+pub fn exit_status<R: Threads + Wait + Sync, W: World, G: Gate + Sync>(
+    rt: &R,
+    alloc: Global,
+    words: &[String],
+    world: &mut W,
+    gate: &G,
+) -> u8
+    requires { W.begun world.old ≡ false }
+    ensures untouched { result ≡ WRONG_WORDS → world.new ≡ world.old }
+    ensures ran { let said = asked_in words.now in (ran : RunView) × (ran.status ≡ result)
+        × RunsProgram (workers_of said) (generate_of said) (feeds_of said) (W.first_contents world.old) (W.feed_contents world.old) ran }
+{
+    run(rt, alloc, words, world, gate).status
 }
 
 // Opens the feeds, and runs them and the workers beside session 0.
