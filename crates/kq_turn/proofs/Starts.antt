@@ -1,5 +1,5 @@
 -- The first pass keeps the rule.
-use Rattle.std.proofs.Common.{◌≡◌, ◌≤◌, ◌+◌, ℕ, zero, suc, false, List, [], ◌∷◌, length, map, Some, sym, ap, ◌∙◌, refl, subst, inl, arith}
+use Rattle.std.proofs.Common.{◌≡◌, ◌≤◌, ℕ, zero, suc, false, List, [], ◌∷◌, length, map, Some, sym, ap, ◌∙◌, refl, subst, inl, arith}
 use Rattle.std.specs.Prelude.{Option, sum_by, count_by}
 use Rattle.std.proofs.lemmas.List.Elements.{All-nil}
 use Rattle.std.proofs.lemmas.List.Sums.{sum_by-cons}

@@ -1,5 +1,5 @@
 -- How many entries a list has, counted by a test that each passes.
-use Rattle.std.proofs.Common.{◌≡◌, ◌+◌, ℕ, Bool, true, cond, List, [], ◌∷◌, length, count_by, sum_by, refl, arith}
+use Rattle.std.proofs.Common.{◌≡◌, ◌+◌, ℕ, true, cond, List, [], ◌∷◌, length, count_by, sum_by, refl, arith}
 use Rattle.std.proofs.lemmas.List.Sums.{sum_by-cons}
 
 pub every : (xs : List ℕ) → count_by (λ (x : ℕ). true) xs ≡ length xs

@@ -1,6 +1,6 @@
 use Rattle.std.proofs.Common.{◌≡◌, OnErr, true, drop, length, take, ap, subst, sym, ◌∙◌}
 use Rattle.kq_model.specs.declared.limits.Limits.{Limits}
-use Rattle.kq_model.specs.History.{History, log}
+use Rattle.kq_model.specs.History.{log}
 use Rattle.kq_catalog.specs.Seen.{CatalogView, hist}
 use Rattle.kq_engine.specs.Fits.{Acts, outcome_of}
 use Rattle.kq_engine.specs.Found.{IsReady, is_as_read}

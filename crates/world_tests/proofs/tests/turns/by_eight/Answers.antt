@@ -1,4 +1,4 @@
-use Rattle.std.proofs.Common.{◌≡◌, ◌∙◌, ◌+◌, ℕ, true, [], length, ap, sym, arith}
+use Rattle.std.proofs.Common.{◌≡◌, ◌∙◌, ℕ, true, length, ap, sym, arith}
 use Rattle.world_tests.proofs.Counts.{every}
 use Rattle.world_tests.proofs.tests.turns.by_eight.Goals as goal
 
