@@ -2,13 +2,14 @@
 use Rattle.std.specs.Prelude.{◌≡◌, ◌≢◌, ℕ, zero, ◌+◌, ◌^◌, ◌≤◌, List, [], ◌++◌, Option, Some, Ok, flat_map, length, map, slice_get, take}
 use Rattle.kq_bind.specs.kq_bind_steps.Flows.{Flowing, columns}
 use Rattle.kq_bind.specs.kq_bind_steps.Scopes.{Scoping, names}
+use Rattle.kq_bind.specs.Pipes.{operated}
 use Rattle.kq_bind_aggregates.specs.Arguments.{Argued, all_argued}
 use Rattle.kq_bind_aggregates.specs.declared.function.AggregateFunction.{AggregateFunction}
 use Rattle.kq_bind_aggregates.specs.Functions.{aggregate_named}
 use Rattle.kq_bind_expression.specs.Names.{Names}
 use Rattle.kq_fitting.specs.Suffixes.{IsMadeFree, IsNamed}
 use Rattle.kq_grammar.specs.declared.expression.Name.{Name}
-use Rattle.kq_grammar.specs.Trees.{AggregateTree, ItemTree}
+use Rattle.kq_grammar.specs.Trees.{AggregateTree, BodyTree, ItemTree}
 use Rattle.kq_plan.specs.Plans.{Aggregating, summarized}
 use Rattle.kq_spelled.specs.Names.{name_said}
 use Rattle.kq_spelled.specs.Pieces.{piece}
@@ -16,7 +17,7 @@ use Rattle.kq_value.specs.declared.schema.Field.{Field}
 use Rattle.kq_value.specs.declared.ty.Ty.TheVariants as ty
 use Rattle.kq_binding_laws.specs.Aggregates.{Makes}
 use Rattle.kq_binding_laws.specs.Columns.{Valued, column_of, values_of, columns_of, HasNext}
-use Rattle.kq_binding_laws.specs.Items.{AreItems, own_name}
+use Rattle.kq_binding_laws.specs.Items.{AreFew, AreItems, own_name}
 
 -- so few columns go on that each can be given a suffix of its own, in 64 bits
 abbrev pub IsNarrow : Flowing → Type 0
@@ -71,3 +72,7 @@ pub record IsSummarized (s : Scoping) (w v : Flowing) (more : List AggregateTree
   pub aggregates : List Gathered
   pub are : AreAggregates (names s) (columns w) (columns_of keys) more aggregates
   pub next : HasNext w.progress v (summarized w.input (values_of keys) (map work_of aggregates)) (columns_of keys ++ flat_map fields_of aggregates)
+
+-- an operator with few keys gives these keys and aggregates, wherever the columns that go on are narrow
+abbrev pub Summarizes : Scoping → Flowing → BodyTree → List AggregateTree → List ItemTree → Type 0
+Summarizes s w operator more items = (v : Flowing) → AreFew items [] → IsNarrow v → operated s w operator ≡ Ok v → IsSummarized s w v more items

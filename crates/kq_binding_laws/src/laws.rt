@@ -20,7 +20,7 @@ ghost use Rattle.kq_binding_laws.specs.Leftmost.{first_lacking};
 ghost use Rattle.kq_binding_laws.specs.Owned.{OwnsName};
 ghost use Rattle.kq_binding_laws.specs.Picked.{Renaming, left_of, HasRenamed};
 ghost use Rattle.kq_binding_laws.specs.Sorted.{IsSorted, IsTopped};
-ghost use Rattle.kq_binding_laws.specs.Summarized.{IsNarrow, IsSummarized};
+ghost use Rattle.kq_binding_laws.specs.Summarized.{Summarizes};
 
 /// The literal of an expression that isn't supported is the first of its symbols that is a number, a timespan or a typed literal and has no value.
 pub fn literals_are_told_from_the_left()
@@ -57,8 +57,8 @@ pub fn sorts_have_their_orders()
 
 /// A summarize has its keys, and behind them the columns of its aggregates: each of its type, under the name that it is given or its default name made free, and for `*` all columns of the input but the keys and the value's own.
 pub fn summarizes_have_their_columns()
-    ensures aggregates { (s : Scoping) (w v : Flowing) (a : AggregateTree) (more : List AggregateTree) (g : Option GroupingTree) → AreFew (grouping_items g) [] → IsNarrow v → operated s w (summarize a more g) ≡ Ok v → IsSummarized s w v (a ∷ more) (grouping_items g) }
-    ensures keys { (s : Scoping) (w v : Flowing) (g : GroupingTree) → AreFew (g.0 ∷ g.1) [] → IsNarrow v → operated s w (summarize_by g) ≡ Ok v → IsSummarized s w v [] (g.0 ∷ g.1) }
+    ensures aggregates { (s : Scoping) (w : Flowing) (a : AggregateTree) (more : List AggregateTree) (g : Option GroupingTree) → Summarizes s w (summarize a more g) (a ∷ more) (grouping_items g) }
+    ensures keys { (s : Scoping) (w : Flowing) (g : GroupingTree) → Summarizes s w (summarize_by g) [] (g.0 ∷ g.1) }
 {}
 
 /// An mv-expand has its parts in one column, of the type that is said or else dynamic, in the place of the column of its name or else last, and the other columns as they are.
