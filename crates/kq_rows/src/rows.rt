@@ -155,13 +155,13 @@ impl Rows {
     }
 
     /// Copies of the rows at these places, in this order: what a filter keeps, a page, or all rows sorted.
-    pub fn select(&self, places: &[u32]) -> Result<Rows, Memory>
+    pub fn select(&self, places: &[usize]) -> Result<Rows, Memory>
         requires { All (λ i. i < length self.now) places.now }
         ensures { IfOk result (λ rows. rows ≡ map (row_at self.now) places.now) }
     {
         let mut rows = Rows::new(*self.cells.allocator());
         for place in places {
-            rows.push_copy(self.row(*place as usize))?;
+            rows.push_copy(self.row(*place))?;
         }
         Ok(rows)
     }

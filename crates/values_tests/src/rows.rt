@@ -55,10 +55,10 @@ fn the_first_row_gives_the_width(rt: HostRuntime) -> Result<(), Fail> {
     Ok(())
 }
 
-fn are_within(places: &[u32], count: usize) -> bool
+fn are_within(places: &[usize], count: usize) -> bool
     ensures { IsTrue result ↔ All (λ i. i < count) places.now }
 {
-    places.iter().all(|place| (*place as usize) < count)
+    places.iter().all(|place| *place < count)
 }
 
 #[test]
