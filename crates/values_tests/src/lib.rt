@@ -1,10 +1,8 @@
-//! Tests of values and of what is read, printed, searched and kept of them, over the public calls of the crates of values.
+//! Tests of values, of literals and cells that are read, and of what is kept of them, over the public calls of their crates.
 #![tactic(auto)]
 
 #[cfg(test)]
 mod chain;
-#[cfg(test)]
-mod dynamic;
 #[cfg(test)]
 mod extent;
 #[cfg(test)]
@@ -13,9 +11,5 @@ mod ingest;
 mod literal;
 #[cfg(test)]
 mod rows;
-#[cfg(test)]
-mod strings;
-#[cfg(test)]
-mod time;
 #[cfg(test)]
 mod value;
