@@ -1,5 +1,7 @@
 pub mod Cellwise
 pub mod Coded
+pub mod Joined
+pub mod Lent
 pub mod Marked
 pub mod Order
 pub mod Ordered

@@ -1,12 +1,14 @@
 // Columns.
-ghost use Rattle.std.specs.Prelude.{◌≡◌, ◌↔◌, ◌<◌, ◌^◌, [], All, length, IfOk, IfSome, IsNone, Some, slice_get};
+ghost use Rattle.std.specs.Prelude.{◌≡◌, ◌↔◌, ◌<◌, ◌≤◌, ◌-◌, ◌^◌, [], All, flat_map, length, IfOk, IfSome, IsNone, Some, slice_get, take, drop};
 ghost use Rattle.kq_value.specs.Typed.{HasType};
 ghost use Rattle.kq_column.specs.Bounds.{AreBounds};
 ghost use Rattle.kq_column.specs.Cells.{cells_present, column_of, IsAtMost, IsWider};
+ghost use Rattle.kq_vector.specs.Vectors.{cells_of};
 
 use crate::form::Form;
 use kq_rows::Rows;
 use kq_value::{Memory, Ty, Value};
+use kq_vector::Vector;
 use std::alloc::Global;
 use std::marker::Model;
 
@@ -42,7 +44,17 @@ impl Column {
         ensures { IfOk result (λ c. c ≡ column_of column rows.now) }
     {
         let form = Form::build(alloc, ty, rows, column)?;
-        let zone = form.zone(rows, column)?;
+        let zone = form.zone()?;
+        Ok(Column { form, zone })
+    }
+
+    /// The cells of parts, one part after another, all of one type. No row is made.
+    pub fn joined(alloc: Global, ty: Ty, parts: &[Vector]) -> Result<Column, Memory>
+        requires { All (λ p. All (HasType ty) (cells_of p)) parts.now }
+        ensures { IfOk result (λ c. c ≡ flat_map cells_of parts.now) }
+    {
+        let form = Form::joined(alloc, ty, parts)?;
+        let zone = form.zone()?;
         Ok(Column { form, zone })
     }
 
@@ -59,6 +71,14 @@ impl Column {
         ensures { IfOk result (λ v. slice_get self.now index ≡ Some v) }
     {
         self.form.cell(index)
+    }
+
+    /// The cells from a place on, up to another, lent.
+    pub fn lend(&self, from: usize, to: usize) -> Vector<'_>
+        requires { (from ≤ to) × (to ≤ length self.now) }
+        ensures { cells_of result ≡ take (to - from) (drop from self.now) }
+    {
+        self.form.lend(from, to)
     }
 
     /// The least and the greatest cell in the total order, nulls aside. None where all are null.

@@ -1,11 +1,15 @@
 // Columns whose words repeat.
-ghost use Rattle.std.specs.Prelude.{◌≡◌, ◌<◌, ◌^◌, ◌∷◌, ◌++◌, All, length, take, IfOk, IfSome, OnOk, Some, slice_get};
+ghost use Rattle.std.specs.Prelude.{◌≡◌, ◌<◌, ◌≤◌, ◌-◌, ◌^◌, ◌∷◌, ◌++◌, All, flat_map, get_or, length, map, take, drop, IfOk, IfSome, OnOk, Some, slice_get};
+ghost use Rattle.kq_column.specs.Built.{AreCoded};
 ghost use Rattle.kq_column.specs.Cells.{column_of, IsWider};
+ghost use Rattle.kq_vector.specs.Vectors.{cell_of, cells_of};
 
 use crate::cells::cell_at;
 use crate::hint::Hint;
+use crate::zone::Cellwise;
 use kq_rows::Rows;
 use kq_value::{Memory, Value};
+use kq_vector::{Vector, copies};
 use std::alloc::Global;
 use std::marker::Model;
 
@@ -108,4 +112,131 @@ impl Dictionary {
     {
         &self.words[self.codes[index] as usize]
     }
+
+    /// The cells from a place on, up to another, lent.
+    pub fn lend(&self, from: usize, to: usize) -> Vector<'_>
+        requires { (from ≤ to) × (to ≤ length self.now) }
+        ensures { cells_of result ≡ take (to - from) (drop from self.now) }
+    {
+        Vector::Words(&self.words, &self.codes[from..to])
+    }
+
+    /// The cells of parts, one part after another; None where they are few, or repeat so little that a dictionary doesn't pay.
+    pub fn joined(alloc: Global, parts: &[Vector]) -> Result<Option<Dictionary>, Memory>
+        ensures { IfOk result (λ found. IfSome found (λ c. c ≡ flat_map cells_of parts.now)) }
+    {
+        let count = count_in(parts);
+        if count < FEWEST_ROWS {
+            return Ok(None);
+        }
+        let most = FEW_WORDS + count / 4;
+        let mut words = Vec::new(alloc);
+        let mut codes = Vec::with_capacity(alloc, count)?;
+        let mut hint = Hint::new(alloc, most)?;
+        for part in parts {
+            match part_codes(alloc, part, most, &mut words, &mut hint)? {
+                Some(more) => codes.extend_from_slice(&more)?,
+                None => return Ok(None),
+            }
+        }
+        Ok(Some(Dictionary { words, codes }))
+    }
+}
+
+impl Cellwise for Dictionary {
+    ghost cells = { λ c. c };
+
+    fn count(&self) -> usize {
+        self.len()
+    }
+
+    fn lent(&self, index: usize) -> &Value {
+        self.cell(index)
+    }
+}
+
+// How many cells the parts have.
+fn count_in(parts: &[Vector]) -> usize {
+    let mut count: usize = 0;
+    for part in parts {
+        count = count.saturating_add(part.len());
+    }
+    count
+}
+
+// The codes of the cells of a part, which are put among the words where they aren't found; None once there are so many words. Of a part that has
+// a dictionary of its own each word is looked for once.
+fn part_codes(
+    alloc: Global,
+    part: &Vector,
+    most: usize,
+    words: &mut Vec<Value>,
+    hint: &mut Hint,
+) -> Result<Option<Vec<u32>>, Memory>
+    ensures codes { IfOk result (λ found. IfSome found (λ codes. AreCoded words.new.items codes.items (cells_of part.now))) }
+    ensures words { OnOk result (take (length words.old.items) words.new.items ≡ words.old.items) }
+{
+    if let Some((lent, codes)) = part.words() {
+        return renamed_codes(alloc, lent, codes, most, words, hint);
+    }
+    if let Some(cells) = part.cells() {
+        return codes_of(alloc, cells, most, words, hint);
+    }
+    let cells = copies(alloc, part)?;
+    codes_of(alloc, &cells, most, words, hint)
+}
+
+// The same of cells that have words and codes already.
+fn renamed_codes(
+    alloc: Global,
+    lent: &[Value],
+    old: &[u32],
+    most: usize,
+    words: &mut Vec<Value>,
+    hint: &mut Hint,
+) -> Result<Option<Vec<u32>>, Memory>
+    ensures codes { IfOk result (λ found. IfSome found (λ codes. AreCoded words.new.items codes.items (map (cell_of lent.now) old.now))) }
+    ensures words { OnOk result (take (length words.old.items) words.new.items ≡ words.old.items) }
+{
+    match codes_of(alloc, lent, most, words, hint)? {
+        Some(new) => renamed(alloc, &new, old),
+        None => Ok(None),
+    }
+}
+
+// The same of cells that stand by themselves.
+fn codes_of(
+    alloc: Global,
+    cells: &[Value],
+    most: usize,
+    words: &mut Vec<Value>,
+    hint: &mut Hint,
+) -> Result<Option<Vec<u32>>, Memory>
+    ensures codes { IfOk result (λ found. IfSome found (λ codes. AreCoded words.new.items codes.items cells.now)) }
+    ensures words { OnOk result (take (length words.old.items) words.new.items ≡ words.old.items) }
+{
+    let mut codes = Vec::with_capacity(alloc, cells.len())?;
+    for i in 0..cells.len() {
+        if words.len() >= most || words.len() >= u32::MAX as usize {
+            return Ok(None);
+        }
+        let code = code_of(words, hint, &cells[i])?;
+        codes.push(code)?;
+    }
+    Ok(Some(codes))
+}
+
+// The new codes of old ones; None where one has none.
+fn renamed(alloc: Global, new: &[u32], old: &[u32]) -> Result<Option<Vec<u32>>, Memory>
+    ensures known { IfOk result (λ found. IfSome found (λ codes. All (λ code. code < length new.now) old.now)) }
+    ensures codes { IfOk result (λ found. IfSome found (λ codes. codes.items ≡ map (λ code. get_or new.now code 0) old.now)) }
+{
+    let mut codes = Vec::with_capacity(alloc, old.len())?;
+    for code in old {
+        if *code as usize >= new.len() {
+            return Ok(None);
+        }
+        codes.push(new[*code as usize])?;
+    }
+    Ok(Some(codes))
 }

@@ -1,9 +1,10 @@
 // The forms of a column.
-ghost use Rattle.std.specs.Prelude.{◌≡◌, ◌<◌, ◌^◌, All, length, IfOk, IsTrue, Some, slice_get};
+ghost use Rattle.std.specs.Prelude.{◌≡◌, ◌<◌, ◌≤◌, ◌-◌, ◌^◌, All, flat_map, length, IfOk, IsTrue, Some, slice_get, take, drop};
 ghost use Rattle.kq_value.specs.Typed.{HasType};
 ghost use Rattle.kq_column.specs.Cells.{column_of, IsWider};
 ghost use Rattle.kq_column.specs.Forms.{cells_in};
 ghost use Rattle.kq_column.specs.Zones.{is_zone};
+ghost use Rattle.kq_vector.specs.Vectors.{cells_of};
 
 use crate::dictionary::Dictionary;
 use crate::numbers::Numbers;
@@ -11,6 +12,7 @@ use crate::shared::Shared;
 use crate::zone::zone_of;
 use kq_rows::Rows;
 use kq_value::{Memory, Ty, Value};
+use kq_vector::Vector;
 use std::alloc::Global;
 
 #[derive(Drop)]
@@ -44,15 +46,35 @@ impl Form {
         }
     }
 
-    /// The least and the greatest cell, nulls aside. The cells are a column of the rows.
-    pub fn zone(&self, rows: &Rows, column: usize) -> Result<Option<(Value, Value)>, Memory>
-        requires wide { All (IsWider column) rows.now }
-        requires cells { cells_in self.now ≡ column_of column rows.now }
+    /// The cells of parts, one part after another, all of one type, in the form that suits them.
+    pub fn joined(alloc: Global, ty: Ty, parts: &[Vector]) -> Result<Form, Memory>
+        requires { All (λ p. All (HasType ty) (cells_of p)) parts.now }
+        ensures { IfOk result (λ form. cells_in form ≡ flat_map cells_of parts.now) }
+    {
+        match ty {
+            Ty::Text => Form::of_joined_texts(alloc, parts),
+            Ty::Dynamic => Ok(Form::Shared(Shared::joined(alloc, parts)?)),
+            _ => Ok(Form::Numbers(Numbers::joined(alloc, ty, parts)?)),
+        }
+    }
+
+    fn of_joined_texts(alloc: Global, parts: &[Vector]) -> Result<Form, Memory>
+        ensures { IfOk result (λ form. cells_in form ≡ flat_map cells_of parts.now) }
+    {
+        match Dictionary::joined(alloc, parts)? {
+            Some(dictionary) => Ok(Form::Dictionary(dictionary)),
+            None => Ok(Form::Shared(Shared::joined(alloc, parts)?)),
+        }
+    }
+
+    /// The least and the greatest cell, nulls aside.
+    pub fn zone(&self) -> Result<Option<(Value, Value)>, Memory>
         ensures { IfOk result (λ zone. IsTrue (is_zone (cells_in self.now) zone)) }
     {
         match self {
             Form::Numbers(numbers) => Ok(numbers.zone()),
-            Form::Dictionary(_) | Form::Shared(_) => zone_of(rows, column),
+            Form::Dictionary(dictionary) => zone_of(dictionary),
+            Form::Shared(shared) => zone_of(shared),
         }
     }
 
@@ -76,6 +98,18 @@ impl Form {
             Form::Numbers(numbers) => Ok(numbers.cell(index)),
             Form::Dictionary(dictionary) => dictionary.cell(index).clone_in(),
             Form::Shared(shared) => shared.cell(index).clone_in(),
+        }
+    }
+
+    /// The cells from a place on, up to another, lent.
+    pub fn lend(&self, from: usize, to: usize) -> Vector<'_>
+        requires { (from ≤ to) × (to ≤ length (cells_in self.now)) }
+        ensures { cells_of result ≡ take (to - from) (drop from (cells_in self.now)) }
+    {
+        match self {
+            Form::Numbers(numbers) => numbers.lend(from, to),
+            Form::Dictionary(dictionary) => dictionary.lend(from, to),
+            Form::Shared(shared) => shared.lend(from, to),
         }
     }
 }

@@ -1,15 +1,19 @@
 // Columns of numbers.
-ghost use Rattle.std.specs.Prelude.{◌≡◌, ◌<◌, ◌^◌, All, length, map, FitsSigned, IfOk, IfSome, IsTrue, Some, slice_get};
+ghost use Rattle.std.specs.Prelude.{◌≡◌, ◌<◌, ◌≤◌, ◌-◌, ◌^◌, ◌||◌, ◌++◌, ◌∷◌, [], All, Bool, List, flat_map, false, length, map, replicate, FitsSigned, IfOk, IfSome, IsTrue, OnOk, Some, slice_get, take, drop};
 ghost use Rattle.std.specs.Int.{w32};
 ghost use Rattle.kq_value.specs.declared.ty.Ty.TheVariants.{Int};
+ghost use Rattle.kq_value.specs.declared.value.Value.{Value as Cell};
 ghost use Rattle.kq_value.specs.Typed.{HasType};
+ghost use Rattle.kq_column.specs.Built.{AreBuilt};
 ghost use Rattle.kq_column.specs.Cells.{column_of, IsWider};
-ghost use Rattle.kq_column.specs.Numbers.{marked, number_cell, AreNumbers, IsOfNumbers};
+ghost use Rattle.kq_vector.specs.Numbers.{marked, number_cell, AreNumbers, IsOfNumbers};
 ghost use Rattle.kq_column.specs.Zones.{is_zone};
+ghost use Rattle.kq_vector.specs.Vectors.{cells_of};
 
 use crate::cells::cell_at;
 use kq_rows::Rows;
 use kq_value::{Memory, Ty, Value};
+use kq_vector::{MarkedNumbers, Vector, lent_numbers, value_of};
 use std::alloc::Global;
 use std::marker::Model;
 
@@ -26,7 +30,7 @@ impl Model for Numbers {
     ghost use Rattle.kq_value.specs.declared.value.Value.{Value as Cell};
     ghost use Rattle.std.specs.Coded.{coded_list};
     ghost use Rattle.kq_value.specs.contracts.value.Value as cell;
-    ghost use Rattle.kq_column.specs.Numbers.{marked, number_cell, AreNumbers};
+    ghost use Rattle.kq_vector.specs.Numbers.{marked, number_cell, AreNumbers};
 
     ghost Value = { List Cell };
 
@@ -49,21 +53,6 @@ fn number_of(ty: Ty, value: &Value) -> Option<i64>
         Value::Int(n) => Some(i64::from(*n)),
         Value::Bool(b) => Some(*b as i64),
         Value::Null(_) | Value::Text(_) | Value::Dynamic(_) => None,
-    }
-}
-
-// The value that a number stands for.
-fn value_of(ty: Ty, number: i64) -> Value
-    requires { ty ≡ Int → FitsSigned w32 number }
-    ensures { result ≡ number_cell ty (Some number) }
-{
-    match ty {
-        Ty::Long => Value::Long(number),
-        Ty::Int => Value::Int(number as i32),
-        Ty::Bool => Value::Bool(number > 0),
-        Ty::Moment => Value::Moment(number),
-        Ty::Span => Value::Span(number),
-        Ty::Text | Ty::Dynamic => Value::Null(ty),
     }
 }
 
@@ -138,5 +127,145 @@ impl Numbers {
         } else {
             value_of(self.ty, self.numbers[index])
         }
+    }
+
+    /// The cells from a place on, up to another, lent.
+    pub fn lend(&self, from: usize, to: usize) -> Vector<'_>
+        requires { (from ≤ to) × (to ≤ length self.now) }
+        ensures { cells_of result ≡ take (to - from) (drop from self.now) }
+    {
+        lent_numbers(MarkedNumbers {
+            ty: self.ty,
+            numbers: part(&self.numbers, from, to),
+            nulls: marks(&self.nulls, from, to),
+        })
+    }
+
+    /// The cells of parts, one part after another.
+    pub fn joined(alloc: Global, ty: Ty, parts: &[Vector]) -> Result<Numbers, Memory>
+        requires numbers { IsOfNumbers ty }
+        requires typed { All (λ p. All (HasType ty) (cells_of p)) parts.now }
+        ensures { IfOk result (λ c. c ≡ flat_map cells_of parts.now) }
+    {
+        let mut numbers = Vec::new(alloc);
+        let mut nulls = Vec::new(alloc);
+        let mut any = false;
+        for part in parts {
+            let more = add_part(ty, part, &mut numbers, &mut nulls)?;
+            any = any | more;
+        }
+        if any {
+            return Ok(Numbers { ty, numbers, nulls });
+        }
+        Ok(Numbers {
+            ty,
+            numbers,
+            nulls: Vec::new(alloc),
+        })
+    }
+}
+
+// Adds the cells of a part behind others, and tells whether it may have marked one.
+fn add_part(
+    ty: Ty,
+    part: &Vector,
+    numbers: &mut Vec<i64>,
+    nulls: &mut Vec<bool>,
+) -> Result<bool, Memory>
+    requires numbers { IsOfNumbers ty }
+    requires typed { All (HasType ty) (cells_of part.now) }
+    ensures { IfOk result (λ more. (any : Bool) (cells : List Cell) → AreBuilt ty nulls.old.items numbers.old.items any cells → AreBuilt ty nulls.new.items numbers.new.items (any || more) (cells ++ cells_of part.now)) }
+{
+    match part.marked() {
+        Some(lent) if lent.ty.same(ty) => add_numbers(ty, lent.numbers, lent.nulls, numbers, nulls),
+        _ => add_each(ty, part, numbers, nulls),
+    }
+}
+
+// The same of numbers of the type, with their marks.
+fn add_numbers(
+    ty: Ty,
+    lent: &[i64],
+    marks: &[bool],
+    numbers: &mut Vec<i64>,
+    nulls: &mut Vec<bool>,
+) -> Result<bool, Memory>
+    requires { AreNumbers ty marks.now lent.now }
+    ensures { IfOk result (λ more. (any : Bool) (cells : List Cell) → AreBuilt ty nulls.old.items numbers.old.items any cells → AreBuilt ty nulls.new.items numbers.new.items (any || more) (cells ++ map (number_cell ty) (marked marks.now lent.now))) }
+{
+    numbers.extend_from_slice(lent)?;
+    if marks.len() > 0 {
+        nulls.extend_from_slice(marks)?;
+        Ok(true)
+    } else {
+        add_plain(nulls, lent.len())?;
+        Ok(false)
+    }
+}
+
+// So many marks more that say that nothing is null.
+fn add_plain(nulls: &mut Vec<bool>, count: usize) -> Result<(), Memory>
+    ensures { OnOk result (nulls.new.items ≡ nulls.old.items ++ replicate count false) }
+{
+    for _n in 0..count {
+        nulls.push(false)?;
+    }
+    Ok(())
+}
+
+// The same as of a part of any form, cell by cell.
+fn add_each(
+    ty: Ty,
+    part: &Vector,
+    numbers: &mut Vec<i64>,
+    nulls: &mut Vec<bool>,
+) -> Result<bool, Memory>
+    requires numbers { IsOfNumbers ty }
+    requires typed { All (HasType ty) (cells_of part.now) }
+    ensures { IfOk result (λ more. (any : Bool) (cells : List Cell) → AreBuilt ty nulls.old.items numbers.old.items any cells → AreBuilt ty nulls.new.items numbers.new.items (any || more) (cells ++ cells_of part.now)) }
+{
+    let mut any = false;
+    for i in 0..part.len() {
+        let cell = part.cell(i)?;
+        let null = add_cell(ty, &cell, numbers, nulls)?;
+        any = any | null;
+    }
+    Ok(any)
+}
+
+// The same of one cell.
+fn add_cell(
+    ty: Ty,
+    cell: &Value,
+    numbers: &mut Vec<i64>,
+    nulls: &mut Vec<bool>,
+) -> Result<bool, Memory>
+    requires numbers { IsOfNumbers ty }
+    requires typed { HasType ty cell.now }
+    ensures { IfOk result (λ null. (any : Bool) (cells : List Cell) → AreBuilt ty nulls.old.items numbers.old.items any cells → AreBuilt ty nulls.new.items numbers.new.items (any || null) (cells ++ cell.now ∷ [])) }
+{
+    let number = number_of(ty, cell);
+    nulls.push(number.is_none())?;
+    numbers.push(number.unwrap_or(0))?;
+    Ok(number.is_none())
+}
+
+// The numbers from a place on, up to another.
+fn part(numbers: &[i64], from: usize, to: usize) -> &[i64]
+    requires { (from ≤ to) × (to ≤ length numbers.now) }
+    ensures { result.now ≡ take (to - from) (drop from numbers.now) }
+{
+    &numbers[from..to]
+}
+
+// Their marks, which may be left out.
+fn marks(nulls: &[bool], from: usize, to: usize) -> &[bool]
+    requires { (from ≤ to) × (0 < length nulls.now → to ≤ length nulls.now) }
+    ensures { result.now ≡ take (to - from) (drop from nulls.now) }
+{
+    if nulls.len() > 0 {
+        &nulls[from..to]
+    } else {
+        nulls
     }
 }

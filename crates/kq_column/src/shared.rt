@@ -1,10 +1,13 @@
 // Columns of shared values.
-ghost use Rattle.std.specs.Prelude.{◌≡◌, ◌<◌, ◌^◌, All, length, IfOk, Some, slice_get};
+ghost use Rattle.std.specs.Prelude.{◌≡◌, ◌<◌, ◌≤◌, ◌-◌, ◌++◌, ◌^◌, All, flat_map, length, IfOk, OnOk, Some, slice_get, take, drop};
 ghost use Rattle.kq_column.specs.Cells.{column_of, IsWider};
+ghost use Rattle.kq_vector.specs.Vectors.{cells_of};
 
 use crate::cells::cell_at;
+use crate::zone::Cellwise;
 use kq_rows::Rows;
 use kq_value::{Memory, Value};
+use kq_vector::Vector;
 use std::alloc::Global;
 use std::marker::Model;
 
@@ -54,4 +57,45 @@ impl Shared {
     {
         &self.cells[index]
     }
+
+    /// The cells from a place on, up to another, lent.
+    pub fn lend(&self, from: usize, to: usize) -> Vector<'_>
+        requires { (from ≤ to) × (to ≤ length self.now) }
+        ensures { cells_of result ≡ take (to - from) (drop from self.now) }
+    {
+        Vector::LentCells(&self.cells[from..to])
+    }
+
+    /// Copies of the cells of parts, one part after another.
+    pub fn joined(alloc: Global, parts: &[Vector]) -> Result<Shared, Memory>
+        ensures { IfOk result (λ c. c ≡ flat_map cells_of parts.now) }
+    {
+        let mut cells = Vec::new(alloc);
+        for part in parts {
+            push_copies(&mut cells, part)?;
+        }
+        Ok(Shared { cells })
+    }
+}
+
+impl Cellwise for Shared {
+    ghost cells = { λ c. c };
+
+    fn count(&self) -> usize {
+        self.len()
+    }
+
+    fn lent(&self, index: usize) -> &Value {
+        self.cell(index)
+    }
+}
+
+// Puts copies of the cells of a part last.
+fn push_copies(cells: &mut Vec<Value>, part: &Vector) -> Result<(), Memory>
+    ensures { OnOk result (cells.new.items ≡ cells.old.items ++ cells_of part.now) }
+{
+    for i in 0..part.len() {
+        cells.push(part.cell(i)?)?;
+    }
+    Ok(())
 }

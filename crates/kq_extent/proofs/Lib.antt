@@ -1,6 +1,8 @@
 pub mod Across
 pub mod Bounded
+pub mod Columnwise
 pub mod Filters
+pub mod Lent
 pub mod Named
 pub mod Sent
 pub mod Walked

@@ -1,16 +1,19 @@
 // Rows that are kept column by column.
-ghost use Rattle.std.specs.Prelude.{◌≡◌, ◌↔◌, ◌<◌, ◌++◌, ◌^◌, [], IfOk, IfSome, IsNone, OnOk, OnErr, Some, length, map, slice_get, take};
+ghost use Rattle.std.specs.Prelude.{◌≡◌, ◌↔◌, ◌<◌, ◌≤◌, ◌-◌, ◌++◌, ◌^◌, [], IfOk, IfSome, IsNone, OnOk, OnErr, Some, length, map, slice_get, take, drop, unwrap_or};
 ghost use Rattle.std.specs.List.{All, range_with_len};
 ghost use Rattle.kq_value.specs.Typed.{HasTypes};
 ghost use Rattle.kq_rows.specs.Chunks.{row_at, same_width};
 ghost use Rattle.kq_column.specs.Bounds.{AreBounds};
 ghost use Rattle.kq_column.specs.Cells.{column_of, IsAtMost};
 ghost use Rattle.kq_extent.specs.Cells.{cells_of};
-ghost use Rattle.kq_widened.specs.Widened.{widened};
+ghost use Rattle.kq_extent.specs.Columns.{missing, rows_across, AreWhole};
+ghost use Rattle.kq_widened.specs.Widened.{missing_at, widened};
+ghost use Rattle.kq_vector.specs.Vectors.{cell_of, cells_of as cells_seen};
 
 use kq_column::Column;
 use kq_rows::Rows;
-use kq_value::{Field, Memory, Schema, Value};
+use kq_value::{Field, Memory, Schema, Ty, Value};
+use kq_vector::Vector;
 use kq_widened::{missing_cell, widen};
 use std::alloc::Global;
 use std::marker::Model;
@@ -51,7 +54,25 @@ fn columns_of(alloc: Global, schema: &Schema, rows: &Rows) -> Result<Vec<Column>
     Ok(columns)
 }
 
+// What stands in a column that rows lack, and a null where there is no such column.
+fn missing_or_null(alloc: Global, fields: &[Field], column: usize) -> Result<Value, Memory>
+    ensures { IfOk result (λ v. v ≡ unwrap_or (missing_at fields.now column) missing) }
+{
+    match missing_cell(alloc, fields, column)? {
+        Some(cell) => Ok(cell),
+        None => Ok(Value::Null(Ty::Long)),
+    }
+}
+
 impl Columns {
+    /// The rows that have these cells.
+    pub fn from_parts(columns: Vec<Column>, count: usize) -> Columns
+        requires { AreWhole columns.items count }
+        ensures { result ≡ rows_across columns.items count }
+    {
+        Columns { columns, count }
+    }
+
     pub fn build(alloc: Global, schema: &Schema, rows: &Rows) -> Result<Columns, Memory>
         requires { All (HasTypes schema.now) rows.now }
         ensures { IfOk result (λ c. c ≡ rows.now) }
@@ -107,6 +128,25 @@ impl Columns {
         match self.cell(index, column)? {
             Some(cell) => Ok(Some(cell)),
             None => missing_cell(*self.columns.allocator(), fields, column),
+        }
+    }
+
+    /// The cells that the rows from a place on, up to another, have in a column under these columns; lent, where the rows have such a column.
+    pub fn lend(
+        &self,
+        fields: &[Field],
+        column: usize,
+        from: usize,
+        to: usize,
+    ) -> Result<Vector<'_>, Memory>
+        requires { (from ≤ to) × (to ≤ length self.now) }
+        ensures { IfOk result (λ v. cells_seen v ≡ map (λ r. cell_of r column) (take (to - from) (drop from (map (widened fields.now) self.now)))) }
+    {
+        if column < self.columns.len() {
+            Ok(self.columns[column].lend(from, to))
+        } else {
+            let cell = missing_or_null(*self.columns.allocator(), fields, column)?;
+            Ok(Vector::Same(cell, to - from))
         }
     }
 

@@ -1,15 +1,17 @@
 // Extents.
-ghost use Rattle.std.specs.Prelude.{◌≡◌, ◌↔◌, ◌<◌, ◌≤◌, ◌++◌, ◌^◌, [], IfOk, IfSome, IsNone, IsTrue, OnOk, OnErr, Some, length, map, slice_get};
+ghost use Rattle.std.specs.Prelude.{◌≡◌, ◌↔◌, ◌<◌, ◌≤◌, ◌-◌, ◌++◌, ◌^◌, [], IfOk, IfSome, IsNone, IsTrue, OnOk, OnErr, Some, length, map, slice_get, take, drop};
 ghost use Rattle.kq_rows.specs.Chunks.{row_at, same_width};
 ghost use Rattle.kq_column.specs.Bounds.{AreBounds};
 ghost use Rattle.kq_column.specs.Cells.{IsAtMost};
 ghost use Rattle.kq_extent.specs.Cells.{cells_at, cursors_of};
 ghost use Rattle.kq_extent.specs.Wide.{wide};
+ghost use Rattle.kq_vector.specs.Vectors.{cell_of, cells_of};
 
 use crate::columns::Columns;
 use crate::runs::Runs;
 use kq_rows::Rows;
 use kq_value::{Field, Memory, RecordId, Tags, Value};
+use kq_vector::Vector;
 use std::marker::Model;
 
 /// Records that were put in together, column by column. None of it changes.
@@ -105,6 +107,20 @@ impl Extent {
         ensures { IfOk result (λ cell. cell ≡ slice_get (row_at (map row_of (wide fields.now self.now).records) index) column) }
     {
         self.columns.cell_under(fields, index, column)
+    }
+
+    /// The cells that the records from a place on, up to another, have in a column under these columns; lent, where the records have such a column.
+    pub fn lend(
+        &self,
+        fields: &[Field],
+        column: usize,
+        from: usize,
+        to: usize,
+    ) -> Result<Vector<'_>, Memory>
+        requires { (from ≤ to) × (to ≤ length self.now.records) }
+        ensures { IfOk result (λ v. cells_of v ≡ map (λ r. cell_of r column) (take (to - from) (drop from (map row_of (wide fields.now self.now).records)))) }
+    {
+        self.columns.lend(fields, column, from, to)
     }
 
     /// Adds the rows of all records, widened to the columns, behind others.

@@ -1,5 +1,4 @@
-use Rattle.std.proofs.Common.{◌≡◌, ◌++◌, map, ap, sym, ◌∙◌, List}
-use Rattle.kq_value.specs.declared.record_id.RecordId.{RecordId}
+use Rattle.std.proofs.Common.{◌≡◌, map, ap, sym, ◌∙◌}
 use Rattle.kq_extent.specs.Seen.{ExtentView, id_of}
 use Rattle.kq_extent.proofs.Named.{ids-named}
 use Rattle.kq_extent.proofs.extent.Extent.add_ids.Goals as goal

@@ -1,8 +1,7 @@
-use Rattle.std.proofs.Common.{◌≡◌, ◌≤◌, ◌+◌, ◌++◌, ℕ, List, length, map, take, ap, sym, subst, ◌∙◌, arith}
+use Rattle.std.proofs.Common.{◌≤◌, ◌+◌, ◌++◌, ℕ, List, length, map, take, ap, sym, subst, ◌∙◌, arith}
 use Rattle.std.specs.Arc.{arc_value}
 use Rattle.std.proofs.lemmas.List.{take_all, length-map}
 use Rattle.kq_value.specs.declared.value.Value.{Value}
-use Rattle.kq_rows.specs.Chunks.{same_width}
 use Rattle.kq_shared.specs.Standing.{StandsAt}
 use Rattle.kq_extent.specs.Seen.{ExtentView, held_extents, row_of}
 use Rattle.kq_extent.specs.Wide.{wide, wide_held}
