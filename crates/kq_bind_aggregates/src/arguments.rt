@@ -99,11 +99,19 @@ pub fn several(given: Given) -> Option<(Typed, Vec<Option<Typed>>)>
 }
 
 /// The number of the column that an expression is.
+#[tactic(auto, using(crate::proofs::Chains::no_links, crate::proofs::Chains::is_no_column))]
 pub fn column_number(expr: &Expr) -> Option<usize>
     ensures { result ≡ the.column_number (term_of expr.now) }
 {
     match expr {
         Expr::Column(number) => Some(*number),
+        Expr::Chain(first, links) => {
+            if links.is_empty() {
+                column_number(first)
+            } else {
+                None
+            }
+        }
         _ => None,
     }
 }

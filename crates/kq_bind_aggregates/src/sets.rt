@@ -17,12 +17,20 @@ fn at_least_none(number: i64) -> u64
 }
 
 // A literal of a whole number.
+#[tactic(auto, using(crate::proofs::Chains::no_links, crate::proofs::Chains::is_no_number))]
 fn most_said(expr: &Expr) -> Option<u64>
     ensures { result ≡ the.most_said (term_of expr.now) }
 {
     match expr {
         Expr::Literal(Value::Long(most)) => Some(at_least_none(*most)),
         Expr::Literal(Value::Int(most)) => Some(at_least_none(i64::from(*most))),
+        Expr::Chain(first, links) => {
+            if links.is_empty() {
+                most_said(first)
+            } else {
+                None
+            }
+        }
         _ => None,
     }
 }

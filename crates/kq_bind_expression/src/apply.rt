@@ -2,10 +2,11 @@
 ghost use Rattle.std.specs.Prelude.{◌≡◌, [], ◌∷◌, map, IfOk};
 ghost use Rattle.kq_bind_expression.specs.Apply.{applied, as_taken, type_of};
 ghost use Rattle.kq_bind_expression.specs.Verdicts.{AnswersVerdict};
+ghost use Rattle.kq_expr.specs.Operations.{function_of};
 ghost use Rattle.kq_expr.specs.Terms.{typed_of, term_of};
 
 use crate::fault::BindFault;
-use kq_expr::{Expr, Typed};
+use kq_expr::{Expr, Link, Operation, Typed, linked};
 use kq_fn::{Function, choose};
 use kq_value::{Memory, Ty};
 use std::alloc::Global;
@@ -92,6 +93,40 @@ pub fn apply_to_two(
     given.push(first)?;
     given.push(second)?;
     apply(alloc, function, at, given)
+}
+
+/// The operation at what stands so far and an operand, as a link more of the chain.
+pub fn apply_next(
+    alloc: Global,
+    operation: Operation,
+    at: usize,
+    first: Typed,
+    second: Typed,
+) -> Result<Typed, BindFault>
+    ensures { AnswersVerdict typed_of (applied (function_of operation) at (typed_of first ∷ typed_of second ∷ [])) result }
+{
+    let types = [first.ty, second.ty];
+    match choose(operation.function(), &types) {
+        None => Err(BindFault::Mistyped { at }),
+        Some(choice) => {
+            let so_far = taken_so_far(alloc, first, choice.widened)?;
+            let operand = taken(alloc, second, choice.widened)?;
+            Ok(Typed {
+                expr: linked(alloc, so_far, Link::With(operation, operand))?,
+                ty: choice.gives,
+            })
+        }
+    }
+}
+
+// What stands so far; an int as the long of its value, where ints are widened.
+fn taken_so_far(alloc: Global, one: Typed, widened: bool) -> Result<Expr, Memory>
+    ensures { IfOk result (λ e. term_of e ≡ as_taken widened (typed_of one)) }
+{
+    match one.ty {
+        Ty::Int if widened => linked(alloc, one.expr, Link::ToLong),
+        _ => Ok(one.expr),
+    }
 }
 
 pub fn apply_to_three(

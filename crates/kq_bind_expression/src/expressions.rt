@@ -9,12 +9,14 @@ ghost use Rattle.kq_bind_expression.specs.Verdicts.{AnswersVerdict};
 ghost use Rattle.kq_expr.specs.Terms.{typed_of};
 ghost use Rattle.kq_grammar.specs.Views.{tree_of, trees_of, link_of, links_of, interval_of, step_of, steps_of, precedence_of};
 
-use crate::apply::{apply, apply_to_one, apply_to_three, apply_to_two, with_two_before};
+use crate::apply::{
+    apply, apply_next, apply_to_one, apply_to_three, apply_to_two, with_two_before,
+};
 use crate::fault::BindFault;
 use crate::lookup::named;
 use crate::operators::{comparison, interval, membership, operation, sign};
 use crate::scope::Scope;
-use kq_expr::{Expr, Typed};
+use kq_expr::{Expr, Operation, Typed};
 use kq_fn::{Function, find};
 use kq_grammar::{Expression, Interval, Level, Link, Name, Step};
 use kq_spelled::{literal_value, name_text, piece};
@@ -22,9 +24,9 @@ use kq_syntax::Symbol;
 use kq_value::{Field, Ty, Value};
 use std::alloc::Global;
 
-// What an expression is bound to over these columns, or its first fault.
+/// What an expression is bound to over these columns, or its first fault: operands come before their operator, from left to right, and a called name before its arguments. A column hides a scalar let of its name. Where each literal of the tree has a value, as it has if `unsupported` finds none, Unsupported is never answered.
 #[cycle(bind)]
-pub(crate) fn bind_tree(
+pub fn bind_expression(
     alloc: Global,
     scope: &Scope,
     columns: &[Field],
@@ -35,38 +37,38 @@ pub(crate) fn bind_tree(
     match tree {
         Expression::Name(name) => named(alloc, scope, columns, *name),
         Expression::Literal(symbol) => literal(alloc, scope, *symbol),
-        Expression::Group(_, inner) => bind_tree(alloc, scope, columns, inner),
+        Expression::Group(_, inner) => bind_expression(alloc, scope, columns, inner),
         Expression::Call(word, args) => {
             let function = function_of(scope, *word)?;
             let given = bind_all(alloc, scope, columns, args)?;
             apply(alloc, function, word.from, given)
         }
         Expression::Path(first, step, steps) => {
-            let first = bind_tree(alloc, scope, columns, first)?;
+            let first = bind_expression(alloc, scope, columns, first)?;
             let second = bind_step(alloc, scope, columns, first, step)?;
             bind_steps(alloc, scope, columns, second, steps)
         }
         Expression::Signed(symbol, operand) => {
-            let operand = bind_tree(alloc, scope, columns, operand)?;
+            let operand = bind_expression(alloc, scope, columns, operand)?;
             apply_to_one(alloc, sign(symbol.kind), symbol.from, operand)
         }
         Expression::Compare(left, right) => {
-            let left = bind_tree(alloc, scope, columns, left)?;
+            let left = bind_expression(alloc, scope, columns, left)?;
             bind_comparison(alloc, scope, columns, left, right)
         }
         Expression::Within(left, first, others) => {
-            let left = bind_tree(alloc, scope, columns, left)?;
+            let left = bind_expression(alloc, scope, columns, left)?;
             let second = bind_operand(alloc, scope, columns, first)?;
             let others = bind_all(alloc, scope, columns, others)?;
             let given = with_two_before(alloc, left, second, others)?;
             apply_within(alloc, first, given)
         }
         Expression::Between(operand, ends) => {
-            let operand = bind_tree(alloc, scope, columns, operand)?;
+            let operand = bind_expression(alloc, scope, columns, operand)?;
             bind_between(alloc, scope, columns, operand, ends)
         }
         Expression::Chain(level, first, link, links) => {
-            let first = bind_tree(alloc, scope, columns, first)?;
+            let first = bind_expression(alloc, scope, columns, first)?;
             let second = bind_link(alloc, scope, columns, *level, first, link)?;
             bind_links(alloc, scope, columns, *level, second, links)
         }
@@ -84,7 +86,7 @@ fn bind_all(
 {
     let mut given = Vec::new(alloc);
     for tree in trees {
-        given.push(bind_tree(alloc, scope, columns, tree)?)?;
+        given.push(bind_expression(alloc, scope, columns, tree)?)?;
     }
     Ok(given)
 }
@@ -100,7 +102,7 @@ fn bind_comparison(
     ensures { let r = link_of right.now in
         AnswersVerdict typed_of (the_apply (the.comparison r.0.kind) r.0.from (Ok (typed_of left) ∷ bound (names_of scope.now) columns.now r.1 ∷ [])) result }
 {
-    let operand = bind_tree(alloc, scope, columns, &right.operand)?;
+    let operand = bind_expression(alloc, scope, columns, &right.operand)?;
     apply_to_two(
         alloc,
         comparison(right.operator.kind),
@@ -119,7 +121,7 @@ fn bind_operand(
 ) -> Result<Typed, BindFault>
     ensures { AnswersVerdict typed_of (bound (names_of scope.now) columns.now (link_of link.now).1) result }
 {
-    bind_tree(alloc, scope, columns, &link.operand)
+    bind_expression(alloc, scope, columns, &link.operand)
 }
 
 #[cycle(bind)]
@@ -135,8 +137,8 @@ fn bind_between(
         let high = bound (names_of scope.now) columns.now e.high in
         AnswersVerdict typed_of (the_apply (the.interval e.operator.kind) e.operator.from (Ok (typed_of operand) ∷ low ∷ high ∷ [])) result }
 {
-    let low = bind_tree(alloc, scope, columns, &ends.low)?;
-    let high = bind_tree(alloc, scope, columns, &ends.high)?;
+    let low = bind_expression(alloc, scope, columns, &ends.low)?;
+    let high = bind_expression(alloc, scope, columns, &ends.high)?;
     apply_to_three(
         alloc,
         interval(ends.operator.kind),
@@ -160,8 +162,32 @@ fn bind_link(
         let operands = Ok (typed_of left) ∷ bound (names_of scope.now) columns.now r.1 ∷ [] in
         AnswersVerdict typed_of (the_apply (the.operation (precedence_of level) r.0.kind) r.0.from operands) result }
 {
-    let operand = bind_tree(alloc, scope, columns, &link.operand)?;
+    let operand = bind_expression(alloc, scope, columns, &link.operand)?;
     apply_to_two(
+        alloc,
+        operation(level, link.operator.kind).function(),
+        link.operator.from,
+        left,
+        operand,
+    )
+}
+
+// A link more of a chain.
+#[cycle(bind)]
+fn bind_next(
+    alloc: Global,
+    scope: &Scope,
+    columns: &[Field],
+    level: Level,
+    left: Typed,
+    link: &Link,
+) -> Result<Typed, BindFault>
+    ensures { let r = link_of link.now in
+        let operands = Ok (typed_of left) ∷ bound (names_of scope.now) columns.now r.1 ∷ [] in
+        AnswersVerdict typed_of (the_apply (the.operation (precedence_of level) r.0.kind) r.0.from operands) result }
+{
+    let operand = bind_expression(alloc, scope, columns, &link.operand)?;
+    apply_next(
         alloc,
         operation(level, link.operator.kind),
         link.operator.from,
@@ -183,7 +209,7 @@ fn bind_links(
 {
     let mut left = first;
     for link in links {
-        left = bind_link(alloc, scope, columns, level, left, link)?;
+        left = bind_next(alloc, scope, columns, level, left, link)?;
     }
     Ok(left)
 }
@@ -204,8 +230,31 @@ fn bind_step(
             apply_to_two(alloc, Function::Member, dot.from, first, name)
         }
         Step::Index(bracket, index) => {
-            let index = bind_tree(alloc, scope, columns, index)?;
+            let index = bind_expression(alloc, scope, columns, index)?;
             apply_to_two(alloc, Function::Member, bracket.from, first, index)
+        }
+    }
+}
+
+// A step more of a path.
+#[cycle(bind)]
+fn bind_next_step(
+    alloc: Global,
+    scope: &Scope,
+    columns: &[Field],
+    first: Typed,
+    step: &Step,
+) -> Result<Typed, BindFault>
+    ensures { AnswersVerdict typed_of (stepped (names_of scope.now) columns.now (typed_of first) (step_of step.now)) result }
+{
+    match step {
+        Step::Member(dot, name) => {
+            let name = member_name(alloc, scope, *name)?;
+            apply_next(alloc, Operation::Member, dot.from, first, name)
+        }
+        Step::Index(bracket, index) => {
+            let index = bind_expression(alloc, scope, columns, index)?;
+            apply_next(alloc, Operation::Member, bracket.from, first, index)
         }
     }
 }
@@ -222,7 +271,7 @@ fn bind_steps(
 {
     let mut from = first;
     for step in steps {
-        from = bind_step(alloc, scope, columns, from, step)?;
+        from = bind_next_step(alloc, scope, columns, from, step)?;
     }
     Ok(from)
 }

@@ -2,7 +2,6 @@
 #![tactic(auto)]
 
 mod apply;
-mod depth;
 mod expressions;
 mod fault;
 mod literals;
@@ -11,7 +10,7 @@ mod operators;
 mod scope;
 
 pub use apply::taken;
-pub use depth::bind_expression;
+pub use expressions::bind_expression;
 pub use fault::BindFault;
 pub use kq_fn::{Function, find};
 pub use kq_spelled::{literal_value, name_place, name_text, piece, ty_of};

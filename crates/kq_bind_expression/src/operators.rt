@@ -1,8 +1,10 @@
 // Which function an operator is.
 ghost use Rattle.std.specs.Prelude.{◌≡◌};
 ghost use Rattle.kq_bind_expression.specs.Operators as the;
+ghost use Rattle.kq_expr.specs.Operations.{function_of};
 ghost use Rattle.kq_grammar.specs.Views.{precedence_of};
 
+use kq_expr::Operation;
 use kq_fn::{FindKind, Function};
 use kq_grammar::Level;
 use kq_syntax::{Kind, ReservedWord, Word};
@@ -95,20 +97,20 @@ pub fn interval(kind: Kind) -> Function
     }
 }
 
-pub fn operation(level: Level, kind: Kind) -> Function
-    ensures { result ≡ the.operation (precedence_of level) kind }
+pub fn operation(level: Level, kind: Kind) -> Operation
+    ensures { function_of result ≡ the.operation (precedence_of level) kind }
 {
     match level {
-        Level::Disjunction => Function::Or,
-        Level::Conjunction => Function::And,
+        Level::Disjunction => Operation::Or,
+        Level::Conjunction => Operation::And,
         Level::Sum => match kind {
-            Kind::Operator(Operator::Minus) => Function::Subtract,
-            _ => Function::Add,
+            Kind::Operator(Operator::Minus) => Operation::Subtract,
+            _ => Operation::Add,
         },
         Level::Product => match kind {
-            Kind::Operator(Operator::Slash) => Function::Divide,
-            Kind::Operator(Operator::Percent) => Function::Remainder,
-            _ => Function::Multiply,
+            Kind::Operator(Operator::Slash) => Operation::Divide,
+            Kind::Operator(Operator::Percent) => Operation::Remainder,
+            _ => Operation::Multiply,
         },
     }
 }

@@ -2,10 +2,11 @@
 ghost use Rattle.std.specs.Prelude.{◌≡◌, map};
 ghost use Rattle.std.specs.List.{list_any};
 ghost use Rattle.kq_model.specs.Moments as the;
-ghost use Rattle.kq_expr.specs.Terms.{term_of, terms_of};
+ghost use Rattle.kq_bind_policy.specs.Links.{link_asks};
+ghost use Rattle.kq_expr.specs.Terms.{link_of, term_of, terms_of};
 ghost use Rattle.kq_plan.specs.Plans.{aggregating_of, doing_of, sorting_of};
 
-use kq_expr::Expr;
+use kq_expr::{Expr, Link};
 use kq_fn::Function;
 use kq_plan::{Aggregate, SortKey, Work};
 
@@ -16,6 +17,7 @@ fn is_moment(function: Function) -> bool
 }
 
 #[cycle(moments)]
+#[tactic(auto, using(crate::proofs::Chains::chain_asks))]
 fn asks(expr: &Expr) -> bool
     ensures { result ≡ the.asks (term_of expr.now) }
 {
@@ -24,6 +26,7 @@ fn asks(expr: &Expr) -> bool
         Expr::Column(_) => false,
         Expr::Cell(_) => false,
         Expr::Call(function, args) => is_moment(*function) || some_asks(args),
+        Expr::Chain(first, links) => asks(first) || some_link_asks(links),
     }
 }
 
@@ -37,6 +40,28 @@ fn some_asks(exprs: &Vec<Expr>) -> bool
         }
     }
     false
+}
+
+#[cycle(moments)]
+fn some_link_asks(links: &Vec<Link<Expr>>) -> bool
+    ensures { result ≡ list_any link_asks (map link_of links.now.items) }
+{
+    for link in links {
+        if link_asks(link) {
+            return true;
+        }
+    }
+    false
+}
+
+#[cycle(moments)]
+fn link_asks(link: &Link<Expr>) -> bool
+    ensures { result ≡ link_asks (link_of link.now) }
+{
+    match link {
+        Link::ToLong => false,
+        Link::With(_, operand) => asks(operand),
+    }
 }
 
 fn key_asks(key: &SortKey) -> bool

@@ -3,9 +3,13 @@ use Rattle.std.specs.Prelude.{ℕ, List, [], ◌∷◌}
 use Rattle.kq_fn.specs.kq_value.Ty.{Ty}
 use Rattle.kq_fn.specs.kq_value.Value.{Value}
 use Rattle.kq_fn.specs.declared.function.Function.{Function}
+use Rattle.kq_fn.specs.declared.function.Function.TheVariants as f
 use Rattle.kq_expr.specs.declared.expr.Expr.{Expr, fold-Expr}
 use Rattle.kq_expr.specs.declared.expr.Expr.TheOpen.{Expr-F}
+use Rattle.kq_expr.specs.declared.expr.Link.{Link}
+use Rattle.kq_expr.specs.declared.expr.Link.TheVariants as link
 use Rattle.kq_expr.specs.declared.expr.Typed.{Typed}
+use Rattle.kq_expr.specs.Operations.{function_of}
 
 mutual
   pub data Term : Type 0 where
@@ -22,14 +26,33 @@ abbrev pub terms_of : List Term → Terms
 terms_of [] = no_term
 terms_of (e ∷ es) = and_term e (terms_of es)
 
+-- an operand in its place
+abbrev pub mapped : {A B : Type 0} → (A → B) → Link A → Link B
+mapped f link.ToLong = link.ToLong
+mapped f (link.With o a) = link.With o (f a)
+
+-- the call that a link is, at what stands so far
+abbrev pub linked : Term → Link Term → Term
+linked e link.ToLong = call f.ToLong (and_term e no_term)
+linked e (link.With o a) = call (function_of o) (and_term e (and_term a no_term))
+
+-- the links of a chain, from the left
+abbrev pub chained : Term → List (Link Term) → Term
+chained e [] = e
+chained e (l ∷ ls) = chained (linked e l) ls
+
 abbrev pub one_term : Expr-F Term → Term
 one_term (Expr-F.Literal v) = literal v
 one_term (Expr-F.Column i) = column i
 one_term (Expr-F.Cell i) = cell i
 one_term (Expr-F.Call f es) = call f (terms_of es.items)
+one_term (Expr-F.Chain e ls) = chained e.value ls.items
 
 abbrev pub term_of : Expr → Term
 term_of = fold-Expr Term one_term
+
+abbrev pub link_of : Link Expr → Link Term
+link_of = mapped term_of
 
 -- an expression and the type of what it gives
 abbrev pub Bound : Type 0

@@ -1,3 +1,4 @@
+mod Chains
 mod Choosing
 mod Chosen
 mod Lines

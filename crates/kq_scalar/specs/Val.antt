@@ -8,6 +8,9 @@ use Rattle.kq_fn.specs.declared.function.Function.{Function}
 use Rattle.kq_fn.specs.declared.function.Function.TheVariants as f
 use Rattle.kq_expr.specs.declared.expr.Expr.{Expr, fold-Expr}
 use Rattle.kq_expr.specs.declared.expr.Expr.TheOpen.{Expr-F}
+use Rattle.kq_expr.specs.declared.expr.Link.{Link}
+use Rattle.kq_expr.specs.declared.expr.Link.TheVariants as link
+use Rattle.kq_expr.specs.Operations.{function_of}
 use Rattle.kq_expr.specs.Terms.{Term, literal, column, cell, call, Terms, no_term, and_term}
 use Rattle.kq_arithmetic.specs.Logic.{is_yes}
 use Rattle.kq_texts.specs.kq_conversions.Converted.{empty_test}
@@ -53,12 +56,23 @@ called f.Case ms s row = first_chosen ms s row
 called f.Coalesce ms s row = first_present ms s row
 called function ms s row = and_then (values ms s row) (applied function s.now)
 
+-- a link of a chain at the value that stands so far
+abbrev pub linked_at : Link Meaning → Surroundings → List Value → Value → Computed Value
+linked_at link.ToLong s row v = applied f.ToLong s.now (v ∷ [])
+linked_at (link.With o m) s row v = and_then (m s row) (λ w. applied (function_of o) s.now (v ∷ w ∷ []))
+
+-- the links of a chain, from the left
+abbrev pub links_at : List (Link Meaning) → Surroundings → List Value → Value → Computed Value
+links_at [] s row v = Is v
+links_at (l ∷ ls) s row v = and_then (linked_at l s row v) (links_at ls s row)
+
 -- one level, with the meaning of each part in its place
 abbrev pub val_step : Expr-F Meaning → Meaning
 val_step (Expr-F.Literal v) s row = Is v
 val_step (Expr-F.Column i) s row = Is (cell_of row i)
 val_step (Expr-F.Cell i) s row = Is (cell_of s.lets i)
 val_step (Expr-F.Call function args) s row = called function args.items s row
+val_step (Expr-F.Chain m ls) s row = and_then (m.value s row) (links_at ls.items s row)
 
 abbrev pub val : Expr → Meaning
 val = fold-Expr Meaning val_step

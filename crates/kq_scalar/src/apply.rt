@@ -6,6 +6,7 @@ ghost use Rattle.kq_computed.specs.Computed.{Is, Answers};
 ghost use Rattle.kq_arithmetic.specs.Comparing.{equal as the_equal};
 ghost use Rattle.kq_arithmetic.specs.Logic.{in_list as the_in_list};
 ghost use Rattle.kq_texts.specs.Texts.{equal_folded as the_equal_folded};
+ghost use Rattle.kq_expr.specs.Operations.{function_of};
 ghost use Rattle.kq_scalar.specs.Applied.{applied, by_number, at_none, at_one, part_of, at_two, at_three, among as the_among};
 
 use kq_arithmetic::{
@@ -17,6 +18,7 @@ use kq_calendar::{
     start_of_year, year_of,
 };
 use kq_computed::EvalFault;
+use kq_expr::Operation;
 use kq_fn::Function;
 use kq_texts::{
     array_length_of, as_bool, as_dynamic, as_int, as_long, as_moment, as_span, as_text, empty_test,
@@ -43,6 +45,18 @@ pub fn apply(
         Function::NotInFolded => Ok(negation(&among_folded(alloc, args)?)),
         _ => apply_by_number(alloc, function, args, now),
     }
+}
+
+/// What an operation gives at two arguments.
+pub fn operate(
+    alloc: Global,
+    operation: Operation,
+    a: &Value,
+    b: &Value,
+) -> Result<Value, EvalFault>
+    ensures { Answers (at_two (function_of operation) a.now b.now) result }
+{
+    apply_to_two(alloc, operation.function(), a, b)
 }
 
 fn apply_by_number(

@@ -3,15 +3,16 @@ ghost use Rattle.std.specs.Prelude.{◌≡◌, IfOk, map, not};
 ghost use Rattle.kq_computed.specs.Computed.{Is, and_then, Answers, AnswersAs};
 ghost use Rattle.kq_arithmetic.specs.Logic.{is_yes as the_is_yes};
 ghost use Rattle.kq_texts.specs.kq_conversions.Converted.{empty_test as the_empty_test};
-ghost use Rattle.kq_scalar.specs.Val.{val, values, surroundings, cell_of, first_chosen, first_present};
+ghost use Rattle.kq_expr.specs.Terms.{mapped};
+ghost use Rattle.kq_scalar.specs.Val.{val, values, surroundings, cell_of, first_chosen, first_present, linked_at, links_at};
 ghost use Rattle.kq_scalar.specs.Seen.{seen};
 
-use crate::apply::apply;
+use crate::apply::{apply, operate};
 use kq_arithmetic::is_yes;
 use kq_computed::EvalFault;
-use kq_expr::Expr;
+use kq_expr::{Expr, Link};
 use kq_fn::Function;
-use kq_texts::empty_test;
+use kq_texts::{as_long, empty_test};
 use kq_value::{Memory, Ty, Value};
 use std::alloc::Global;
 
@@ -36,6 +37,7 @@ pub fn eval(
 }
 
 #[cycle(eval)]
+#[tactic(auto, using(crate::proofs::Chains::val_of_chain))]
 fn eval_around(
     alloc: Global,
     expr: &Expr,
@@ -56,6 +58,48 @@ fn eval_around(
                 apply(alloc, *function, &values, around.now)
             }
         },
+        Expr::Chain(first, links) => {
+            let first = eval_around(alloc, first, row, around)?;
+            eval_links(alloc, first, links, row, around)
+        }
+    }
+}
+
+// What the links of a chain make of its first value.
+#[cycle(eval)]
+fn eval_links(
+    alloc: Global,
+    first: Value,
+    links: &Vec<Link<Expr>>,
+    row: &[Value],
+    around: Around,
+) -> Result<Value, EvalFault>
+    ensures { Answers (links_at (map (mapped val) links.now.items) (seen around.entry) row.now first) result }
+{
+    let mut value = first;
+    for link in links {
+        value = eval_link(alloc, &value, link, row, around)?;
+    }
+    Ok(value)
+}
+
+#[cycle(eval)]
+#[tactic(auto, using(crate::proofs::Chains::at_both))]
+fn eval_link(
+    alloc: Global,
+    value: &Value,
+    link: &Link<Expr>,
+    row: &[Value],
+    around: Around,
+) -> Result<Value, EvalFault>
+    ensures { Answers (linked_at (mapped val link.now) (seen around.entry) row.now value.now) result }
+{
+    match link {
+        Link::ToLong => Ok(as_long(value)),
+        Link::With(operation, operand) => {
+            let other = eval_around(alloc, operand, row, around)?;
+            operate(alloc, *operation, value, &other)
+        }
     }
 }
 
