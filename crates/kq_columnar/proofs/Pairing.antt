@@ -7,9 +7,10 @@ use Rattle.kq_kernels.specs.Pairs.{each_two}
 use Rattle.kq_fn.specs.declared.function.Function.{Function}
 use Rattle.kq_fn.specs.declared.function.Function.TheVariants as f
 use Rattle.kq_scalar.specs.Applied.{applied}
-use Rattle.kq_columnar.specs.declared.vector.Vector.{Vector}
-use Rattle.kq_columnar.specs.Vectors.{cells_of}
+use Rattle.kq_vector.specs.declared.vector.Vector.{Vector}
+use Rattle.kq_vector.specs.Vectors.{cells_of}
 use Rattle.kq_columnar.specs.Seen.{beside, rows_of, paired}
+use Rattle.kq_columnar.proofs.OneValue.{all_are}
 
 -- two arguments don't hear of the moment
 pub at_any_moment : (function : Function) (now : ℤ) (x y : Value) → applied function now (x ∷ y ∷ []) ≡ paired function x y
@@ -32,6 +33,22 @@ pub decided : (function : Function) (now : ℤ) (vectors : List Vector) (a b : V
 decided function now vectors a b n zs is h k e =
     ap (λ vs. each (applied function now) (rows_of vs n)) is ∙ rows-pairs (applied function now) (cells_of a) (cells_of b) n h k
     ∙ (λ j. each_two (λ x y. at_any_moment function now x y j) (cells_of a) (cells_of b)) ∙ e
+
+rows-singles : (g : List Value → Computed Value) (xs : List Value) (n : ℕ) → length xs ≡ n → each g (beside xs (rows_of [] n)) ≡ each (λ x. g (x ∷ [])) xs
+rows-singles g [] n h = refl
+rows-singles g (x ∷ xs) zero h = absurd (omega arith)
+rows-singles g (x ∷ xs) (suc n) h = ap (λ c. and_then (g (x ∷ [])) (λ z. and_then c (λ zs. Is (z ∷ zs)))) (rows-singles g xs n (omega arith))
+
+-- the same of one column
+pub decided_alone : (function : Function) (now : ℤ) (vectors : List Vector) (a : Vector) (n : ℕ) (zs : List Value) → vectors ≡ a ∷ [] → length (cells_of a) ≡ n
+    → map (λ x. applied function now (x ∷ [])) (cells_of a) ≡ map Is zs → each (applied function now) (rows_of vectors n) ≡ Is zs
+decided_alone function now vectors a n zs is h e =
+    ap (λ vs. each (applied function now) (rows_of vs n)) is ∙ rows-singles (applied function now) (cells_of a) n h ∙ all_are (λ x. applied function now (x ∷ [])) (cells_of a) zs e
+
+pub one_of : (vs : List Vector) (a : Vector) → 1 ≤ length vs → length vs ≤ 1 → a ≡ get_or vs 0 a → vs ≡ a ∷ []
+one_of [] a h k p = absurd (omega arith)
+one_of (x ∷ []) a h k p = λ j. sym p j ∷ []
+one_of (x ∷ y ∷ vs) a h k p = absurd (omega arith)
 
 -- the same of items, as values
 pub pairs_next : {X C : Type 0} (v : X → Value) (g : Value → Value → Computed C) (d e : X) (xs ys : List X) (i : ℕ) → i < length xs → i < length ys

@@ -1,13 +1,18 @@
 -- The cells of the rows at some places.
-use Rattle.std.proofs.Common.{◌≡◌, ◌<◌, ◌≤◌, ℕ, zero, suc, List, [], ◌∷◌, ◌++◌, map, length, get_or, take, Option, Some, None, Vec, Global, subst, refl, sym, ap, ◌∙◌, arith}
+use Rattle.std.proofs.Common.{◌≡◌, ◌<◌, ◌≤◌, ◌+◌, ℕ, zero, suc, List, [], ◌∷◌, ◌++◌, map, length, get_or, take, Option, Some, None, Vec, Global, subst, refl, sym, ap, ◌∙◌, arith}
 use Rattle.std.proofs.Math.ListN.{replicate}
+use Rattle.std.proofs.lemmas.List.{take_more}
 use Rattle.std.specs.Prelude.{slice_get, IfSome}
+use Rattle.std.specs.List.{range_with_len}
+use Rattle.std.proofs.lemmas.List.FromFn.{fill_by_all}
+use Rattle.std.proofs.lemmas.Option.{unwrap_or-slice_get}
 use Rattle.kq_value.specs.declared.ty.Ty.TheVariants.{Long}
 use Rattle.kq_value.specs.declared.value.Value.{Value}
 use Rattle.kq_value.specs.declared.value.Value.TheVariants.{Null}
 use Rattle.kq_scalar.specs.Val.{cell_of}
-use Rattle.kq_columnar.specs.declared.vector.Vector.{Vector}
-use Rattle.kq_columnar.specs.Vectors.{cells_of, row_at, rows_at}
+use Rattle.kq_vector.specs.declared.vector.Vector.{Vector}
+use Rattle.kq_vector.specs.Vectors.{cells_of}
+use Rattle.kq_columnar.specs.Vectors.{row_at, rows_at}
 use Rattle.kq_columnar.specs.Over.{bare}
 
 cell_of-row : (columns : List Vector) (i j : ℕ) (c : Vector) → j < length columns → c ≡ get_or columns j c → cell_of (cells_of c) i ≡ cell_of (row_at columns i) j
@@ -51,6 +56,27 @@ map_take_more f [] i h = absurd (omega arith)
 map_take_more f (x ∷ xs) zero h = refl
 map_take_more f (x ∷ xs) (suc i) h = ap (λ ys. f x ∷ ys) (map_take_more f xs i (omega arith))
 
+-- one item more
+pub map_more : {A B : Type 0} (f : A → B) (xs : List A) (i : ℕ) (x : A) → i < length xs → x ≡ get_or xs i x → map f (take (suc i) xs) ≡ map f (take i xs) ++ f x ∷ []
+map_more f [] i x h e = absurd (omega arith)
+map_more f (y ∷ xs) zero x h e = ap (λ z. f z ∷ []) (sym e)
+map_more f (y ∷ xs) (suc i) x h e = ap (λ ys. f y ∷ ys) (map_more f xs i x (omega arith) e)
+
+pub map_next : {A B : Type 0} (f : A → B) (xs : List A) (i : ℕ) (d : A) → i < length xs → map f (take (suc i) xs) ≡ map f (take i xs) ++ f (get_or xs i d) ∷ []
+map_next f [] i d h = absurd (omega arith)
+map_next f (x ∷ xs) zero d h = refl
+map_next f (x ∷ xs) (suc i) d h = ap (λ ys. f x ∷ ys) (map_next f xs i d (omega arith))
+
+pub item_cell : (xs : List Value) (i : ℕ) (x : Value) → i < length xs → x ≡ get_or xs i x → cell_of xs i ≡ x
+item_cell [] i x h e = absurd (omega arith)
+item_cell (y ∷ xs) zero x h e = sym e
+item_cell (y ∷ xs) (suc i) x h e = item_cell xs i x (omega arith) e
+
+pub some_there : {A : Type 0} (xs : List A) (i : ℕ) (d : A) → i < length xs → Some (get_or xs i d) ≡ slice_get xs i
+some_there [] i d h = absurd (omega arith)
+some_there (y ∷ xs) zero d h = refl
+some_there (y ∷ xs) (suc i) d h = some_there xs i d (omega arith)
+
 pub some_at : {A : Type 0} (xs : List A) (i : ℕ) (x : A) → i < length xs → x ≡ get_or xs i x → Some x ≡ slice_get xs i
 some_at [] i x h e = absurd (omega arith)
 some_at (y ∷ xs) zero x h e = ap Some e
@@ -93,3 +119,18 @@ pub found_at : {A : Type 0} (f : A → Value) (column : Vector) (xs ys : List A)
 found_at f column xs ys places o v is e s h =
     let found : IfSome (Some v) (λ v. map Some v.items ≡ map (slice_get xs) places) = subst (λ (o : Option (Vec _ Global)). IfSome o (λ v. map Some v.items ≡ map (slice_get xs) places)) s h in
     gathered_mapped f xs v.items places found ∙ ap (λ cs. map (cell_of cs) places) (ap (map f) e ∙ sym is)
+
+-- at all places, in order, stand the cells themselves
+pub all_cells : (cells made : List Value) (places : List ℕ) (n : ℕ) → places ≡ range_with_len 0 n → n ≡ length cells → made ≡ cells → made ≡ map (cell_of cells) places
+all_cells cells made places n all long is =
+    is ∙ fill_by_all (cell_of cells) cells n (Null Long) (sym long) (λ k l. sym (unwrap_or-slice_get cells k (Null Long))) ∙ ap (map (cell_of cells)) (sym all)
+
+range_next : (a n m : ℕ) → m ≡ a + n → range_with_len a (suc n) ≡ range_with_len a n ++ m ∷ []
+range_next a zero m e = let same : a ≡ m = omega arith in ap (λ (k : ℕ). k ∷ []) same
+range_next a (suc n) m e = ap (λ (ks : List ℕ). a ∷ ks) (range_next (a + 1) n m (omega arith))
+
+-- one place more is the next in order
+pub firsts : (xs : List ℕ) (i : ℕ) → i < length xs → get_or xs i 0 ≡ i → take i xs ≡ range_with_len 0 i → take (suc i) xs ≡ range_with_len 0 (suc i)
+firsts xs i h e so_far =
+    let one : suc i ≡ i + 1 = omega arith in
+    ap (λ (k : ℕ). take k xs) one ∙ take_more xs i 0 h ∙ (λ j. so_far j ++ e j ∷ []) ∙ sym (range_next 0 i i (omega arith))

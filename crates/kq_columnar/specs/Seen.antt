@@ -1,15 +1,19 @@
 -- Parts of the code, as the definitions speak of them.
-use Rattle.std.specs.Prelude.{ℕ, pos, List, [], ◌∷◌, map, length, min, replicate}
+use Rattle.std.specs.Prelude.{ℕ, pos, Bool, List, [], ◌∷◌, map, length, min, replicate, Option, option_map}
+use Rattle.std.specs.Borrow.{Bor}
+use Rattle.kq_value.specs.declared.dynamic.Dyn.{Dyn}
+use Rattle.kq_value.specs.declared.value.Value.TheVariants.{Bool as Truth}
 use Rattle.kq_value.specs.declared.value.Value.{Value}
-use Rattle.kq_computed.specs.Computed.{Computed, and_then, each}
+use Rattle.kq_computed.specs.Computed.{Computed, Is, and_then, each}
 use Rattle.kq_expr.specs.declared.expr.Expr.{Expr}
 use Rattle.kq_fn.specs.declared.function.Function.{Function}
 use Rattle.kq_scalar.specs.Applied.{applied}
 use Rattle.kq_scalar.specs.Val.{Surroundings, surroundings}
 use Rattle.kq_columnar.specs.Choices.{merged}
 use Rattle.kq_columnar.specs.Over.{over, values_over}
-use Rattle.kq_columnar.specs.Vectors.{cells_of, rows_at}
-use Rattle.kq_columnar.specs.declared.vector.Vector.{Vector}
+use Rattle.kq_vector.specs.Vectors.{cells_of, dynamic_of}
+use Rattle.kq_columnar.specs.Vectors.{rows_at}
+use Rattle.kq_vector.specs.declared.vector.Vector.{Vector}
 use Rattle.kq_columnar.specs.declared.choices.Branch.{Branch}
 use Rattle.kq_columnar.specs.declared.piece.Piece.{Piece}
 
@@ -50,6 +54,21 @@ rows_of vectors n = fronted vectors (replicate n [])
 -- a function at two arguments, whatever the command's moment
 abbrev pub paired : Function → Value → Value → Computed Value
 paired function x y = applied function (pos 0) (x ∷ y ∷ [])
+
+-- a function at each of a list and one value
+abbrev pub beside_one : Function → Value → List Value → List (Computed Value)
+beside_one function y xs = map (λ x. paired function x y) xs
+
+-- truths, as what a function gives
+abbrev pub truths_of : List Bool → List (Computed Value)
+truths_of ts = map (λ t. Is (Truth t)) ts
+
+-- a part of a dynamic as a cell
+abbrev pub part_cell : Option (Bor Dyn) → Value
+part_cell o = dynamic_of (option_map (λ d. d.now) o)
+
+abbrev pub cells_in_parts : List (Option (Bor Dyn)) → List Value
+cells_in_parts os = map part_cell os
 
 -- how many rows these are
 abbrev pub shortest : List Vector → ℕ → ℕ

@@ -3,42 +3,48 @@ ghost use Rattle.std.specs.Prelude.{◌≡◌, IfOk};
 ghost use Rattle.kq_computed.specs.Computed.{Answers, AnswersAs, each};
 ghost use Rattle.kq_scalar.specs.Applied.{applied};
 ghost use Rattle.kq_columnar.specs.Over.{bare};
-ghost use Rattle.kq_columnar.specs.Vectors.{cells_of, row_at};
+ghost use Rattle.kq_vector.specs.Vectors.{cells_of};
+ghost use Rattle.kq_columnar.specs.Vectors.{row_at};
 ghost use Rattle.kq_columnar.specs.Seen.{fronted, rows_in, rows_of, shortest as the_shortest};
 
 use crate::kernels::of_two;
+use crate::parts::converted;
 use crate::piece::Piece;
-use crate::vector::Vector;
 use kq_computed::EvalFault;
 use kq_fn::Function;
 use kq_scalar::apply::apply;
 use kq_value::{Memory, Value};
+use kq_vector::Vector;
 use std::alloc::Global;
 
 /// What a function gives of the values of its arguments at these places.
-pub fn apply_over(
+pub fn apply_over<'a>(
     alloc: Global,
     function: Function,
-    vectors: &[Vector],
+    vectors: &[Vector<'a>],
     piece: Piece,
     places: &[usize],
-) -> Result<Vector, EvalFault>
+) -> Result<Vector<'a>, EvalFault>
     ensures { AnswersAs cells_of (each (applied function piece.entry.now) (fronted vectors.now (bare (rows_in piece.entry places.now)))) result }
 {
     apply_all(alloc, function, vectors, places.len(), piece)
 }
 
 // By a kernel where one decides all rows, and else row by row.
-fn apply_all(
+fn apply_all<'a>(
     alloc: Global,
     function: Function,
-    vectors: &[Vector],
+    vectors: &[Vector<'a>],
     count: usize,
     piece: Piece,
-) -> Result<Vector, EvalFault>
+) -> Result<Vector<'a>, EvalFault>
     ensures { AnswersAs cells_of (each (applied function piece.entry.now) (rows_of vectors.now count)) result }
 {
     match vectors {
+        [a] if a.len() == count => match converted(alloc, function, a, piece.now)? {
+            Some(values) => Ok(values),
+            None => apply_each(alloc, function, vectors, count, piece),
+        },
         [a, b] if a.len() == count && b.len() == count => {
             match of_two(alloc, function, a, b)? {
                 Some(values) => Ok(values),
@@ -50,13 +56,13 @@ fn apply_all(
 }
 
 #[tactic(auto, using(crate::proofs::Arguments::next_row, crate::proofs::Arguments::no_row, crate::proofs::Loops::breaks_off))]
-fn apply_each(
+fn apply_each<'v>(
     alloc: Global,
     function: Function,
     vectors: &[Vector],
     count: usize,
     piece: Piece,
-) -> Result<Vector, EvalFault>
+) -> Result<Vector<'v>, EvalFault>
     ensures { AnswersAs cells_of (each (applied function piece.entry.now) (rows_of vectors.now count)) result }
 {
     let n = shortest(vectors, count);

@@ -3,26 +3,27 @@ ghost use Rattle.std.specs.Prelude.{◌≡◌, not, map, IfOk};
 ghost use Rattle.kq_value.specs.declared.value.Value.TheVariants.{Long};
 ghost use Rattle.kq_arithmetic.specs.Logic.{is_yes as the_is_yes};
 ghost use Rattle.kq_columnar.specs.Choices.{picked, merged, is_present as the_is_present};
-ghost use Rattle.kq_columnar.specs.Vectors.{cells_of, rows_at};
+ghost use Rattle.kq_vector.specs.Vectors.{cells_of};
+ghost use Rattle.kq_columnar.specs.Vectors.{rows_at};
 ghost use Rattle.kq_columnar.specs.Seen.{merged_by};
 
-use crate::vector::Vector;
 use kq_arithmetic::is_yes;
 use kq_scalar::empty_test;
 use kq_value::{Memory, Value};
+use kq_vector::Vector;
 use std::alloc::Global;
 
 /// Tests of rows, and the values of those with a true test.
 #[derive(Drop)]
-pub struct Branch {
+pub struct Branch<'a> {
     pub tests: Vec<bool>,
-    pub values: Vector,
+    pub values: Vector<'a>,
 }
 
 /// Whether each cell is true.
 #[tactic(auto, using(crate::proofs::Picking::truths_back))]
 pub fn truths(alloc: Global, vector: Vector) -> Result<Vec<bool>, Memory>
-    ensures { IfOk result (λ ts. ts.items ≡ map the_is_yes (cells_of vector)) }
+    ensures { IfOk result (λ ts. ts.items ≡ map the_is_yes (cells_of vector.entry)) }
 {
     match vector {
         Vector::Truths(truths) => Ok(truths),
@@ -42,9 +43,9 @@ fn truths_by_cells(alloc: Global, vector: &Vector) -> Result<Vec<bool>, Memory>
 }
 
 /// Which cells are neither null nor empty, and these.
-pub fn present_branch(alloc: Global, vector: Vector) -> Result<Branch, Memory>
-    ensures tests { IfOk result (λ b. b.tests.items ≡ map the_is_present (cells_of vector)) }
-    ensures values { IfOk result (λ b. cells_of b.values ≡ picked b.tests.items (cells_of vector)) }
+pub fn present_branch<'v>(alloc: Global, vector: Vector) -> Result<Branch<'v>, Memory>
+    ensures tests { IfOk result (λ b. b.tests.items ≡ map the_is_present (cells_of vector.entry)) }
+    ensures values { IfOk result (λ b. cells_of b.values ≡ picked b.tests.items (cells_of vector.entry)) }
 {
     let tests = presences(alloc, &vector)?;
     let values = picked_cells(alloc, &tests, &vector)?;
@@ -114,7 +115,7 @@ fn picked_items<T: Copy>(alloc: Global, tests: &[bool], items: &[T]) -> Result<V
     Ok(found)
 }
 
-fn picked_cells(alloc: Global, tests: &[bool], vector: &Vector) -> Result<Vector, Memory>
+fn picked_cells<'v>(alloc: Global, tests: &[bool], vector: &Vector) -> Result<Vector<'v>, Memory>
     ensures { IfOk result (λ c. cells_of c ≡ picked tests.now (cells_of vector.now)) }
 {
     let n = tests.len().min(vector.len());
@@ -128,8 +129,12 @@ fn picked_cells(alloc: Global, tests: &[bool], vector: &Vector) -> Result<Vector
 }
 
 /// The values of each branch where its tests are true, and else those of the next ones, with the last behind all.
-pub fn merged_all(alloc: Global, branches: Vec<Branch>, last: Vector) -> Result<Vector, Memory>
-    ensures { IfOk result (λ c. cells_of c ≡ merged_by branches.items (cells_of last)) }
+pub fn merged_all<'a>(
+    alloc: Global,
+    branches: Vec<Branch<'a>>,
+    last: Vector<'a>,
+) -> Result<Vector<'a>, Memory>
+    ensures { IfOk result (λ c. cells_of c ≡ merged_by branches.entry.items (cells_of last.entry)) }
 {
     let mut before = branches;
     let mut whole = last;
@@ -139,8 +144,12 @@ pub fn merged_all(alloc: Global, branches: Vec<Branch>, last: Vector) -> Result<
     Ok(whole)
 }
 
-fn merged_branch(alloc: Global, branch: Branch, others: Vector) -> Result<Vector, Memory>
-    ensures { IfOk result (λ c. cells_of c ≡ merged branch.tests.items (cells_of branch.values) (cells_of others)) }
+fn merged_branch<'a>(
+    alloc: Global,
+    branch: Branch<'a>,
+    others: Vector<'a>,
+) -> Result<Vector<'a>, Memory>
+    ensures { IfOk result (λ c. cells_of c ≡ merged branch.entry.tests.items (cells_of branch.entry.values) (cells_of others.entry)) }
 {
     match (&branch.values, &others) {
         (Vector::Longs(ys), Vector::Longs(zs)) => merged_longs(alloc, &branch.tests, ys, zs),
@@ -149,7 +158,12 @@ fn merged_branch(alloc: Global, branch: Branch, others: Vector) -> Result<Vector
 }
 
 #[tactic(auto, using(crate::proofs::Picking::merged_mapped))]
-fn merged_longs(alloc: Global, tests: &[bool], ys: &[i64], zs: &[i64]) -> Result<Vector, Memory>
+fn merged_longs<'v>(
+    alloc: Global,
+    tests: &[bool],
+    ys: &[i64],
+    zs: &[i64],
+) -> Result<Vector<'v>, Memory>
     ensures { IfOk result (λ c. cells_of c ≡ merged tests.now (map Long ys.now) (map Long zs.now)) }
 {
     Ok(Vector::Longs(merged_items(alloc, tests, ys, zs)?))
@@ -186,7 +200,12 @@ fn merged_items<T: Copy>(
 }
 
 #[tactic(auto, using(crate::proofs::Picking::merged_first_cell, crate::proofs::Picking::merged_second_cell, crate::proofs::Picking::merged_no_first, crate::proofs::Picking::merged_no_second, crate::proofs::Picking::merged_end))]
-fn merged_cells(alloc: Global, tests: &[bool], y: &Vector, z: &Vector) -> Result<Vector, Memory>
+fn merged_cells<'v>(
+    alloc: Global,
+    tests: &[bool],
+    y: &Vector,
+    z: &Vector,
+) -> Result<Vector<'v>, Memory>
     ensures { IfOk result (λ c. cells_of c ≡ merged tests.now (cells_of y.now) (cells_of z.now)) }
 {
     let mut all = Vec::with_capacity(alloc, tests.len())?;

@@ -3,79 +3,126 @@ ghost use Rattle.std.specs.Prelude.{◌≡◌, ◌≤◌, ◌+◌, IfOk, map, dr
 ghost use Rattle.kq_computed.specs.Computed.{Is, and_then, AnswersAs, each};
 ghost use Rattle.kq_arithmetic.specs.Logic.{is_yes};
 ghost use Rattle.kq_scalar.specs.Val.{val, surroundings, cell_of};
-ghost use Rattle.kq_columnar.specs.Over.{over, chosen_over, present_over, bare};
-ghost use Rattle.kq_columnar.specs.Vectors.{cells_of, rows_at};
+ghost use Rattle.kq_expr.specs.Terms.{mapped};
+ghost use Rattle.kq_columnar.specs.Over.{over, chosen_over, present_over, given, linked_over, chained_over, bare};
+ghost use Rattle.kq_vector.specs.Vectors.{cells_of};
+ghost use Rattle.kq_columnar.specs.Vectors.{rows_at};
 ghost use Rattle.kq_columnar.specs.Seen.{seen, rows_in, all_over, fronted};
 
 use crate::calls::apply_over;
 use crate::choices::{Branch, merged_all, other_places, picked_places, present_branch, truths};
 use crate::gather::{column_over, value_over};
-use crate::lent::lent_tests;
 use crate::piece::Piece;
-use crate::vector::{Vector, cell_at};
 use kq_computed::EvalFault;
-use kq_expr::Expr;
+use kq_expr::{Expr, Link};
 use kq_fn::Function;
 use kq_value::{Memory, Ty, Value};
+use kq_vector::{Vector, cell_at};
 use std::alloc::Global;
 
 /// The value of an expression over each of the rows at these places, with the cells of the scalar lets and the ticks of the command's moment. A column, a place or a let past the end is a null, which can't come up for an expression that was bound over such rows.
 #[tactic(auto, using(crate::proofs::OverIs::over_is_each))]
-pub fn eval_column(
+pub fn eval_column<'a>(
     alloc: Global,
     expr: &Expr,
-    columns: &[Vector],
+    columns: &'a [Vector],
     places: &[usize],
-    lets: &[Value],
+    lets: &'a [Value],
     now: i64,
-) -> Result<Vector, EvalFault>
+) -> Result<Vector<'a>, EvalFault>
     ensures { AnswersAs cells_of (each (val expr.now (surroundings now lets.now)) (rows_at columns.now places.now)) result }
 {
     eval_over(alloc, expr, Piece { columns, lets, now }, places)
 }
 
 #[cycle(eval)]
-#[tactic(auto, using(crate::proofs::Branches::called_all))]
-fn eval_over(
+#[tactic(auto, using(crate::proofs::Branches::called_all, crate::proofs::Chains::over_of_chain, crate::proofs::Chains::chained_same, crate::proofs::Chains::chained_stops))]
+fn eval_over<'a>(
     alloc: Global,
     expr: &Expr,
-    piece: Piece,
+    piece: Piece<'a, '_>,
     places: &[usize],
-) -> Result<Vector, EvalFault>
+) -> Result<Vector<'a>, EvalFault>
     ensures { AnswersAs cells_of (over expr.now (seen piece.entry) (rows_in piece.entry places.now)) result }
 {
     match expr {
-        Expr::Literal(value) => Ok(value_over(alloc, value, piece.columns, places)?),
+        Expr::Literal(value) => Ok(value_over(value, piece.columns, places)?),
         Expr::Column(j) => Ok(column_over(alloc, *j, piece.columns, places)?),
-        Expr::Cell(i) => Ok(let_over(alloc, *i, piece, places)?),
+        Expr::Cell(i) => Ok(let_over(*i, piece, places)?),
         Expr::Call(function, args) => match function {
             Function::Iff | Function::Case => eval_chosen(alloc, args, piece, places),
             Function::Coalesce => eval_present(alloc, args, piece, places),
-            _ => match lent_tests(alloc, *function, args, piece, places)? {
-                Some(truths) => Ok(truths),
-                None => {
-                    let vectors = eval_all(alloc, args, piece, places)?;
-                    apply_over(alloc, *function, &vectors, piece, places)
-                }
-            },
+            _ => {
+                let vectors = eval_all(alloc, args, piece, places)?;
+                apply_over(alloc, *function, &vectors, piece, places)
+            }
         },
+        Expr::Chain(first, links) => {
+            let values = eval_over(alloc, first, piece, places)?;
+            eval_links(alloc, values, links, piece, places)
+        }
     }
 }
 
-fn let_over(alloc: Global, i: usize, piece: Piece, places: &[usize]) -> Result<Vector, Memory>
-    ensures { IfOk result (λ c. map (λ r. cell_of piece.entry.lets.now i) (rows_in piece.entry places.now) ≡ cells_of c) }
+// What the links of a chain make of its first values.
+#[cycle(eval)]
+#[tactic(auto, using(crate::proofs::Chains::link_stops, crate::proofs::Chains::chained_stops))]
+fn eval_links<'a>(
+    alloc: Global,
+    first: Vector<'a>,
+    links: &Vec<Link<Expr>>,
+    piece: Piece<'a, '_>,
+    places: &[usize],
+) -> Result<Vector<'a>, EvalFault>
+    ensures { AnswersAs cells_of (chained_over (given (cells_of first.entry)) (map (mapped over) links.now.items) (seen piece.entry) (rows_in piece.entry places.now)) result }
 {
-    let value = cell_at(piece.lets, i)?;
-    value_over(alloc, &value, piece.columns, places)
+    let mut values = first;
+    for link in links {
+        values = eval_link(alloc, values, link, piece, places)?;
+    }
+    Ok(values)
 }
 
 #[cycle(eval)]
-fn eval_all(
+#[tactic(auto, using(crate::proofs::Chains::linked_long, crate::proofs::Chains::linked_with, crate::proofs::Chains::linked_with_stops))]
+fn eval_link<'a>(
+    alloc: Global,
+    values: Vector<'a>,
+    link: &Link<Expr>,
+    piece: Piece<'a, '_>,
+    places: &[usize],
+) -> Result<Vector<'a>, EvalFault>
+    ensures { AnswersAs cells_of (linked_over (given (cells_of values.entry)) (mapped over link.now) (seen piece.entry) (rows_in piece.entry places.now)) result }
+{
+    match link {
+        Link::ToLong => apply_over(alloc, Function::ToLong, &[values], piece, places),
+        Link::With(operation, operand) => {
+            let others = eval_over(alloc, operand, piece, places)?;
+            apply_over(
+                alloc,
+                operation.function(),
+                &[values, others],
+                piece,
+                places,
+            )
+        }
+    }
+}
+
+fn let_over<'a>(i: usize, piece: Piece<'a, '_>, places: &[usize]) -> Result<Vector<'a>, Memory>
+    ensures { IfOk result (λ c. map (λ r. cell_of piece.entry.lets.now i) (rows_in piece.entry places.now) ≡ cells_of c) }
+{
+    let value = cell_at(piece.lets, i)?;
+    value_over(&value, piece.columns, places)
+}
+
+#[cycle(eval)]
+fn eval_all<'a>(
     alloc: Global,
     exprs: &Vec<Expr>,
-    piece: Piece,
+    piece: Piece<'a, '_>,
     places: &[usize],
-) -> Result<Vec<Vector>, EvalFault>
+) -> Result<Vec<Vector<'a>>, EvalFault>
     ensures { AnswersAs (λ vs. fronted vs.items (bare (rows_in piece.entry places.now))) (all_over exprs.now.items piece.entry places.now) result }
 {
     let mut vectors = Vec::new(alloc);
@@ -87,12 +134,12 @@ fn eval_all(
 
 // The values behind the first test that is true, or else the last values.
 #[cycle(eval)]
-fn eval_chosen(
+fn eval_chosen<'a>(
     alloc: Global,
     exprs: &Vec<Expr>,
-    piece: Piece,
+    piece: Piece<'a, '_>,
     places: &[usize],
-) -> Result<Vector, EvalFault>
+) -> Result<Vector<'a>, EvalFault>
     ensures { AnswersAs cells_of (chosen_over (map over exprs.now.items) (seen piece.entry) (rows_in piece.entry places.now)) result }
 {
     let mut branches = Vec::new(alloc);
@@ -126,13 +173,13 @@ fn eval_tests(
 
 // The values that are left where all tests are past.
 #[cycle(eval)]
-fn eval_last(
+fn eval_last<'a>(
     alloc: Global,
     exprs: &Vec<Expr>,
     i: usize,
-    piece: Piece,
+    piece: Piece<'a, '_>,
     places: &[usize],
-) -> Result<Vector, EvalFault>
+) -> Result<Vector<'a>, EvalFault>
     requires { length exprs.now.items ≤ i + 1 }
     ensures chosen { AnswersAs cells_of (chosen_over (map over (drop i exprs.now.items)) (seen piece.entry) (rows_in piece.entry places.now)) result }
     ensures present { AnswersAs cells_of (present_over (map over (drop i exprs.now.items)) (seen piece.entry) (rows_in piece.entry places.now)) result }
@@ -140,18 +187,18 @@ fn eval_last(
     if i < exprs.len() {
         eval_over(alloc, &exprs[i], piece, places)
     } else {
-        Ok(value_over(alloc, &Value::Null(Ty::Long), piece.columns, places)?)
+        Ok(value_over(&Value::Null(Ty::Long), piece.columns, places)?)
     }
 }
 
 // The first values that are neither null nor empty, or else the last values.
 #[cycle(eval)]
-fn eval_present(
+fn eval_present<'a>(
     alloc: Global,
     exprs: &Vec<Expr>,
-    piece: Piece,
+    piece: Piece<'a, '_>,
     places: &[usize],
-) -> Result<Vector, EvalFault>
+) -> Result<Vector<'a>, EvalFault>
     ensures { AnswersAs cells_of (present_over (map over exprs.now.items) (seen piece.entry) (rows_in piece.entry places.now)) result }
 {
     let mut branches = Vec::new(alloc);

@@ -1,43 +1,54 @@
-// Functions of two columns without nulls at once.
-ghost use Rattle.std.specs.Prelude.{◌≡◌, map, IfOk, IfSome};
+// Functions of two columns at once, as far as kernels decide them.
+ghost use Rattle.std.specs.Prelude.{◌≡◌, length, map, IfOk, IfSome};
 ghost use Rattle.kq_computed.specs.Computed.{Is};
 ghost use Rattle.kq_value.specs.declared.value.Value.TheVariants.{Long, Bool as Truth};
 ghost use Rattle.kq_kernels.specs.Pairs.{each_two, without_overflow};
-ghost use Rattle.kq_columnar.specs.Vectors.{cells_of};
+ghost use Rattle.kq_vector.specs.Vectors.{cells_of};
 ghost use Rattle.kq_columnar.specs.Seen.{paired};
 
+use crate::beside::of_one;
 use crate::truths::{Both, Either, TruthOperator, zip_truths};
-use crate::vector::Vector;
 use kq_fn::Function;
 use kq_kernels::{
     AtLeast, AtMost, Equal, Greater, Less, LongOperator, LongTest, Minus, Plus, Remainder, Times,
     Unequal, zip_longs, zip_tests,
 };
 use kq_value::Memory;
+use kq_vector::Vector;
 use std::alloc::Global;
 
 /// The values of a function at two columns, as far as both go, where a kernel decides them all.
-pub fn of_two(
+pub fn of_two<'a>(
     alloc: Global,
     function: Function,
-    a: &Vector,
+    a: &Vector<'a>,
     b: &Vector,
-) -> Result<Option<Vector>, Memory>
+) -> Result<Option<Vector<'a>>, Memory>
+    requires { length (cells_of a.now) ≡ length (cells_of b.now) }
     ensures { IfOk result (λ o. IfSome o (λ c. each_two (paired function) (cells_of a.now) (cells_of b.now) ≡ Is (cells_of c))) }
 {
-    match (a, b) {
-        (Vector::Longs(xs), Vector::Longs(ys)) => of_longs(alloc, function, xs, ys),
-        (Vector::Truths(xs), Vector::Truths(ys)) => of_truths(alloc, function, xs, ys),
-        _ => Ok(None),
+    if let Some((value, _)) = b.same() {
+        return of_one(alloc, function, a, value);
     }
+    if let Some(xs) = a.longs() {
+        if let Some(ys) = b.longs() {
+            return of_longs(alloc, function, xs, ys);
+        }
+    }
+    if let Some(xs) = a.truths() {
+        if let Some(ys) = b.truths() {
+            return of_truths(alloc, function, xs, ys);
+        }
+    }
+    Ok(None)
 }
 
-fn of_longs(
+fn of_longs<'v>(
     alloc: Global,
     function: Function,
     xs: &[i64],
     ys: &[i64],
-) -> Result<Option<Vector>, Memory>
+) -> Result<Option<Vector<'v>>, Memory>
     ensures { IfOk result (λ o. IfSome o (λ c. each_two (paired function) (map Long xs.now) (map Long ys.now) ≡ Is (cells_of c))) }
 {
     match function {
@@ -55,11 +66,11 @@ fn of_longs(
     }
 }
 
-fn longs_by<O: LongOperator>(
+fn longs_by<'v, O: LongOperator>(
     alloc: Global,
     xs: &[i64],
     ys: &[i64],
-) -> Result<Option<Vector>, Memory>
+) -> Result<Option<Vector<'v>>, Memory>
     ensures { IfOk result (λ o. IfSome o (λ c. each_two O.operator (map Long xs.now) (map Long ys.now) ≡ Is (cells_of c))) }
 {
     match zip_longs::<O>(alloc, xs, ys)? {
@@ -68,18 +79,22 @@ fn longs_by<O: LongOperator>(
     }
 }
 
-fn tests_by<T: LongTest>(alloc: Global, xs: &[i64], ys: &[i64]) -> Result<Option<Vector>, Memory>
+fn tests_by<'v, T: LongTest>(
+    alloc: Global,
+    xs: &[i64],
+    ys: &[i64],
+) -> Result<Option<Vector<'v>>, Memory>
     ensures { IfOk result (λ o. IfSome o (λ c. each_two (without_overflow T.test) (map Long xs.now) (map Long ys.now) ≡ Is (cells_of c))) }
 {
     Ok(Some(Vector::Truths(zip_tests::<T>(alloc, xs, ys)?)))
 }
 
-fn of_truths(
+fn of_truths<'v>(
     alloc: Global,
     function: Function,
     xs: &[bool],
     ys: &[bool],
-) -> Result<Option<Vector>, Memory>
+) -> Result<Option<Vector<'v>>, Memory>
     ensures { IfOk result (λ o. IfSome o (λ c. each_two (paired function) (map Truth xs.now) (map Truth ys.now) ≡ Is (cells_of c))) }
 {
     match function {
@@ -89,11 +104,11 @@ fn of_truths(
     }
 }
 
-fn truths_by<O: TruthOperator>(
+fn truths_by<'v, O: TruthOperator>(
     alloc: Global,
     xs: &[bool],
     ys: &[bool],
-) -> Result<Option<Vector>, Memory>
+) -> Result<Option<Vector<'v>>, Memory>
     ensures { IfOk result (λ o. IfSome o (λ c. each_two (without_overflow O.operator) (map Truth xs.now) (map Truth ys.now) ≡ Is (cells_of c))) }
 {
     Ok(Some(Vector::Truths(zip_truths::<O>(alloc, xs, ys)?)))

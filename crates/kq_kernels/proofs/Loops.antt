@@ -1,9 +1,9 @@
 -- What loops over two lists side by side keep.
-use Rattle.std.proofs.Common.{◌≡◌, ◌<◌, ◌≤◌, ℕ, zero, suc, min, List, [], ◌∷◌, ◌++◌, map, length, get_or, drop, refl, sym, ap, ◌∙◌, arith, append-nil, append_assoc}
+use Rattle.std.proofs.Common.{◌≡◌, ◌<◌, ◌≤◌, ℕ, zero, suc, min, List, [], ◌∷◌, ◌++◌, map, length, get_or, take, drop, Bool, false, refl, sym, ap, ◌∙◌, arith, append-nil, append_assoc}
 use Rattle.std.proofs.lemmas.List.{length-map}
 use Rattle.kq_computed.specs.Computed.{Computed, Is, Overflow, and_then}
 use Rattle.kq_value.specs.declared.value.Value.{Value}
-use Rattle.kq_value.specs.declared.value.Value.TheVariants.{Long}
+use Rattle.kq_value.specs.declared.value.Value.TheVariants.{Long, Bool as Truth}
 use Rattle.std.specs.Prelude.{◌≢◌, ℤ}
 use Rattle.kq_kernels.specs.Pairs.{each_two}
 
@@ -71,3 +71,16 @@ no_longs whole next (Is v) (Is vs) made zs h n none e =
     let all : whole ≡ Is (map Long made ++ v ∷ vs) = h ∙ rw n refl in
     let same : map Long made ++ v ∷ vs ≡ map Long zs = cc in
     let z = long_inside made v vs zs same in none z.0 (ap Is z.1)
+
+-- one item more
+pub map_take_more : {A B : Type 0} (f : A → B) (xs : List A) (i : ℕ) (d : A) → i < length xs → map f (take (suc i) xs) ≡ map f (take i xs) ++ f (get_or xs i d) ∷ []
+map_take_more f [] i d h = absurd (omega arith)
+map_take_more f (x ∷ xs) zero d h = refl
+map_take_more f (x ∷ xs) (suc i) d h = ap (λ ys. f x ∷ ys) (map_take_more f xs i d (omega arith))
+
+-- what is told of each place, is told of all
+pub told_of_all : {A : Type 0} (f : A → Value) (xs : List A) (ts : List Bool) (d : A) → length ts ≡ length xs → ((k : ℕ) → k < length xs → f (get_or xs k d) ≡ Truth (get_or ts k false)) → map f xs ≡ map Truth ts
+told_of_all f [] [] d h told = refl
+told_of_all f [] (t ∷ ts) d h told = absurd (omega arith)
+told_of_all f (x ∷ xs) [] d h told = absurd (omega arith)
+told_of_all f (x ∷ xs) (t ∷ ts) d h told = λ j. told 0 (omega arith) j ∷ told_of_all f xs ts d (omega arith) (λ k l. told (suc k) (omega arith)) j

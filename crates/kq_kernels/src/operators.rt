@@ -1,8 +1,11 @@
 // Operators on two longs.
-ghost use Rattle.std.specs.Prelude.{◌≡◌, ◌≢◌, ℤ, IfSome, IfNone};
+ghost use Rattle.std.specs.Prelude.{◌≡◌, ◌≢◌, ℤ, IfSome, IfNone, refl};
 ghost use Rattle.kq_computed.specs.Computed.{Computed, Is};
 ghost use Rattle.kq_value.specs.declared.value.Value.{Value as Seen};
 ghost use Rattle.kq_value.specs.declared.value.Value.TheVariants.{Long, Bool as Truth};
+ghost use Rattle.kq_kernels.specs.declared.number.Number.{Number as Kind};
+ghost use Rattle.kq_kernels.specs.declared.number.Number.TheVariants as kind;
+ghost use Rattle.kq_kernels.specs.Numbers.{of_kind};
 
 /// An operator on two longs, where it gives a long.
 pub trait LongOperator {
@@ -13,12 +16,14 @@ pub trait LongOperator {
         ensures none { IfNone result ((z : ℤ) → operator (Long a) (Long b) ≢ Is (Long z)) };
 }
 
-/// A test of two longs.
+/// A test of two longs, and so of the numbers in any two cells of one kind.
 pub trait LongTest {
     ghost test: { Seen → Seen → Seen };
 
     fn at(a: i64, b: i64) -> bool
         ensures { test (Long a) (Long b) ≡ Truth result };
+
+    ghost kinds: { (k : Kind) (a b : ℤ) → test (of_kind k a) (of_kind k b) ≡ test (Long a) (Long b) };
 }
 
 pub struct Plus;
@@ -80,6 +85,8 @@ impl LongTest for Less {
 
     ghost test = { less };
 
+    ghost kinds = { elim [ kind.Longs ↦ λ a b. refl | kind.Moments ↦ λ a b. refl | kind.Spans ↦ λ a b. refl ] };
+
     fn at(a: i64, b: i64) -> bool {
         a.cmp(&b).is_lt()
     }
@@ -91,6 +98,8 @@ impl LongTest for AtMost {
     ghost use Rattle.kq_arithmetic.specs.Comparing.{at_most};
 
     ghost test = { at_most };
+
+    ghost kinds = { elim [ kind.Longs ↦ λ a b. refl | kind.Moments ↦ λ a b. refl | kind.Spans ↦ λ a b. refl ] };
 
     fn at(a: i64, b: i64) -> bool {
         a.cmp(&b).is_le()
@@ -104,6 +113,8 @@ impl LongTest for Greater {
 
     ghost test = { greater };
 
+    ghost kinds = { elim [ kind.Longs ↦ λ a b. refl | kind.Moments ↦ λ a b. refl | kind.Spans ↦ λ a b. refl ] };
+
     fn at(a: i64, b: i64) -> bool {
         a.cmp(&b).is_gt()
     }
@@ -115,6 +126,8 @@ impl LongTest for AtLeast {
     ghost use Rattle.kq_arithmetic.specs.Comparing.{at_least};
 
     ghost test = { at_least };
+
+    ghost kinds = { elim [ kind.Longs ↦ λ a b. refl | kind.Moments ↦ λ a b. refl | kind.Spans ↦ λ a b. refl ] };
 
     fn at(a: i64, b: i64) -> bool {
         a.cmp(&b).is_ge()
@@ -128,6 +141,8 @@ impl LongTest for Equal {
 
     ghost test = { equal };
 
+    ghost kinds = { elim [ kind.Longs ↦ λ a b. refl | kind.Moments ↦ λ a b. refl | kind.Spans ↦ λ a b. refl ] };
+
     fn at(a: i64, b: i64) -> bool {
         a.cmp(&b).is_eq()
     }
@@ -139,6 +154,8 @@ impl LongTest for Unequal {
     ghost use Rattle.kq_arithmetic.specs.Comparing.{unequal};
 
     ghost test = { unequal };
+
+    ghost kinds = { elim [ kind.Longs ↦ λ a b. refl | kind.Moments ↦ λ a b. refl | kind.Spans ↦ λ a b. refl ] };
 
     fn at(a: i64, b: i64) -> bool {
         a.cmp(&b).is_ne()

@@ -1,5 +1,6 @@
 mod Firsts
 mod Flown
+mod Picked
 mod Sought
 mod Walks
 mod Widths

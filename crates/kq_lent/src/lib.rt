@@ -16,7 +16,8 @@ pub use flow::{Flow, Next};
 pub use gathered::Gathered;
 pub use held::Held;
 pub use kq_stretch::{
-    Operator, RangeFault, Relation, append_arm, distinct_rows, eval_row, map_rows, range_rows,
+    Operator, RangeFault, Relation, Vector, append_arm, distinct_rows, eval_row, map_rows,
+    range_rows, vector_over,
 };
 pub use records::Records;
 pub use source::Source;

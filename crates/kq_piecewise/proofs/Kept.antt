@@ -1,8 +1,10 @@
 -- The rows at the places of the true values are those that a filter keeps.
 use Rattle.std.proofs.Common.{◌≡◌, ◌<◌, ◌≤◌, ◌+◌, ◌-◌, ℕ, zero, suc, Bool, true, false, cond, Err, List, [], ◌∷◌, ◌++◌, map, length, get_or, take, drop, refl, sym, ap, ◌∙◌, subst, arith, append-nil, append_assoc}
+use Rattle.std.proofs.lemmas.List.{length-map}
 use Rattle.std.proofs.lemmas.List.Elements.{All-nil, All-cons}
 use Rattle.std.specs.List.{All}
 use Rattle.kq_value.specs.declared.value.Value.{Value}
+use Rattle.kq_value.specs.declared.value.Value.TheVariants.{Bool as Truth}
 use Rattle.kq_columnar.specs.kq_arithmetic.Logic.{is_yes}
 use Rattle.kq_computed.specs.Computed.{Computed, Is, Overflow, and_then, each, Answers, AnswersAs}
 use Rattle.kq_computed.specs.declared.fault.EvalFault.{EvalFault}
@@ -54,6 +56,24 @@ places_step whole made from i cells v h is e =
     apart : (b : Bool) (k : ℕ) (ps : List ℕ) → cond b (k ∷ ps) ps ≡ cond b (k ∷ []) [] ++ ps
     apart true k ps = refl
     apart false k ps = refl
+
+-- the cell of a truth
+truth_at : (truths : List Bool) (i : ℕ) → i < length truths → Truth (get_or truths i false) ≡ cell_of (map Truth truths) i
+truth_at [] i h = absurd (omega arith)
+truth_at (b ∷ bs) zero h = refl
+truth_at (b ∷ bs) (suc i) h = truth_at bs i (omega arith)
+
+yes_is : (b : Bool) → is_yes (Truth b) ≡ b
+yes_is true = refl
+yes_is false = refl
+
+-- one truth more has been looked at
+pub truths_step : (whole made : List ℕ) (from i : ℕ) (truths : List Bool) → i < length truths → whole ≡ made ++ places_true (from + i) (drop i (map Truth truths))
+    → whole ≡ (made ++ cond (get_or truths i false) ((from + i) ∷ []) []) ++ places_true (from + suc i) (drop (suc i) (map Truth truths))
+truths_step whole made from i truths h is =
+    let n = length-map truths Truth in
+    places_step whole made from i (map Truth truths) (Truth (get_or truths i false)) (omega (arith, n, h)) is (truth_at truths i h)
+    ∙ ap (λ (b : Bool). (made ++ cond b ((from + i) ∷ []) []) ++ places_true (from + suc i) (drop (suc i) (map Truth truths))) (yes_is (get_or truths i false))
 
 pub places_all : (whole made : List ℕ) (from i : ℕ) (cells : List Value) → length cells ≤ i → whole ≡ made ++ places_true (from + i) (drop i cells) → made ≡ whole
 places_all whole made from i cells h is = sym (is ∙ ap (λ vs. made ++ places_true (from + i) vs) (none cells i h) ∙ append-nil made)

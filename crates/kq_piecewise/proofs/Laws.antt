@@ -1,6 +1,7 @@
 -- What is evaluated by pieces is evaluated as a whole.
-use Rattle.std.proofs.Common.{◌≡◌, ◌≤◌, ◌+◌, ◌-◌, ℕ, suc, List, [], ◌∷◌, ◌++◌, length, take, drop, Err, refl, sym, ap, ◌∙◌, arith, append-nil, append_assoc}
+use Rattle.std.proofs.Common.{◌≡◌, ◌≤◌, ◌+◌, ◌-◌, ℕ, suc, List, [], ◌∷◌, ◌++◌, length, take, drop, Ok, Err, refl, sym, ap, ◌∙◌, arith, append-nil, append_assoc}
 use Rattle.std.proofs.lemmas.List.{take-append-drop, drop-drop, drop_all, length-take-le, length-drop}
+use Rattle.std.specs.Prelude.{Result, IfOk}
 use Rattle.kq_computed.specs.Computed.{Computed, Is, Overflow, and_then, each, Answers, AnswersAs}
 use Rattle.kq_computed.specs.declared.fault.EvalFault.{EvalFault}
 use Rattle.kq_computed.specs.declared.fault.EvalFault.TheVariants as faults
@@ -76,6 +77,11 @@ module _ {A B : Type 0} (f : A → Computed B) where
   -- as many values as the piece has rows
   pub piece_counts : (xs : List A) (from to : ℕ) (vs : List B) → from ≤ to → to ≤ length xs → each f (take (to - from) (drop from xs)) ≡ Is vs → length vs ≡ to - from
   piece_counts xs from to vs low h e = each_long (take (to - from) (drop from xs)) vs e ∙ length-take-le (to - from) (drop from xs) (omega (arith, length-drop from xs))
+
+-- an answer has a value for each
+pub answered_long : {A B V : Type 0} (f : A → Computed B) (see : V → List B) (xs : List A) (n : ℕ) (r : Result V EvalFault) → length xs ≡ n → AnswersAs see (each f xs) r → IfOk r (λ v. length (see v) ≡ n)
+answered_long f see xs n (Ok v) long h = each_long f xs (see v) h ∙ long
+answered_long f see xs n (Err fault) long h = tt
 
 pub answers_seen : {A : Type 0} (o : Computed A) (fault : EvalFault) → AnswersAs (λ (x : A). x) o (Err fault) → Answers o (Err fault)
 answers_seen o faults.Overflow h = h

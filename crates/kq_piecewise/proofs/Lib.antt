@@ -1,4 +1,5 @@
 pub mod Alone
+mod Chains
 pub mod Filled
 pub mod Kept
 pub mod Laws

@@ -7,8 +7,9 @@ use Rattle.kq_value.specs.declared.value.Value.{Value}
 use Rattle.kq_computed.specs.Computed.{Computed, Is, Overflow, and_then, each, AnswersAs}
 use Rattle.kq_computed.specs.declared.fault.EvalFault.{EvalFault}
 use Rattle.kq_computed.specs.declared.fault.EvalFault.TheVariants as faults
-use Rattle.kq_columnar.specs.declared.vector.Vector.{Vector}
-use Rattle.kq_columnar.specs.Vectors.{cells_of, rows_at}
+use Rattle.kq_vector.specs.declared.vector.Vector.{Vector}
+use Rattle.kq_columnar.specs.Vectors.{rows_at}
+use Rattle.kq_vector.specs.Vectors.{cells_of}
 use Rattle.kq_expr.specs.declared.expr.Expr.{Expr}
 use Rattle.kq_expr.specs.Terms.{Term, column, term_of}
 use Rattle.kq_rows.specs.Chunks.{row_at as row_of}

@@ -8,14 +8,18 @@ use Rattle.kq_columnar.specs.kq_fn.Function.{Function}
 use Rattle.kq_columnar.specs.kq_fn.TheVariants as f
 use Rattle.kq_expr.specs.declared.expr.Expr.{Expr}
 use Rattle.kq_expr.specs.declared.expr.Expr.TheOpen.{Expr-F}
+use Rattle.kq_expr.specs.declared.expr.Expr.TheShapes.{former-Expr-Chain-1-at-2}
 use Rattle.kq_expr.specs.declared.expr.Expr.TheViews.{roll-Expr}
+use Rattle.kq_expr.specs.declared.expr.Link.{Link}
+use Rattle.kq_expr.specs.declared.expr.Link.TheVariants as link
+use Rattle.kq_expr.specs.Operations.{function_of}
 use Rattle.kq_expr.specs.declared.expr.Expr.TheFolds.{ind-Expr, fold-roll-Expr, map-Expr}
 use Rattle.kq_columnar.specs.kq_arithmetic.Logic.{is_yes}
 use Rattle.kq_columnar.specs.kq_conversions.Converted.{empty_test}
 use Rattle.std.specs.Prelude.{if◌then◌else◌}
 use Rattle.kq_columnar.specs.kq_scalar.Applied.{applied}
-use Rattle.kq_columnar.specs.kq_scalar.Val.{Surroundings, Meaning, val, val_step, values, first_chosen, first_present, called, cell_of}
-use Rattle.kq_piecewise.specs.Pieces.{reads_step, columns_read}
+use Rattle.kq_columnar.specs.kq_scalar.Val.{Surroundings, Meaning, val, val_step, values, first_chosen, first_present, called, links_at, cell_of}
+use Rattle.kq_piecewise.specs.Pieces.{reads_link, reads_step, columns_read}
 
 module _ {X : Type 0} (P : X → Type 0) where
   pub first_all : (xs ys : List X) → All P (xs ++ ys) → All P xs
@@ -41,6 +45,15 @@ val_all es = map val (map (λ e. e.0) es)
 
 abbrev read_all : Parts → List ℕ
 read_all es = concat (map columns_read (map (λ e. e.0) es))
+
+abbrev the_links : List (Link ((e : Expr) × ReadsOnly e)) → List (Link Expr)
+the_links ls = map (former-Expr-Chain-1-at-2.map ((e : Expr) × ReadsOnly e) Expr (λ e. e.0)) ls
+
+abbrev val_links : List (Link ((e : Expr) × ReadsOnly e)) → List (Link Meaning)
+val_links ls = map (former-Expr-Chain-1-at-2.map Expr Meaning val) (the_links ls)
+
+abbrev read_links : List (Link ((e : Expr) × ReadsOnly e)) → List ℕ
+read_links ls = concat (map reads_link (map (former-Expr-Chain-1-at-2.map Expr (List ℕ) columns_read) (the_links ls)))
 
 module _ (s : Surroundings) (q r : List Value) where
   abbrev same : ℕ → Type 0
@@ -75,6 +88,14 @@ module _ (s : Surroundings) (q r : List Value) where
   all_called f.Coalesce es h = all_present es h
   all_called function es h = ap (λ c. and_then c (applied function s.now)) (all_values es h)
 
+  all_links : (ls : List (Link ((e : Expr) × ReadsOnly e))) → Same q r (read_links ls) → (v : Value) → links_at (val_links ls) s q v ≡ links_at (val_links ls) s r v
+  all_links [] h v = refl
+  all_links (link.ToLong ∷ ls) h v = λ j. and_then (applied f.ToLong s.now (v ∷ [])) (λ w. all_links ls h w j)
+  all_links (link.With o e ∷ ls) h v =
+      let operand = e.1 s q r (first_all same (columns_read e.0) (read_links ls) h) in
+      let rest = other_all same (columns_read e.0) (read_links ls) h in
+      λ j. and_then (and_then (operand j) (λ w. applied (function_of o) s.now (v ∷ w ∷ []))) (λ w. all_links ls rest w j)
+
   level : (y : Expr-F ((e : Expr) × ReadsOnly e))
       → Same q r (reads_step (map-Expr Expr (List ℕ) columns_read (map-Expr ((e : Expr) × ReadsOnly e) Expr (λ e. e.0) y)))
       → val_step (map-Expr Expr Meaning val (map-Expr ((e : Expr) × ReadsOnly e) Expr (λ e. e.0) y)) s q
@@ -83,6 +104,10 @@ module _ (s : Surroundings) (q r : List Value) where
   level (Expr-F.Column j) h = ap Is (All-head same j [] h)
   level (Expr-F.Cell i) h = refl
   level (Expr-F.Call function args) h = all_called function args.items h
+  level (Expr-F.Chain e ls) h =
+      let first = e.value.1 s q r (first_all same (columns_read e.value.0) (read_links ls.items) h) in
+      let rest = other_all same (columns_read e.value.0) (read_links ls.items) h in
+      λ j. and_then (first j) (λ v. all_links ls.items rest v j)
 
 here : (y : Expr-F ((e : Expr) × ReadsOnly e)) → ReadsOnly (roll-Expr (map-Expr ((e : Expr) × ReadsOnly e) Expr (λ e. e.0) y))
 here y s q r h =

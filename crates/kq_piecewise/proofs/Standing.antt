@@ -3,13 +3,14 @@ use Rattle.std.proofs.Common.{◌≡◌, ◌<◌, ◌≤◌, ◌+◌, ◌-◌, �
 use Rattle.std.proofs.Math.Nat.{eq-or-lt_of_le}
 use Rattle.std.proofs.Math.ListN.{get_or-append}
 use Rattle.std.proofs.Math.Seq.{get_or-append_seam}
-use Rattle.std.proofs.lemmas.List.{map-append, length-map, length-take-le, length-drop}
+use Rattle.std.proofs.lemmas.List.{map-append, length-map, length-take-le, length-drop, take_all}
 use Rattle.std.proofs.lemmas.List.Elements.{All-nil, All-cons, All-head, All-tail, All-get_or, All-from_get_or}
 use Rattle.std.specs.List.{All, concat, range_with_len}
 use Rattle.kq_value.specs.declared.value.Value.{Value}
 use Rattle.kq_computed.specs.Computed.{Computed, Is, and_then, each}
-use Rattle.kq_columnar.specs.declared.vector.Vector.{Vector}
-use Rattle.kq_columnar.specs.Vectors.{cells_of, row_at, rows_at}
+use Rattle.kq_vector.specs.declared.vector.Vector.{Vector}
+use Rattle.kq_columnar.specs.Vectors.{row_at, rows_at}
+use Rattle.kq_vector.specs.Vectors.{cells_of}
 use Rattle.kq_expr.specs.declared.expr.Expr.{Expr}
 use Rattle.kq_expr.specs.Terms.{term_of}
 use Rattle.kq_rows.specs.Chunks.{row_at as row_of}
@@ -26,7 +27,7 @@ cell_at_columns [] (suc i) (suc j) = refl
 cell_at_columns (c ∷ columns) i zero = refl
 cell_at_columns (c ∷ columns) i (suc j) = cell_at_columns columns i j
 
-cell_in_column : (rows : List (List Value)) (i j : ℕ) → cell_of (column_of j rows) i ≡ cell_of (get_or rows i []) j
+pub cell_in_column : (rows : List (List Value)) (i j : ℕ) → cell_of (column_of j rows) i ≡ cell_of (get_or rows i []) j
 cell_in_column [] zero zero = refl
 cell_in_column [] zero (suc j) = refl
 cell_in_column [] (suc i) zero = refl
@@ -74,6 +75,9 @@ column_next rows from i j low h =
 
 pub piece_long : (rows : List (List Value)) (from to : ℕ) → from ≤ to → to ≤ length rows → length (piece_of rows from to) ≡ to - from
 piece_long rows from to low h = length-take-le (to - from) (drop from rows) (omega (arith, length-drop from rows))
+
+pub column_long : (j : ℕ) (rows : List (List Value)) (n : ℕ) → n ≡ length rows → length (column_of j (piece_of rows 0 n)) ≡ length rows
+column_long j rows n is = length-map (piece_of rows 0 n) (λ r. cell_of r j) ∙ ap length (take_all (n - 0) rows (omega arith))
 
 pub range_more : (a n k : ℕ) → k ≡ a + n → range_with_len a (suc n) ≡ range_with_len a n ++ k ∷ []
 range_more a zero k is = let same : a ≡ k = omega arith in ap (λ (m : ℕ). m ∷ []) same

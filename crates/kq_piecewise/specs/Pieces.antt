@@ -1,21 +1,29 @@
 -- Pieces of rows, and the columns that expressions read of them.
-use Rattle.std.specs.Prelude.{◌≡◌, ◌+◌, ◌-◌, if◌then◌else◌, ℕ, Bool, true, false, List, [], ◌∷◌, map, get_or, take, drop}
+use Rattle.std.specs.Prelude.{◌≡◌, ◌+◌, ◌-◌, ◌++◌, if◌then◌else◌, ℕ, Bool, true, false, List, [], ◌∷◌, map, get_or, take, drop}
 use Rattle.std.specs.List.{All, concat}
 use Rattle.kq_value.specs.declared.value.Value.{Value}
 use Rattle.kq_columnar.specs.kq_arithmetic.Logic.{is_yes}
 use Rattle.kq_computed.specs.Computed.{Computed, Is, and_then, each}
-use Rattle.kq_columnar.specs.declared.vector.Vector.{Vector}
-use Rattle.kq_columnar.specs.Vectors.{cells_of}
+use Rattle.kq_vector.specs.declared.vector.Vector.{Vector}
+use Rattle.kq_vector.specs.Vectors.{cells_of}
 use Rattle.kq_expr.specs.declared.expr.Expr.{Expr, fold-Expr}
 use Rattle.kq_expr.specs.declared.expr.Expr.TheOpen.{Expr-F}
+use Rattle.kq_expr.specs.declared.expr.Link.{Link}
+use Rattle.kq_expr.specs.declared.expr.Link.TheVariants as link
 use Rattle.kq_expr.specs.Terms.{Term, column, term_of}
 use Rattle.kq_columnar.specs.kq_scalar.Val.{cell_of}
+
+-- the columns that the operand of a link reads
+abbrev pub reads_link : Link (List ℕ) → List ℕ
+reads_link link.ToLong = []
+reads_link (link.With o js) = js
 
 abbrev pub reads_step : Expr-F (List ℕ) → List ℕ
 reads_step (Expr-F.Literal v) = []
 reads_step (Expr-F.Column j) = j ∷ []
 reads_step (Expr-F.Cell i) = []
 reads_step (Expr-F.Call function args) = concat args.items
+reads_step (Expr-F.Chain js ls) = js.value ++ concat (map reads_link ls.items)
 
 -- the numbers of the columns that an expression reads
 abbrev pub columns_read : Expr → List ℕ

@@ -1,8 +1,9 @@
 // The places of the rows for which a condition is true.
-ghost use Rattle.std.specs.Prelude.{◌≡◌, ◌++◌, ◌+◌, [], ◌∷◌, if◌then◌else◌, IfOk, OnOk};
+ghost use Rattle.std.specs.Prelude.{◌≡◌, ◌++◌, ◌+◌, ◌<◌, ◌^◌, [], ◌∷◌, if◌then◌else◌, OnOk, length, map};
+ghost use Rattle.kq_value.specs.declared.value.Value.TheVariants.{Bool as Truth};
 ghost use Rattle.kq_computed.specs.Computed.{AnswersAs};
-ghost use Rattle.kq_columnar.specs.Vectors.{cells_of};
 ghost use Rattle.kq_expr.specs.Terms.{term_of};
+ghost use Rattle.kq_vector.specs.Vectors.{cells_of};
 ghost use Rattle.kq_columnar.specs.kq_scalar.Val.{meaning, surroundings};
 ghost use Rattle.kq_piecewise.specs.Pieces.{places_true, places_where};
 
@@ -12,7 +13,7 @@ use kq_columnar::{Vector, is_yes};
 use kq_computed::EvalFault;
 use kq_expr::Expr;
 use kq_value::{Memory, Value};
-use std::alloc::{AllocError, Global};
+use std::alloc::Global;
 
 /// The places of the rows for which the condition is true, in order, with the cells of the scalar lets and the ticks of the command's moment.
 pub fn places_kept<R: Relation>(
@@ -21,7 +22,7 @@ pub fn places_kept<R: Relation>(
     condition: &Expr,
     lets: &[Value],
     now: i64,
-) -> Result<Vec<u32>, EvalFault>
+) -> Result<Vec<usize>, EvalFault>
     ensures { AnswersAs (λ ps. ps.items) (places_where (meaning (term_of condition.now) (surroundings now lets.now)) (R.rows relation.now)) result }
 {
     let mut places = Vec::new(alloc);
@@ -36,40 +37,41 @@ pub fn places_kept<R: Relation>(
 }
 
 // Puts the places of the true values last, of which the first has the place `from`.
-fn push_places(places: &mut Vec<u32>, values: Vector, from: usize) -> Result<(), Memory>
-    ensures { OnOk result (places.new.items ≡ places.old.items ++ places_true from (cells_of values)) }
+fn push_places(places: &mut Vec<usize>, values: Vector, from: usize) -> Result<(), Memory>
+    requires { from + length (cells_of values) < 2 ^ 63 }
+    ensures { OnOk result (places.new.items ≡ places.old.items ++ places_true from (cells_of values.entry)) }
 {
-    push_true(places, &values, from)
+    match values.truths() {
+        Some(truths) => push_truths(places, truths, from),
+        None => push_true(places, &values, from),
+    }
 }
 
-fn push_true(places: &mut Vec<u32>, values: &Vector, from: usize) -> Result<(), Memory>
+fn push_truths(places: &mut Vec<usize>, truths: &[bool], from: usize) -> Result<(), Memory>
+    requires { from + length truths.now < 2 ^ 63 }
+    ensures { OnOk result (places.new.items ≡ places.old.items ++ places_true from (map Truth truths.now)) }
+{
+    for i in 0..truths.len() {
+        push_if(places, truths[i], from + i)?;
+    }
+    Ok(())
+}
+
+fn push_true(places: &mut Vec<usize>, values: &Vector, from: usize) -> Result<(), Memory>
+    requires { from + length (cells_of values.now) < 2 ^ 63 }
     ensures { OnOk result (places.new.items ≡ places.old.items ++ places_true from (cells_of values.now)) }
 {
     for i in 0..values.len() {
-        push_if(places, is_yes(&values.cell(i)?), from, i)?;
+        push_if(places, is_yes(&values.cell(i)?), from + i)?;
     }
     Ok(())
 }
 
-fn push_if(places: &mut Vec<u32>, kept: bool, from: usize, i: usize) -> Result<(), Memory>
-    ensures { OnOk result (places.new.items ≡ places.old.items ++ (if kept then (from + i) ∷ [] else [])) }
+fn push_if(places: &mut Vec<usize>, kept: bool, place: usize) -> Result<(), Memory>
+    ensures { OnOk result (places.new.items ≡ places.old.items ++ (if kept then place ∷ [] else [])) }
 {
     if kept {
-        places.push(place_of(from, i)?)?;
+        places.push(place)?;
     }
     Ok(())
-}
-
-// A place as rows are selected by it, in 32 bits. There may be up to 2^63 - 1 rows, and rows without columns take no memory, so
-// that a larger place can come up: it counts as a want of memory.
-fn place_of(from: usize, i: usize) -> Result<u32, Memory>
-    ensures { IfOk result (λ p. p ≡ from + i) }
-{
-    match from.checked_add(i) {
-        Some(place) => match u32::try_from(place) {
-            Ok(place) => Ok(place),
-            Err(_) => Err(AllocError),
-        },
-        None => Err(AllocError),
-    }
 }

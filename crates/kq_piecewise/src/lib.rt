@@ -14,9 +14,8 @@ mod values;
 
 pub use copy::copy_row;
 pub use filter::places_kept;
-pub use kq_columnar::eval_row;
+pub use kq_columnar::{Vector, eval_row};
 pub use kq_expr::Expr;
 pub use map::map_rows;
-pub use numbers::Number;
 pub use relation::Relation;
-pub use values::values_over;
+pub use values::{values_over, vector_over};

@@ -42,7 +42,7 @@ pub fn map_rows<R: Relation>(
 }
 
 // A source for each expression, with its values over the rows from a place on, up to another.
-fn sources_of<R: Relation>(
+fn sources_of<'v, R: Relation>(
     alloc: Global,
     relation: &R,
     from: usize,
@@ -50,7 +50,7 @@ fn sources_of<R: Relation>(
     exprs: &[Expr],
     lets: &[Value],
     now: i64,
-) -> Result<Vec<Source>, EvalFault>
+) -> Result<Vec<Source<'v>>, EvalFault>
     requires { (from ≤ to) × (to ≤ length (R.rows relation.now)) }
     ensures rows { MakeRows (map term_of exprs.now) (surroundings now lets.now) (piece_of (R.rows relation.now) from to) result }
     ensures wide { IfOk result (λ xs. length xs.items ≡ length exprs.now) }
@@ -76,8 +76,8 @@ fn push_rows<R: Relation>(
 ) -> Result<(), Memory>
     requires piece { (from ≤ to) × (to ≤ length (R.rows relation.now)) }
     requires wide { All (HasWidth (length sources.items)) mapped.old }
-    ensures ok { OnOk result (mapped.new ≡ mapped.old ++ rows_from sources.items 0 (piece_of (R.rows relation.now) from to)) }
-    ensures wide { OnOk result (All (HasWidth (length sources.items)) mapped.new) }
+    ensures ok { OnOk result (mapped.new ≡ mapped.old ++ rows_from sources.entry.items 0 (piece_of (R.rows relation.now) from to)) }
+    ensures wide { OnOk result (All (HasWidth (length sources.entry.items)) mapped.new) }
 {
     let mut left = sources;
     let width = left.len();

@@ -1,16 +1,17 @@
 // Expressions over one piece.
-ghost use Rattle.std.specs.Prelude.{◌≡◌, ◌≤◌, IfOk, length};
+ghost use Rattle.std.specs.Prelude.{◌≡◌, ◌-◌, ◌≤◌, IfOk, length};
 ghost use Rattle.std.specs.List.{range_with_len};
 ghost use Rattle.kq_computed.specs.Computed.{AnswersAs, each};
-ghost use Rattle.kq_columnar.specs.Vectors.{cells_of};
+ghost use Rattle.kq_columnar.specs.Vectors.{rows_at};
 ghost use Rattle.kq_expr.specs.Terms.{term_of};
-ghost use Rattle.kq_columnar.specs.kq_scalar.Val.{meaning, surroundings};
+ghost use Rattle.kq_vector.specs.Vectors.{cells_of};
+ghost use Rattle.kq_columnar.specs.kq_scalar.Val.{meaning, surroundings, val};
 ghost use Rattle.kq_piecewise.specs.Pieces.{piece_of};
 
 use crate::columns::columns_in;
 use crate::reads::columns_of;
 use crate::relation::Relation;
-use kq_columnar::{Vector, eval_column};
+use kq_columnar::{Vector, eval_column, owned};
 use kq_computed::EvalFault;
 use kq_expr::Expr;
 use kq_value::{Memory, Value};
@@ -21,7 +22,7 @@ use std::slice::from_ref;
 pub(crate) const PIECE: usize = 4096;
 
 // The values of an expression over the rows from a place on, up to another.
-pub(crate) fn eval_piece<R: Relation>(
+pub(crate) fn eval_piece<'v, R: Relation>(
     alloc: Global,
     relation: &R,
     from: usize,
@@ -29,14 +30,32 @@ pub(crate) fn eval_piece<R: Relation>(
     expr: &Expr,
     lets: &[Value],
     now: i64,
-) -> Result<Vector, EvalFault>
+) -> Result<Vector<'v>, EvalFault>
     requires { (from ≤ to) × (to ≤ length (R.rows relation.now)) }
-    ensures { AnswersAs cells_of (each (meaning (term_of expr.now) (surroundings now lets.now)) (piece_of (R.rows relation.now) from to)) result }
+    ensures values { AnswersAs cells_of (each (meaning (term_of expr.now) (surroundings now lets.now)) (piece_of (R.rows relation.now) from to)) result }
+    ensures beside { IfOk result (λ v. length (cells_of v) ≡ to - from) }
 {
     let reads = columns_of(alloc, from_ref(expr))?;
     let columns = columns_in(alloc, relation, from, to, &reads)?;
     let places = places_below(alloc, to - from)?;
-    eval_column(alloc, expr, &columns, &places, lets, now)
+    eval_owned(alloc, expr, &columns, &places, lets, now)
+}
+
+// The values of an expression over the rows of the columns at these places, none of them lent.
+pub(crate) fn eval_owned<'v>(
+    alloc: Global,
+    expr: &Expr,
+    columns: &[Vector],
+    places: &[usize],
+    lets: &[Value],
+    now: i64,
+) -> Result<Vector<'v>, EvalFault>
+    ensures { AnswersAs cells_of (each (val expr.now (surroundings now lets.now)) (rows_at columns.now places.now)) result }
+{
+    match eval_column(alloc, expr, columns, places, lets, now) {
+        Ok(vector) => Ok(owned(alloc, vector)?),
+        Err(fault) => Err(fault),
+    }
 }
 
 pub(crate) fn places_below(alloc: Global, count: usize) -> Result<Vec<usize>, Memory>

@@ -1,11 +1,15 @@
 // Where rows stand.
-ghost use Rattle.std.specs.Prelude.{◌≡◌, ◌<◌, ◌^◌, IfOk, IfSome, length, slice_get};
+ghost use Rattle.std.specs.Prelude.{◌≡◌, ◌<◌, ◌≤◌, ◌^◌, IfOk, IfSome, length, map, slice_get};
 ghost use Rattle.kq_rows.specs.Chunks.{row_at};
+ghost use Rattle.kq_vector.specs.Vectors.{cells_of};
 ghost use Rattle.kq_columnar.specs.kq_scalar.Val.{cell_of};
+ghost use Rattle.kq_piecewise.specs.Pieces.{column_of, piece_of};
 
-use crate::numbers::Number;
+use crate::numbers::{numbers_at, numbers_between};
+use kq_columnar::Vector;
 use kq_rows::Rows;
 use kq_value::{Memory, Ty, Value};
+use std::alloc::Global;
 
 /// Rows, in whatever form their cells are kept.
 pub trait Relation {
@@ -25,10 +29,20 @@ pub trait Relation {
         requires { i < length (rows self.now) }
         ensures { IfOk result (λ cell. cell ≡ slice_get (row_at (rows self.now) i) j) };
 
-    /// The number of this kind in the cell of a row in a column, or none where it isn't known for one.
-    fn number<N: Number>(&self, i: usize, j: usize) -> Result<Option<i64>, Memory>
-        requires { i < length (rows self.now) }
-        ensures { IfOk result (λ number. IfSome number (λ z. N.cell z ≡ cell_of (row_at (rows self.now) i) j)) };
+    /// A column of the rows from a place on, up to another: lent where it lies, or made of numbers. None where a copy of each cell is as good.
+    fn lend(
+        &self,
+        alloc: Global,
+        j: usize,
+        from: usize,
+        to: usize,
+    ) -> Result<Option<Vector<'_>>, Memory>
+        requires { (from ≤ to) × (to ≤ length (rows self.now)) }
+        ensures { IfOk result (λ o. IfSome o (λ v. cells_of v ≡ column_of j (piece_of (rows self.now) from to))) };
+
+    /// The column of the rows at these places, or none likewise. Cells may be copied.
+    fn pick(&self, alloc: Global, j: usize, places: &[usize]) -> Result<Option<Vector<'_>>, Memory>
+        ensures { IfOk result (λ o. IfSome o (λ v. cells_of v ≡ map (λ p. cell_of (row_at (rows self.now) p) j) places.now)) };
 }
 
 impl Relation for Rows {
@@ -42,8 +56,23 @@ impl Relation for Rows {
         copy_of(row_in(self, i), j)
     }
 
-    fn number<N: Number>(&self, i: usize, j: usize) -> Result<Option<i64>, Memory> {
-        Ok(number_at::<N>(row_in(self, i), j))
+    fn lend(
+        &self,
+        alloc: Global,
+        j: usize,
+        from: usize,
+        to: usize,
+    ) -> Result<Option<Vector<'_>>, Memory> {
+        numbers_between(alloc, self, j, from, to)
+    }
+
+    fn pick(
+        &self,
+        alloc: Global,
+        j: usize,
+        places: &[usize],
+    ) -> Result<Option<Vector<'_>>, Memory> {
+        numbers_at(alloc, self, j, places)
     }
 }
 
@@ -61,12 +90,6 @@ fn copy_of(row: &[Value], j: usize) -> Result<Option<Value>, Memory>
         Some(cell) => Ok(Some(cell.clone_in()?)),
         None => Ok(None),
     }
-}
-
-fn number_at<N: Number>(row: &[Value], j: usize) -> Option<i64>
-    ensures { IfSome result (λ z. N.cell z ≡ cell_of row.now j) }
-{
-    if j < row.len() { N::of(&row[j]) } else { None }
 }
 
 // A copy of the cell, and a null where the row ends before it.

@@ -1,16 +1,18 @@
 // Where the values of an expression over the rows of a piece come from.
 ghost use Rattle.std.specs.Prelude.{◌≡◌, ◌<◌, ℕ, List, IfOk, OnOk, length};
 ghost use Rattle.kq_value.specs.declared.value.Value.{Value as Cell};
-ghost use Rattle.kq_columnar.specs.Vectors.{cells_of, rows_at};
+ghost use Rattle.kq_columnar.specs.Vectors.{rows_at};
+ghost use Rattle.kq_vector.specs.Vectors.{cells_of};
 ghost use Rattle.kq_computed.specs.Computed.{each};
 ghost use Rattle.kq_expr.specs.Terms.{term_of};
 ghost use Rattle.kq_rows.specs.Chunks.{row_at};
 ghost use Rattle.kq_columnar.specs.kq_scalar.Val.{cell_of, surroundings, val};
 ghost use Rattle.kq_piecewise.specs.Sources.{Sourced, StandBehind, cell_from};
 
+use crate::piece::eval_owned;
 use crate::reads::column_alone;
 use crate::relation::{Relation, cell_or_null};
-use kq_columnar::{Vector, eval_column};
+use kq_columnar::Vector;
 use kq_computed::EvalFault;
 use kq_expr::Expr;
 use kq_value::{Memory, Ty, Value};
@@ -19,25 +21,25 @@ use std::mem;
 
 // A column of the rows themselves, or values that were made of the piece.
 #[derive(Drop)]
-pub(crate) enum Source {
+pub(crate) enum Source<'v> {
     Column(usize),
-    Made(Vector),
+    Made(Vector<'v>),
 }
 
 // The source of an expression's values over the rows at these places. A column alone isn't looked for among the columns, which needn't have it.
-pub(crate) fn source_of(
+pub(crate) fn source_of<'v>(
     alloc: Global,
     expr: &Expr,
     columns: &[Vector],
     places: &[usize],
     lets: &[Value],
     now: i64,
-) -> Result<Source, EvalFault>
+) -> Result<Source<'v>, EvalFault>
     ensures { Sourced (term_of expr.now) (each (val expr.now (surroundings now lets.now)) (rows_at columns.now places.now)) result }
 {
     match column_alone(expr) {
         Some(j) => Ok(Source::Column(j)),
-        None => match eval_column(alloc, expr, columns, places, lets, now) {
+        None => match eval_owned(alloc, expr, columns, places, lets, now) {
             Ok(vector) => Ok(Source::Made(vector)),
             Err(fault) => Err(fault),
         },

@@ -1,11 +1,11 @@
 // The values of an expression over rows.
 ghost use Rattle.std.specs.Prelude.{◌≡◌, ◌++◌, IfOk, OnOk, length};
 ghost use Rattle.kq_computed.specs.Computed.{AnswersAs, each};
-ghost use Rattle.kq_columnar.specs.Vectors.{cells_of};
 ghost use Rattle.kq_expr.specs.Terms.{term_of};
+ghost use Rattle.kq_vector.specs.Vectors.{cells_of};
 ghost use Rattle.kq_columnar.specs.kq_scalar.Val.{meaning, surroundings};
 
-use crate::columns::cells_in;
+use crate::columns::{cells_in, column_in};
 use crate::piece::{PIECE, eval_piece};
 use crate::reads::column_alone;
 use crate::relation::Relation;
@@ -14,6 +14,24 @@ use kq_computed::EvalFault;
 use kq_expr::Expr;
 use kq_value::{Memory, Value};
 use std::alloc::Global;
+
+/// The value of an expression over each row as one column, with the cells of the scalar lets and the ticks of the command's moment: a column
+/// alone is lent where it can be. It is made of all rows at once, so these should be few.
+pub fn vector_over<'a, R: Relation>(
+    alloc: Global,
+    relation: &'a R,
+    expr: &Expr,
+    lets: &[Value],
+    now: i64,
+) -> Result<Vector<'a>, EvalFault>
+    ensures values { AnswersAs cells_of (each (meaning (term_of expr.now) (surroundings now lets.now)) (R.rows relation.now)) result }
+    ensures beside { IfOk result (λ v. length (cells_of v) ≡ length (R.rows relation.now)) }
+{
+    match column_alone(expr) {
+        Some(j) => Ok(column_in(alloc, relation, 0, relation.len(), j)?),
+        None => eval_piece(alloc, relation, 0, relation.len(), expr, lets, now),
+    }
+}
 
 /// The value of an expression over each row, with the cells of the scalar lets and the ticks of the command's moment.
 pub fn values_over<R: Relation>(
@@ -54,7 +72,7 @@ fn values_by_pieces<R: Relation>(
 }
 
 fn push_cells(values: &mut Vec<Value>, vector: Vector) -> Result<(), Memory>
-    ensures { OnOk result (values.new.items ≡ values.old.items ++ cells_of vector) }
+    ensures { OnOk result (values.new.items ≡ values.old.items ++ cells_of vector.entry) }
 {
     match vector {
         Vector::Cells(mut cells) => values.append(&mut cells),

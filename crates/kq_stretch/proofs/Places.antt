@@ -1,10 +1,11 @@
 -- The rows of pieces, by their places.
-use Rattle.std.proofs.Common.{◌≡◌, ◌<◌, ◌≤◌, ◌+◌, ◌-◌, ℕ, zero, suc, min, List, [], ◌∷◌, length, map, get_or, drop, refl, sym, ap, ◌∙◌, arith}
-use Rattle.std.proofs.lemmas.List.{get_or-drop, get_or-map, get_or-take, length-drop, length-map, length-take}
+use Rattle.std.proofs.Common.{◌≡◌, ◌<◌, ◌≤◌, ◌+◌, ◌-◌, ℕ, zero, suc, min, List, [], ◌∷◌, length, map, get_or, take, drop, refl, sym, ap, ◌∙◌, arith}
+use Rattle.std.proofs.lemmas.List.{drop-drop, drop-map, drop-take, get_or-drop, get_or-map, get_or-take, length-drop, length-map, length-take, take-map, take-take}
 use Rattle.std.proofs.lemmas.List.Elements.{All-head, All-tail}
 use Rattle.std.specs.List.{All}
 use Rattle.kq_piecewise.specs.Operators.{Row}
-use Rattle.kq_piecewise.specs.Pieces.{piece_of}
+use Rattle.kq_piecewise.specs.Pieces.{column_of, piece_of}
+use Rattle.kq_piecewise.specs.kq_scalar.Val.{cell_of}
 use Rattle.kq_rows.specs.Chunks.{row_at}
 
 pub piece_length : (rows : List Row) (from to : ℕ) → length (piece_of rows from to) ≡ min (to - from) (length rows - from)
@@ -17,6 +18,34 @@ pub piece_row : (rows : List Row) (from to i : ℕ) → i < length (piece_of row
 piece_row rows from to i h =
     let n = piece_length rows from to in
     sym (get_or-take (to - from) (drop from rows) i [] (omega (arith, n, h)) ∙ get_or-drop from rows i [])
+
+-- a piece of a piece
+pub piece_again : (rows : List Row) (a b from to : ℕ) → from ≤ to → to ≤ length (piece_of rows a b) → piece_of (piece_of rows a b) from to ≡ piece_of rows (a + from) (a + to)
+piece_again rows a b from to low high =
+    let n = piece_length rows a b in
+    let m = (b - a) - from in
+    let whole : b - a ≡ from + m = omega (arith, n, low, high) in
+    let within : to - from ≤ m = omega (arith, n, low, high) in
+    let long : to - from ≡ (a + to) - (a + from) = omega arith in
+    ap (λ (k : ℕ). take (to - from) (drop from (take k (drop a rows)))) whole
+    ∙ ap (take (to - from)) (drop-take from m (drop a rows))
+    ∙ take-take (to - from) m (drop from (drop a rows)) within
+    ∙ ap (take (to - from)) (drop-drop from a rows)
+    ∙ ap (λ (k : ℕ). take k (drop (a + from) rows)) long
+
+pub piece_ends : (rows : List Row) (a b from to : ℕ) → from < to → to ≤ length (piece_of rows a b) → a + to ≤ length rows
+piece_ends rows a b from to less high = let n = piece_length rows a b in omega (arith, n, less, high)
+
+-- a column of chosen rows, from one on, up to another
+pub column_chosen : (rows : List Row) (places qs : List ℕ) (from to j : ℕ) → qs ≡ take (to - from) (drop from places)
+    → map (λ p. cell_of (row_at rows p) j) qs ≡ column_of j (piece_of (map (row_at rows) places) from to)
+column_chosen rows places qs from to j is =
+    ap (map (λ p. cell_of (row_at rows p) j)) is ∙ sym (twice (take (to - from) (drop from places)))
+    ∙ ap (column_of j) (sym (ap (take (to - from)) (drop-map (row_at rows) from places) ∙ take-map (row_at rows) (to - from) (drop from places)))
+  where
+    twice : (ps : List ℕ) → map (λ r. cell_of r j) (map (row_at rows) ps) ≡ map (λ p. cell_of (row_at rows p) j) ps
+    twice [] = refl
+    twice (p ∷ ps) = ap (λ cs. cell_of (row_at rows p) j ∷ cs) (twice ps)
 
 -- the row at a chosen place
 pub chosen_row : (rows : List Row) (places : List ℕ) (i p : ℕ) → i < length places → p ≡ get_or places i p → row_at (map (row_at rows) places) i ≡ row_at rows p

@@ -4,6 +4,7 @@ ghost use Rattle.std.specs.List.{All};
 ghost use Rattle.kq_computed.specs.Computed.{Answers, AnswersAs};
 ghost use Rattle.kq_expr.specs.Terms.{term_of};
 ghost use Rattle.kq_piecewise.specs.Operators.{filtered};
+ghost use Rattle.kq_piecewise.specs.Pieces.{piece_of};
 ghost use Rattle.kq_reshape.specs.Expand.{expanded};
 ghost use Rattle.kq_rows.specs.Chunks.{row_at, same_width};
 ghost use Rattle.kq_piecewise.specs.kq_scalar.Val.{surroundings};
@@ -64,22 +65,38 @@ fn keep<R: Relation + Drop>(
 fn select<R: Relation + Drop>(
     alloc: Global,
     piece: Piece<R>,
-    places: &[u32],
+    places: &[usize],
 ) -> Result<Piece<R>, Memory>
     requires { All (λ p. p < length (rows_in R.rows piece)) places.now }
     ensures { IfOk result (λ kept. rows_in R.rows kept ≡ map (row_at (rows_in R.rows piece)) places.now) }
 {
     match piece {
-        Piece::Part(relation, from, _) => Ok(Piece::Chosen(
-            relation,
-            shifted(alloc, places, from)?,
-        )),
+        Piece::Part(relation, from, to) => {
+            let chosen = chosen_between(alloc, &relation, from, to, places)?;
+            Ok(Piece::Chosen(relation, chosen))
+        }
         Piece::Chosen(relation, before) => {
             let chosen = chosen_of(alloc, &before, places)?;
             Ok(Piece::Chosen(relation, chosen))
         }
         Piece::Own(rows) => Ok(Piece::Own(rows.select(places)?)),
     }
+}
+
+// Where the rows with these places among those from a place on, up to another, stand in the relation.
+fn chosen_between<R: Relation>(
+    alloc: Global,
+    relation: &R,
+    from: usize,
+    to: usize,
+    places: &[usize],
+) -> Result<Vec<usize>, Memory>
+    requires { All (λ p. p < length (piece_of (R.rows relation.now) from to)) places.now }
+    ensures { IfOk result (λ ps. map (row_at (R.rows relation.now)) ps.items ≡ map (row_at (piece_of (R.rows relation.now) from to)) places.now) }
+{
+    // There are fewer than 2^63 rows, so the sums fit.
+    let _count = relation.len();
+    shifted(alloc, places, from)
 }
 
 // A row for each part of the values of an expression.

@@ -9,7 +9,7 @@ mod operator;
 mod piece;
 mod run;
 
-pub use kq_piecewise::{Number, Relation, copy_row, eval_row, map_rows};
+pub use kq_piecewise::{Relation, Vector, copy_row, eval_row, map_rows, vector_over};
 pub use kq_reshape::{RangeFault, append_arm, distinct_rows, range_rows};
 pub use operator::Operator;
 pub use piece::Piece;

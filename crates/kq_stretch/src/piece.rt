@@ -1,12 +1,12 @@
 // Pieces of rows.
-ghost use Rattle.std.specs.Prelude.{◌≡◌, ◌<◌, ◌^◌, IfOk, IfSome, length, map, slice_get};
+ghost use Rattle.std.specs.Prelude.{◌≡◌, ◌<◌, ◌≤◌, ◌^◌, IfOk, IfSome, length, map, slice_get};
 ghost use Rattle.kq_rows.specs.Chunks.{row_at, same_width};
-ghost use Rattle.kq_piecewise.specs.Pieces.{piece_of};
-ghost use Rattle.kq_piecewise.specs.kq_scalar.Val.{cell_of};
+ghost use Rattle.kq_vector.specs.Vectors.{cells_of};
+ghost use Rattle.kq_piecewise.specs.Pieces.{column_of, piece_of};
 ghost use Rattle.kq_stretch.specs.Pieces.{rows_in};
 
 use crate::copies::copy_rows;
-use kq_piecewise::{Number, Relation};
+use kq_piecewise::{Relation, Vector};
 use kq_rows::Rows;
 use kq_value::{Memory, Value};
 use std::alloc::Global;
@@ -17,7 +17,7 @@ pub enum Piece<R> {
     /// The rows from a place on, up to another.
     Part(R, usize, usize),
     /// The rows at these places, in this order.
-    Chosen(R, Vec<u32>),
+    Chosen(R, Vec<usize>),
     /// Rows of its own.
     Own(Rows),
 }
@@ -43,11 +43,31 @@ impl<R: Relation + Drop> Relation for Piece<R> {
         }
     }
 
-    fn number<N: Number>(&self, i: usize, j: usize) -> Result<Option<i64>, Memory> {
+    fn lend(
+        &self,
+        alloc: Global,
+        j: usize,
+        from: usize,
+        to: usize,
+    ) -> Result<Option<Vector<'_>>, Memory> {
         match self {
-            Piece::Part(relation, from, to) => number_between::<N, R>(relation, *from, *to, i, j),
-            Piece::Chosen(relation, places) => number_chosen::<N, R>(relation, places, i, j),
-            Piece::Own(rows) => rows.number::<N>(i, j),
+            Piece::Part(relation, start, end) => lend_between(
+                alloc, relation, *start, *end, j, from, to,
+            ),
+            Piece::Chosen(relation, places) => lend_chosen(alloc, relation, places, j, from, to),
+            Piece::Own(rows) => rows.lend(alloc, j, from, to),
+        }
+    }
+
+    fn pick(
+        &self,
+        alloc: Global,
+        j: usize,
+        places: &[usize],
+    ) -> Result<Option<Vector<'_>>, Memory> {
+        match self {
+            Piece::Own(rows) => rows.pick(alloc, j, places),
+            Piece::Part(..) | Piece::Chosen(..) => Ok(None),
         }
     }
 }
@@ -89,17 +109,26 @@ fn cell_between<R: Relation>(
     relation.cell(place_between(relation, from, to, i), j)
 }
 
-fn number_between<N: Number, R: Relation>(
-    relation: &R,
+// A column of the rows from a place on, up to another, of those from `start` on, up to `end`.
+fn lend_between<'a, R: Relation>(
+    alloc: Global,
+    relation: &'a R,
+    start: usize,
+    end: usize,
+    j: usize,
     from: usize,
     to: usize,
-    i: usize,
-    j: usize,
-) -> Result<Option<i64>, Memory>
-    requires { i < length (piece_of (R.rows relation.now) from to) }
-    ensures { IfOk result (λ number. IfSome number (λ z. N.cell z ≡ cell_of (row_at (piece_of (R.rows relation.now) from to) i) j)) }
+) -> Result<Option<Vector<'a>>, Memory>
+    requires { (from ≤ to) × (to ≤ length (piece_of (R.rows relation.now) start end)) }
+    ensures { IfOk result (λ o. IfSome o (λ v. cells_of v ≡ column_of j (piece_of (piece_of (R.rows relation.now) start end) from to))) }
 {
-    relation.number::<N>(place_between(relation, from, to, i), j)
+    // There are fewer than 2^63 rows, so the sums fit.
+    let _count = relation.len();
+    if from < to {
+        relation.lend(alloc, j, start + from, start + to)
+    } else {
+        Ok(None)
+    }
 }
 
 // The place in the relation of a row from a place on, up to another.
@@ -115,14 +144,14 @@ fn place_between<R: Relation>(relation: &R, from: usize, to: usize, i: usize) ->
 
 fn cell_chosen<R: Relation>(
     relation: &R,
-    places: &[u32],
+    places: &[usize],
     i: usize,
     j: usize,
 ) -> Result<Option<Value>, Memory>
     requires { i < length places.now }
     ensures { IfOk result (λ cell. cell ≡ slice_get (row_at (map (row_at (R.rows relation.now)) places.now) i) j) }
 {
-    let place = places[i] as usize;
+    let place = places[i];
     if place < relation.len() {
         relation.cell(place, j)
     } else {
@@ -130,19 +159,17 @@ fn cell_chosen<R: Relation>(
     }
 }
 
-fn number_chosen<N: Number, R: Relation>(
-    relation: &R,
-    places: &[u32],
-    i: usize,
+// A column of the rows at these of the places, from one on, up to another.
+fn lend_chosen<'a, R: Relation>(
+    alloc: Global,
+    relation: &'a R,
+    places: &[usize],
     j: usize,
-) -> Result<Option<i64>, Memory>
-    requires { i < length places.now }
-    ensures { IfOk result (λ number. IfSome number (λ z. N.cell z ≡ cell_of (row_at (map (row_at (R.rows relation.now)) places.now) i) j)) }
+    from: usize,
+    to: usize,
+) -> Result<Option<Vector<'a>>, Memory>
+    requires { (from ≤ to) × (to ≤ length places.now) }
+    ensures { IfOk result (λ o. IfSome o (λ v. cells_of v ≡ column_of j (piece_of (map (row_at (R.rows relation.now)) places.now) from to))) }
 {
-    let place = places[i] as usize;
-    if place < relation.len() {
-        relation.number::<N>(place, j)
-    } else {
-        Ok(None)
-    }
+    relation.pick(alloc, j, &places[from..to])
 }

@@ -1,6 +1,6 @@
 use Rattle.std.proofs.Common.{◌≡◌, ◌<◌, [], get_or, length, map}
 use Rattle.std.specs.List.{All}
-use Rattle.kq_columnar.specs.Vectors.{cells_of}
+use Rattle.kq_vector.specs.Vectors.{cells_of}
 use Rattle.kq_piecewise.specs.Pieces.{column_of, piece_of}
 use Rattle.kq_piecewise.proofs.columns.columns_in.Given as goal
 

@@ -1,5 +1,5 @@
 use Rattle.std.proofs.Common.{◌≡◌, ◌+◌, ◌++◌, ap, arith, add-one}
-use Rattle.kq_columnar.specs.Vectors.{cells_of}
+use Rattle.kq_vector.specs.Vectors.{cells_of}
 use Rattle.kq_piecewise.specs.Pieces.{places_true}
 use Rattle.kq_piecewise.proofs.Kept.{places_step, places_all}
 use Rattle.kq_piecewise.proofs.filter.push_true.Goals as goal

@@ -3,11 +3,13 @@ use Rattle.std.proofs.lemmas.Int.{to_z-of_z}
 use Rattle.std.specs.List.{concat, range_with_len}
 use Rattle.kq_value.specs.declared.value.Value.{Value}
 use Rattle.kq_computed.specs.Computed.{Computed, AnswersAs, each}
-use Rattle.kq_columnar.specs.Vectors.{cells_of, rows_at}
+use Rattle.kq_columnar.specs.Vectors.{rows_at}
+use Rattle.kq_vector.specs.Vectors.{cells_of}
 use Rattle.kq_expr.specs.declared.expr.Expr.{Expr}
 use Rattle.kq_expr.specs.Terms.{term_of}
 use Rattle.kq_columnar.specs.kq_scalar.Val.{meaning, surroundings, val}
 use Rattle.kq_piecewise.specs.Pieces.{Hold, columns_read, piece_of}
+use Rattle.kq_piecewise.proofs.Laws.{answered_long}
 use Rattle.kq_piecewise.proofs.Standing.{piece_long, reads_one, stands_for}
 use Rattle.kq_piecewise.proofs.piece.eval_piece.Goals as goal
 
@@ -17,11 +19,13 @@ returns g c =
     let e = c.args.expr.now in
     let s = surroundings c.args.now c.args.lets.now in
     let rows = piece_of (g.R.Relation.rows c.args.relation.now) c.args.from c.args.to in
+    let long = piece_long (g.R.Relation.rows c.args.relation.now) c.args.from c.args.to c.requires.0 c.requires.1 in
     let columns = c.in_ok-columns.columns.items in
     let read : c.deref.result.now ≡ columns_read e = c.deref.ensures.value ∙ c.in_ok-reads.ensures ∙ ap (λ (es : List Expr). concat (map columns_read es)) c.from_ref.ensures.value ∙ reads_one e in
     let held = subst (λ (js : List ℕ). Hold columns rows js) read c.in_ok-columns.ensures in
     let places : c.deref-3.result.now ≡ range_with_len 0 (c.args.to - c.args.from) = c.deref-3.ensures.value ∙ c.in_ok-places.ensures in
     let is : each (val e s) (rows_at c.deref-2.result.now c.deref-3.result.now) ≡ each (meaning (term_of e) s) rows =
     ((λ j. each (val e s) (rows_at (c.deref-2.ensures.value j) (places j)))
-    ∙ stands_for e s columns rows (c.args.to - c.args.from) (piece_long (g.R.Relation.rows c.args.relation.now) c.args.from c.args.to c.requires.0 c.requires.1) held) in
-    subst (λ (o : Computed (List Value)). AnswersAs cells_of o c.eval_column.result) is (subst (λ (z : ℤ). AnswersAs cells_of (each (val e (surroundings z c.args.lets.now)) (rows_at c.deref-2.result.now c.deref-3.result.now)) c.eval_column.result) same c.eval_column.ensures)
+    ∙ stands_for e s columns rows (c.args.to - c.args.from) long held) in
+    let values = subst (λ (o : Computed (List Value)). AnswersAs cells_of o c.eval_owned.result) is (subst (λ (z : ℤ). AnswersAs cells_of (each (val e (surroundings z c.args.lets.now)) (rows_at c.deref-2.result.now c.deref-3.result.now)) c.eval_owned.result) same c.eval_owned.ensures) in
+    record { values = values; beside = answered_long (meaning (term_of e) s) cells_of rows (c.args.to - c.args.from) c.eval_owned.result long values }

@@ -1,5 +1,5 @@
 use Rattle.std.proofs.Common.{arith, add-one}
-use Rattle.kq_columnar.specs.Vectors.{cells_of}
+use Rattle.kq_vector.specs.Vectors.{cells_of}
 use Rattle.kq_piecewise.proofs.Standing.{cells_more}
 use Rattle.kq_piecewise.proofs.values.push_each.Goals as goal
 

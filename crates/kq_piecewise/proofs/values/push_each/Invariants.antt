@@ -1,5 +1,5 @@
 use Rattle.std.proofs.Common.{◌≡◌, ◌++◌, take}
-use Rattle.kq_columnar.specs.Vectors.{cells_of}
+use Rattle.kq_vector.specs.Vectors.{cells_of}
 use Rattle.kq_piecewise.proofs.values.push_each.Given as goal
 
 abbrev pub invariant-loop-i : goal.invariant-loop-i

@@ -4,10 +4,10 @@ use Rattle.std.proofs.lemmas.List.{length-append}
 use Rattle.std.proofs.lemmas.Result.{err_from_is_err_and}
 use Rattle.kq_value.specs.declared.value.Value.{Value}
 use Rattle.kq_computed.specs.Computed.{AnswersAs, each}
-use Rattle.kq_columnar.specs.Vectors.{cells_of}
+use Rattle.kq_vector.specs.Vectors.{cells_of}
 use Rattle.kq_expr.specs.Terms.{term_of}
 use Rattle.kq_columnar.specs.kq_scalar.Val.{meaning, surroundings}
-use Rattle.kq_piecewise.proofs.Laws.{piece_more, piece_faults, piece_counts}
+use Rattle.kq_piecewise.proofs.Laws.{piece_more, piece_faults}
 use Rattle.kq_piecewise.proofs.values.values_by_pieces.Goals as goal
 
 pub returns-in_err-piece-clause-values : goal.returns-in_err-piece-clause-values
@@ -19,7 +19,7 @@ returns-in_err-piece-clause-values g c =
     let rows = g.R.Relation.rows c.args.relation.now in
     let fault = c.in_err-piece.field-0.0 in
     let low : c.loop-from.from ≤ c.min-to.result = omega arith in
-    let fails = piece_faults (f again) see cells_of (each (f again) rows) rows c.loop-from.from c.min-to.result c.loop-from.values.items fault low c.loop-from.invariant.2 c.in_err-piece.ensures in
+    let fails = piece_faults (f again) see cells_of (each (f again) rows) rows c.loop-from.from c.min-to.result c.loop-from.values.items fault low c.loop-from.invariant.2 c.in_err-piece.ensures.values in
     let p = err_from_is_err_and c.from_residual.result c.from_residual.ensures.1 in
     rw (p.1, p.2) (subst (λ (z : ℤ). AnswersAs see (each (f z) rows) (Err fault)) same fails)
 
@@ -32,6 +32,6 @@ loop-from-preserved g c =
     let low : from ≤ to = omega arith in
     let high : to ≤ length rows = omega arith in
     let vs = cells_of c.in_ok-piece.piece in
-    let count : length vs ≡ to - from = piece_counts f rows from to vs low high c.in_ok-piece.ensures in
+    let count : length vs ≡ to - from = c.in_ok-piece.ensures.beside in
     let made = c.loop-from.values.items in
-    (high, rw (c.in_ok-push_cells.ensures, length-append) (omega arith), rw c.in_ok-push_cells.ensures (piece_more f (each f rows) rows from to made vs low c.loop-from.invariant.2 c.in_ok-piece.ensures))
+    (high, rw (c.in_ok-push_cells.ensures, length-append) (omega arith), rw c.in_ok-push_cells.ensures (piece_more f (each f rows) rows from to made vs low c.loop-from.invariant.2 c.in_ok-piece.ensures.values))

@@ -4,18 +4,21 @@ use Rattle.kq_piecewise.specs.Operators.{Row}
 use Rattle.kq_piecewise.specs.Pieces.{piece_of}
 use Rattle.kq_rows.specs.Chunks.{row_at}
 use Rattle.kq_stretch.specs.Pieces.{rows_in}
-use Rattle.kq_stretch.proofs.Places.{chosen_again, part_chosen}
+use Rattle.kq_stretch.proofs.Places.{chosen_again}
 use Rattle.kq_stretch.proofs.apply.select.Goals as goal
 
-pub returns-in_ok-shifted-in-Part : goal.returns-in_ok-shifted-in-Part
-returns-in_ok-shifted-in-Part g c =
+pub chosen_between-requires : goal.chosen_between-requires
+chosen_between-requires g c =
     let rows = g.R.Relation.rows c.in-Part.relation in
-    let from = c.in-Part.from in
-    let to = c.in-Part.field-2 in
     let places = c.args.places.now in
-    let same : rows_in g.R.Relation.rows c.args.piece ≡ piece_of rows from to = ap (rows_in g.R.Relation.rows) c.in-Part.is in
-    let known = subst (λ (rs : List Row). All (λ (p : ℕ). p < length rs) places) same c.requires in
-    part_chosen rows from to places c.in_ok-shifted-in-Part.field-0.items known c.in_ok-shifted-in-Part.ensures ∙ ap (λ (rs : List Row). map (row_at rs) places) (sym same)
+    let same : rows_in g.R.Relation.rows c.args.piece ≡ piece_of rows c.in-Part.from c.in-Part.to = ap (rows_in g.R.Relation.rows) c.in-Part.is in
+    subst (λ (rs : List Row). All (λ (p : ℕ). p < length rs) places) same c.requires
+
+pub returns-in_ok-chosen-in-Part : goal.returns-in_ok-chosen-in-Part
+returns-in_ok-chosen-in-Part g c =
+    let rows = g.R.Relation.rows c.in-Part.relation in
+    let same : rows_in g.R.Relation.rows c.args.piece ≡ piece_of rows c.in-Part.from c.in-Part.to = ap (rows_in g.R.Relation.rows) c.in-Part.is in
+    c.in_ok-chosen-in-Part.ensures ∙ ap (λ (rs : List Row). map (row_at rs) c.args.places.now) (sym same)
 
 pub returns-in_ok-chosen-in-Chosen : goal.returns-in_ok-chosen-in-Chosen
 returns-in_ok-chosen-in-Chosen g c =

@@ -1,0 +1,7 @@
+use Rattle.kq_scalar.specs.Val.{cell_of}
+use Rattle.kq_vector.specs.Vectors.{member_at}
+use Rattle.kq_columnar.proofs.OneValue.{map-twice}
+use Rattle.kq_columnar.proofs.members.members_at.Goals as goal
+
+pub returns-in-Placed : goal.returns-in-Placed
+returns-in-Placed c = rw (c.in-Placed.is, ← c.deref.ensures.value, map-twice (member_at c.args.key.now) (cell_of c.in-Placed.cells.now) c.deref.result.now) c.parts_at.ensures

@@ -1,0 +1,12 @@
+use Rattle.std.proofs.Common.{◌≡◌, length, ◌∙◌, rules}
+use Rattle.std.proofs.lemmas.List.{length-map}
+use Rattle.kq_vector.specs.Vectors.{cells_of}
+use Rattle.kq_lent.specs.Lent.{extent_of, rows_of}
+use Rattle.kq_lent.proofs.Picked.{picked_rows}
+use Rattle.kq_lent.proofs.records.RecordsRelation.pick.Goals as goal
+
+pub returns : goal.returns
+returns c =
+    let rows = rows_of (extent_of c.args.self.now) in
+    let long : c.len.result ≡ length rows = search (rules, length-map) in
+    c.in_ok-picked.ensures ∙ picked_rows rows c.args.j c.len.result c.args.places.now (cells_of c.in_ok-whole.whole) long c.in_ok-whole.ensures
