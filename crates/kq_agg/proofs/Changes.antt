@@ -9,7 +9,7 @@ use Rattle.kq_agg.specs.Holds.{Kept, counted}
 use Rattle.kq_agg.specs.Steps.{ChangesAt, kept_at}
 
 module _ {X : Type 0} (f : X → Kept) (R : Kept → Kept → Type 0) (xs : List X) (g : ℕ) (x y : X) where
-  ChangesAt-set : g < length xs → x ≡ get_or xs g x → R (f x) (f y) → ChangesAt g R (map f xs) (map f (set xs g y))
+  pub ChangesAt-set : g < length xs → x ≡ get_or xs g x → R (f x) (f y) → ChangesAt g R (map f xs) (map f (set xs g y))
   ChangesAt-set h at r = record {
     changes =
         let old : kept_at (map f xs) g ≡ f x = get_or-map f xs g x (counted 0) h ∙ ap f (sym at) in

@@ -1,10 +1,13 @@
 -- One row more, and what is kept of others, for each aggregate.
-use Rattle.std.proofs.Common.{◌≡◌, ℕ, ◌+◌, ℤ, ◌+ℤ◌, Bool, true, false, cond, not, List, [], ◌∷◌, ◌++◌, Option, ap, ◌∙◌, arith, append-nil, length-append}
+use Rattle.std.proofs.Common.{◌≡◌, ℕ, ◌+◌, ℤ, ◌+ℤ◌, Bool, true, false, cond, not, List, [], ◌∷◌, ◌++◌, Option, refl, ap, ◌∙◌, subst, arith, append-nil, length-append}
 use Rattle.std.proofs.lemmas.List.{map-append}
 use Rattle.std.proofs.lemmas.Int.{ints}
 use Rattle.std.proofs.lemmas.List.Elements.{filter-append}
 use Rattle.kq_value.specs.Typed.{is_null}
 use Rattle.kq_value.specs.declared.value.Value.{Value}
+use Rattle.kq_agg.specs.Alone.{alone, cell_as}
+use Rattle.kq_agg.specs.declared.reading.Reading.{Reading}
+use Rattle.kq_agg.specs.declared.reading.Reading.TheVariants as reading
 use Rattle.kq_agg.specs.Holds.{counted, summed, extreme, chosen, collected, Holds, IsSetOf, amount, total, firsts, present, is_present, elements, is_element}
 use Rattle.kq_agg.specs.Ranks.{first_of, side_cmp, choice_cmp, IsLast}
 use Rattle.kq_agg.specs.Steps.{Steps, Joins, with_one, with_any, with_present, with_value, with_element, Unites}
@@ -39,6 +42,14 @@ total-firsts rows others = ap total (map-append first_of rows others) ∙ total-
 pub Steps-sum : (z : ℤ) (v : Value) (args : List Value) → v ≡ first_of args → Steps kind.Sum args (summed z) (summed (z +ℤ amount v))
 Steps-sum z v args first = rw first record { more = λ rows h. let e = total-firsts rows (args ∷ []) in omega (arith, ints) }
 
+amount_as : (r : Reading) (z : ℤ) → amount (cell_as r z) ≡ z
+amount_as reading.Long z = refl
+amount_as reading.Moment z = refl
+amount_as reading.Span z = refl
+
+pub Steps-number : (r : Reading) (y z : ℤ) → Steps kind.Sum (alone (cell_as r z)) (summed y) (summed (y +ℤ z))
+Steps-number r y z = subst (λ (n : ℤ). Steps kind.Sum (alone (cell_as r z)) (summed y) (summed (y +ℤ n))) (amount_as r z) (Steps-sum y (cell_as r z) (alone (cell_as r z)) refl)
+
 pub Joins-sum : (z y : ℤ) → Joins kind.Sum (summed y) (summed z) (summed (z +ℤ y))
 Joins-sum z y = record { more = λ rows others h k. let e = total-firsts rows others in omega (arith, ints) }
 
@@ -71,6 +82,9 @@ Joins-extreme s o p = record {
   more = λ rows others h k. last_extreme s (rows ++ others) _
       (rw (present-append rows others) (IsLast-with_any (side_total s) _ _ o p (extreme_last s rows o h) (extreme_last s others p k)));
 }
+
+pub Steps-offered : (s : Side) (o : Option Value) (v : Value) → Steps (side_kind s) (alone v) (extreme o) (extreme (with_present s o v))
+Steps-offered s o v = Steps-extreme s o v (alone v) refl
 
 -- ---- rows
 

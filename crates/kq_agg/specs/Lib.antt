@@ -1,3 +1,4 @@
+pub mod Alone
 pub mod Aggregates
 pub mod Holds
 pub mod Ranks

@@ -1,14 +1,17 @@
 // The states of an aggregate.
-ghost use Rattle.std.specs.Prelude.{◌≡◌, ◌↔◌, ◌<◌, List, [], IsTrue, OnOk, OnErr, length};
+ghost use Rattle.std.specs.Prelude.{◌≡◌, ◌↔◌, ◌<◌, List, [], IsTrue, OnOk, OnErr, length, replicate};
 ghost use Rattle.std.specs.List.{All};
+ghost use Rattle.kq_vector.specs.Vectors.{cells_of};
 ghost use Rattle.kq_agg.specs.Steps.{ChangesAt, PutsFinished, Grows, Joins, MayRefuse, MayRefuseBoth, Steps, TakesIn, TakesInUpTo, kept_at};
 ghost use Rattle.kq_agg.specs.Tables.{SameShape};
+ghost use Rattle.kq_agg.specs.Alone.{each_alone};
 
 use crate::kind::Kind;
 use crate::table::Table;
 use kq_computed::EvalFault;
 use kq_rows::Rows;
 use kq_value::{Memory, Ty, Value};
+use kq_vector::Vector;
 use std::alloc::Global;
 use std::marker::Model;
 
@@ -88,6 +91,31 @@ impl States {
             self.step(alloc, *group as usize, rows.row(i))?;
         }
         Ok(())
+    }
+
+    /// Rows more of no cells, each of the group whose number stands beside it. After a refusal those before the row that was refused are taken in.
+    pub fn step_bare(&mut self, alloc: Global, groups: &[u32]) -> Result<(), Memory>
+        requires { All (λ g. g < length self.old.kept) groups.now }
+        ensures shape { SameShape self.old self.new }
+        ensures ok { OnOk result (TakesIn self.old.kind groups.now (replicate (length groups.now) []) self.old.kept self.new.kept) }
+        ensures err { OnErr result (TakesInUpTo self.old.kind groups.now (replicate (length groups.now) []) self.old.kept self.new.kept) }
+    {
+        self.table.step_bare(alloc, groups)
+    }
+
+    /// Rows more of one cell each, those of a column, each of the group whose number stands beside it. After a refusal some of them may be taken in.
+    pub fn step_column(
+        &mut self,
+        alloc: Global,
+        groups: &[u32],
+        column: &Vector<'_>,
+    ) -> Result<(), Memory>
+        requires along { length groups.now ≡ length (cells_of column.now) }
+        requires known { All (λ g. g < length self.old.kept) groups.now }
+        ensures shape { SameShape self.old self.new }
+        ensures ok { OnOk result (TakesIn self.old.kind groups.now (each_alone (cells_of column.now)) self.old.kept self.new.kept) }
+    {
+        self.table.step_column(alloc, groups, column)
     }
 
     /// The rows of another's group too, after those of a group.

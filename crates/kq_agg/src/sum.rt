@@ -33,7 +33,14 @@ impl Sum {
         ensures ok { OnOk result (self.new ≡ self.old +ℤ amount value.now) }
         ensures err { OnErr result ((self.new ≡ self.old) × (2 ^ 126 ≤ unsigned_abs self.old)) }
     {
-        self.add(amount(value) as i128)
+        self.step_number(amount(value))
+    }
+
+    pub(crate) fn step_number(&mut self, number: i64) -> Result<(), Memory>
+        ensures ok { OnOk result (self.new ≡ self.old +ℤ number) }
+        ensures err { OnErr result ((self.new ≡ self.old) × (2 ^ 126 ≤ unsigned_abs self.old)) }
+    {
+        self.add(number as i128)
     }
 
     pub(crate) fn merge(&mut self, other: &Sum) -> Result<(), Memory>

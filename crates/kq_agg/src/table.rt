@@ -1,18 +1,25 @@
 // The states of all groups of one aggregate.
-ghost use Rattle.std.specs.Prelude.{◌≡◌, ◌<◌, [], ◌∷◌, ◌++◌, OnOk, OnErr, length};
+ghost use Rattle.std.specs.Prelude.{◌≡◌, ◌<◌, [], ◌∷◌, ◌++◌, OnOk, OnErr, length, map, replicate};
+ghost use Rattle.std.specs.List.{All};
+ghost use Rattle.kq_vector.specs.Vectors.{cell_of, cells_of};
+ghost use Rattle.kq_agg.specs.Alone.{alone, cell_as, each_alone};
 ghost use Rattle.kq_agg.specs.Ranks.{first_of};
-ghost use Rattle.kq_agg.specs.Steps.{ChangesAt, PutsFinished, Joins, MayRefuse, MayRefuseBoth, Steps, kept_at, none_kept};
+ghost use Rattle.kq_agg.specs.Steps.{ChangesAt, PutsFinished, Joins, MayRefuse, MayRefuseBoth, Steps, TakesIn, TakesInUpTo, kept_at, none_kept};
 ghost use Rattle.kq_agg.specs.Tables.{kind_of, kept_of};
 
+use crate::columns::{count_each, offer_each, sum_each};
 use crate::count::Count;
 use crate::finish::{put_row, put_sum, put_value};
 use crate::kind::{Choice, Kind, Side, first_or};
+use crate::reading::{Reading, numbers_in};
 use crate::set::Set;
 use crate::sum::Sum;
 use crate::taken::{merge_row, merge_value, step_row, step_value};
 use kq_computed::EvalFault;
 use kq_value::{Memory, Row, Ty, Value};
+use kq_vector::Vector;
 use std::alloc::Global;
+use std::slice::from_ref;
 
 // A state for each group, by the group's number.
 #[derive(Drop)]
@@ -109,6 +116,137 @@ impl Table {
             Table::Chosen(choice, rows) => step_row(alloc, &mut rows[group], *choice, args),
             Table::Sets(most, sets) => sets[group].step(*most, first),
         }
+    }
+
+    // Rows of no cells, each of the group whose number stands beside it.
+    pub(crate) fn step_bare(&mut self, alloc: Global, groups: &[u32]) -> Result<(), Memory>
+        requires { All (λ g. g < length (kept_of self.old)) groups.now }
+        ensures kind { kind_of self.new ≡ kind_of self.old }
+        ensures ok { OnOk result (TakesIn (kind_of self.old) groups.now (replicate (length groups.now) []) (kept_of self.old) (kept_of self.new)) }
+        ensures err { OnErr result (TakesInUpTo (kind_of self.old) groups.now (replicate (length groups.now) []) (kept_of self.old) (kept_of self.new)) }
+    {
+        match self {
+            Table::Counts(counts) => count_each(counts, groups),
+            _ => self.step_bare_rows(alloc, groups),
+        }
+    }
+
+    fn step_bare_rows(&mut self, alloc: Global, groups: &[u32]) -> Result<(), Memory>
+        requires { All (λ g. g < length (kept_of self.old)) groups.now }
+        ensures kind { kind_of self.new ≡ kind_of self.old }
+        ensures ok { OnOk result (TakesIn (kind_of self.old) groups.now (replicate (length groups.now) []) (kept_of self.old) (kept_of self.new)) }
+        ensures err { OnErr result (TakesInUpTo (kind_of self.old) groups.now (replicate (length groups.now) []) (kept_of self.old) (kept_of self.new)) }
+    {
+        for (i, group) in groups.iter().enumerate() {
+            self.step(alloc, *group as usize, &[])?;
+        }
+        Ok(())
+    }
+
+    // Rows of the cells of a column.
+    pub(crate) fn step_column(
+        &mut self,
+        alloc: Global,
+        groups: &[u32],
+        column: &Vector<'_>,
+    ) -> Result<(), Memory>
+        requires along { length groups.now ≡ length (cells_of column.now) }
+        requires known { All (λ g. g < length (kept_of self.old)) groups.now }
+        ensures kind { kind_of self.new ≡ kind_of self.old }
+        ensures ok { OnOk result (TakesIn (kind_of self.old) groups.now (each_alone (cells_of column.now)) (kept_of self.old) (kept_of self.new)) }
+    {
+        match numbers_in(column) {
+            Some((reading, numbers)) => self.step_numbers(alloc, groups, reading, numbers),
+            None => self.step_cells(alloc, groups, column),
+        }
+    }
+
+    // The states of one form are looked at once for all rows.
+    fn step_numbers(
+        &mut self,
+        alloc: Global,
+        groups: &[u32],
+        reading: Reading,
+        numbers: &[i64],
+    ) -> Result<(), Memory>
+        requires along { length groups.now ≡ length numbers.now }
+        requires known { All (λ g. g < length (kept_of self.old)) groups.now }
+        ensures kind { kind_of self.new ≡ kind_of self.old }
+        ensures ok { OnOk result (TakesIn (kind_of self.old) groups.now (each_alone (map (cell_as reading) numbers.now)) (kept_of self.old) (kept_of self.new)) }
+    {
+        match self {
+            Table::Sums(sums) => sum_each(sums, groups, reading, numbers),
+            Table::Extremes(side, values) => {
+                offer_each(values, *side, groups, reading, numbers);
+                Ok(())
+            }
+            _ => self.step_each_number(alloc, groups, reading, numbers),
+        }
+    }
+
+    fn step_each_number(
+        &mut self,
+        alloc: Global,
+        groups: &[u32],
+        reading: Reading,
+        numbers: &[i64],
+    ) -> Result<(), Memory>
+        requires along { length groups.now ≡ length numbers.now }
+        requires known { All (λ g. g < length (kept_of self.old)) groups.now }
+        ensures kind { kind_of self.new ≡ kind_of self.old }
+        ensures ok { OnOk result (TakesIn (kind_of self.old) groups.now (each_alone (map (cell_as reading) numbers.now)) (kept_of self.old) (kept_of self.new)) }
+    {
+        for (i, group) in groups.iter().enumerate() {
+            self.step_number(alloc, *group as usize, reading, numbers[i])?;
+        }
+        Ok(())
+    }
+
+    fn step_number(
+        &mut self,
+        alloc: Global,
+        group: usize,
+        reading: Reading,
+        number: i64,
+    ) -> Result<(), Memory>
+        requires { group < length (kept_of self.old) }
+        ensures kind { kind_of self.new ≡ kind_of self.old }
+        ensures ok { OnOk result (ChangesAt group (Steps (kind_of self.old) (alone (cell_as reading number))) (kept_of self.old) (kept_of self.new)) }
+    {
+        let cell = reading.cell(number);
+        self.step(alloc, group, from_ref(&cell))
+    }
+
+    fn step_cells(
+        &mut self,
+        alloc: Global,
+        groups: &[u32],
+        column: &Vector<'_>,
+    ) -> Result<(), Memory>
+        requires along { length groups.now ≡ length (cells_of column.now) }
+        requires known { All (λ g. g < length (kept_of self.old)) groups.now }
+        ensures kind { kind_of self.new ≡ kind_of self.old }
+        ensures ok { OnOk result (TakesIn (kind_of self.old) groups.now (each_alone (cells_of column.now)) (kept_of self.old) (kept_of self.new)) }
+    {
+        for (i, group) in groups.iter().enumerate() {
+            self.step_cell(alloc, *group as usize, column, i)?;
+        }
+        Ok(())
+    }
+
+    fn step_cell(
+        &mut self,
+        alloc: Global,
+        group: usize,
+        column: &Vector<'_>,
+        i: usize,
+    ) -> Result<(), Memory>
+        requires { group < length (kept_of self.old) }
+        ensures kind { kind_of self.new ≡ kind_of self.old }
+        ensures ok { OnOk result (ChangesAt group (Steps (kind_of self.old) (alone (cell_of (cells_of column.now) i))) (kept_of self.old) (kept_of self.new)) }
+    {
+        let cell = column.cell(i)?;
+        self.step(alloc, group, from_ref(&cell))
     }
 
     // The rows of another's group too, after those of a group.

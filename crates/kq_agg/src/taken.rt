@@ -1,9 +1,11 @@
 // The value, and the row, that is taken of several.
 ghost use Rattle.std.specs.Prelude.{◌≡◌, Some, OnOk, OnErr, IfOk, option_map};
+ghost use Rattle.kq_agg.specs.Alone.{cell_as};
 ghost use Rattle.kq_agg.specs.Ranks.{choice_cmp, side_cmp};
 ghost use Rattle.kq_agg.specs.Steps.{replaces, with_any, with_one, with_present};
 
 use crate::kind::{Choice, Side};
+use crate::reading::Reading;
 use kq_value::{Memory, Row, Value};
 use std::alloc::Global;
 
@@ -16,6 +18,16 @@ pub(crate) fn step_value(kept: &mut Option<Value>, side: Side, value: &Value) ->
         return Ok(());
     }
     offer_value(kept, side, value)
+}
+
+// Keeps the number, if it is to be taken.
+pub(crate) fn offer_number(kept: &mut Option<Value>, side: Side, reading: Reading, number: i64)
+    ensures { kept.new ≡ with_present side kept.old (cell_as reading number) }
+{
+    let value = reading.cell(number);
+    if value_replaces(side, kept, &value) {
+        *kept = Some(value);
+    }
 }
 
 // Keeps the other's value, if it is to be taken.

@@ -1,14 +1,17 @@
 -- The states of an aggregate as rows come.
-use Rattle.std.proofs.Common.{◌≡◌, ◌<◌, ◌≤◌, ◌+◌, inl, inr, ℕ, List, [], ◌∷◌, ◌++◌, length, map, get_or, take, refl, sym, ap, ◌∙◌, subst, arith}
+use Rattle.std.proofs.Common.{◌≡◌, ◌<◌, ◌≤◌, ◌+◌, inl, inr, ℕ, List, [], ◌∷◌, ◌++◌, length, map, get_or, set, take, refl, sym, ap, ◌∙◌, subst, arith}
 use Rattle.std.proofs.lemmas.Bool.{cases_eq}
 use Rattle.kq_agg.specs.Holds.{Kept, Holds}
 use Rattle.kq_agg.specs.Steps.{kept_at, of_group, Grows, TakesIn}
 use Rattle.kq_agg.specs.Tables.{Numbered, SameShape}
 use Rattle.kq_agg.specs.declared.kind.Kind.{Kind}
 use Rattle.kq_value.specs.declared.value.Value.{Value}
-use Rattle.std.proofs.lemmas.List.{map-append, take_more}
+use Rattle.std.proofs.lemmas.List.{get_or-map, get_or-set_other, get_or-set_same, map-append, take_more}
+use Rattle.std.proofs.lemmas.Option.{get_or_from_slice_get, slice_get_read}
 use Rattle.kq_group.specs.Grouped.{AggregateShape}
-use Rattle.kq_group.specs.Groups.{Gathers, HasNoRows, Lengthens, shape_of}
+use Rattle.kq_group.specs.Arguments.{rows_given, rows_in}
+use Rattle.kq_group.specs.declared.argument.Argument.{Argument}
+use Rattle.kq_group.specs.Groups.{Gathers, HasNoRows, Lengthens, args_at, nothing, shape_of, state_at}
 
 -- a fact on what an aggregate keeps, of another of its kind
 moved : (k l : Kind) (rows : List (List Value)) (a b : Kept) → k ≡ l → a ≡ b → Holds k rows b → Holds l rows a
@@ -52,3 +55,29 @@ pub shapes_more : (states : List Numbered) (s : Numbered) (aggregates : List Agg
     → map shape_of (states ++ s ∷ []) ≡ take (i + 1) aggregates
 shapes_more states s aggregates i a h is same before =
     map-append shape_of states (s ∷ []) ∙ ap (λ (others : List AggregateShape). others ++ shape_of s ∷ []) before ∙ ap (λ (b : AggregateShape). take i aggregates ++ b ∷ []) (same ∙ is) ∙ sym (take_more aggregates i a h)
+
+-- the rows of arguments of one aggregate
+pub given_at : (n : ℕ) (args : List Argument) (i : ℕ) (a : Argument) → i < length args → a ≡ get_or args i a → args_at (rows_given n args) i ≡ rows_in n a
+given_at n args i a h at = get_or-map (rows_in n) args i a [] h ∙ ap (rows_in n) (sym at)
+
+at_place : (states : List Numbered) (i : ℕ) (s : Numbered) → i < length states → s ≡ get_or states i s → state_at states i ≡ s
+at_place states i s h at = get_or_from_slice_get states i s nothing (slice_get_read states (length states) i s refl h at)
+
+-- the states of one aggregate more
+pub gathered_more : (ns : List ℕ) (given : List (List (List Value))) (count : ℕ) (olds states : List Numbered) (i : ℕ) (rows : List (List Value)) (s t : Numbered) → i < length states → s ≡ get_or states i s → args_at given i ≡ rows
+    → Gathers ns rows count s t → ((a : ℕ) → a < i → Gathers ns (args_at given a) count (state_at olds a) (state_at states a)) → ((a : ℕ) → i ≤ a → state_at states a ≡ state_at olds a)
+    → (a : ℕ) → a < i + 1 → Gathers ns (args_at given a) count (state_at olds a) (state_at (set states i t) a)
+gathered_more ns given count olds states i rows s t within at is gathers done rest a h = elim (cases_eq a i) [
+  | inl same ↦
+      let old : s ≡ state_at olds i = sym (at_place states i s within at) ∙ rest i (omega arith) in
+      let new : t ≡ state_at (set states i t) i = sym (get_or-set_same states i t nothing within) in
+      let here : Gathers ns (args_at given i) count (state_at olds i) (state_at (set states i t) i) =
+      subst (λ (r : List (List Value)). Gathers ns r count (state_at olds i) (state_at (set states i t) i)) (sym is)
+      (subst (λ (u : Numbered). Gathers ns rows count u (state_at (set states i t) i)) old (subst (λ (u : Numbered). Gathers ns rows count s u) new gathers)) in
+      subst (λ (b : ℕ). Gathers ns (args_at given b) count (state_at olds b) (state_at (set states i t) b)) (sym same) here
+  | inr other ↦
+      subst (λ (u : Numbered). Gathers ns (args_at given a) count (state_at olds a) u) (sym (get_or-set_other states i a t nothing other)) (done a (omega (arith, h, other)))
+]
+
+pub rest_more : (olds states : List Numbered) (i : ℕ) (t : Numbered) → ((a : ℕ) → i ≤ a → state_at states a ≡ state_at olds a) → (a : ℕ) → i + 1 ≤ a → state_at (set states i t) a ≡ state_at olds a
+rest_more olds states i t rest a h = get_or-set_other states i a t nothing (λ e. absurd (omega (arith, h, e))) ∙ rest a (omega (arith, h))

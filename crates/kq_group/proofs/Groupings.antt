@@ -4,7 +4,7 @@ use Rattle.std.specs.List.{All}
 use Rattle.std.specs.Bool.{Decides}
 use Rattle.std.proofs.lemmas.Bool.{cases_lt, false≢true}
 use Rattle.std.proofs.lemmas.Bool.Decides.{Decides-eqb}
-use Rattle.std.proofs.lemmas.List.{get_or_append_left, get_or-append_right}
+use Rattle.std.proofs.lemmas.List.{get_or_append_left, get_or-append_right, length-map}
 use Rattle.kq_agg.specs.Holds.{Holds}
 use Rattle.kq_agg.specs.Steps.{kept_at, of_group}
 use Rattle.kq_agg.specs.Tables.{Numbered}
@@ -14,6 +14,8 @@ use Rattle.kq_value.specs.Same.{times}
 use Rattle.kq_value.specs.Values.{is_same_row}
 use Rattle.kq_value.proofs.Equals.{is_same_row-Decides, is_same_row-itself}
 use Rattle.kq_value.proofs.SameLemmas.{times-append}
+use Rattle.kq_group.specs.Arguments.{rows_given, rows_in}
+use Rattle.kq_group.specs.declared.argument.Argument.{Argument}
 use Rattle.kq_group.specs.Grouped.{AggregateShape, AreKeys, args_of}
 use Rattle.kq_group.specs.Groups.{Grouping, shape_of, nothing, state_at, args_at, beside, HasAllGroups, HasGroups, AddsRows, Gathers, GatherAll}
 use Rattle.kq_group.specs.Keys.{AreNumbers, Numbers}
@@ -216,5 +218,16 @@ AddsRows-piece old new keys args ns whole width long each along once wide g gath
         stands.of_rows wide once g (stands.along a inside) (along a [] (omega (arith, inside, each))) (whole a nothing inside) (gathers.each a inside) (λ m l. stands.holds a m inside l) within);
   };
 }
+
+-- the same of the arguments' rows, over so many rows
+pub AddsRows-given : (old new : Grouping) (keys : List Key) (args : List Argument) (ns : List ℕ) (m : ℕ)
+    → HasAllGroups old → new.width ≡ old.width → length new.states ≡ length old.states → length args ≡ length old.states → length keys ≡ m → All (λ (rows : List Key). length rows ≡ m) (rows_given m args)
+    → Once new.keys → All (HasWidth old.width) new.keys → Numbers old.keys new.keys ns keys → GatherAll ns (rows_given (length ns) args) (length new.keys) old.states new.states → AddsRows keys (rows_given m args) old new
+AddsRows-given old new keys args ns m whole width long each many along once wide g gathers =
+    AddsRows-piece old new keys (rows_given m args) ns whole width long (length-map args (rows_in m) ∙ each) (subst (λ (n : ℕ). All (λ (rows : List Key). length rows ≡ n) (rows_given m args)) (sym many) along) once wide g
+    (subst (λ (n : ℕ). GatherAll ns (rows_given n args) (length new.keys) old.states new.states) (numbers_along new.keys ns keys g.are ∙ many) gathers)
+
+pub given_along : (ns : List ℕ) (args : List Argument) (m : ℕ) → length ns ≡ m → All (λ (rows : List Key). length rows ≡ m) (rows_given m args) → All (λ (rows : List Key). length ns ≡ length rows) (rows_given (length ns) args)
+given_along ns args m many along = subst (λ (n : ℕ). All (λ (rows : List Key). n ≡ length rows) (rows_given n args)) (sym many) (λ k d h. sym (along k d h))
 
 -- ---- groups of no rows

@@ -1,3 +1,4 @@
+pub mod ColumnKeys
 pub mod Finishing
 pub mod Gathering
 pub mod Groupings

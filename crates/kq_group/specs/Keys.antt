@@ -1,7 +1,9 @@
 -- The different keys of rows, by number, and how they are found.
-use Rattle.std.specs.Prelude.{◌≡◌, ◌<◌, ◌≤◌, ◌+◌, ◌*◌, ◌%◌, ◌^◌, ℕ, min, List, [], ◌∷◌, ◌++◌, length, map}
+use Rattle.std.specs.Prelude.{◌≡◌, ◌<◌, ◌≤◌, ◌+◌, ◌-◌, ◌*◌, ◌%◌, ◌^◌, ℕ, min, List, [], ◌∷◌, ◌++◌, Option, Some, None, bit_and, get_or, length, map}
 use Rattle.std.specs.List.{All}
 use Rattle.kq_rows.specs.Chunks.{HasWidth, row_at}
+use Rattle.kq_agg.specs.Alone.{alone}
+use Rattle.kq_vector.specs.Vectors.{cell_of}
 use Rattle.kq_value.specs.declared.value.Value.{Value}
 use Rattle.kq_value.specs.Hash.{hash_of}
 use Rattle.kq_value.specs.Same.{times}
@@ -15,9 +17,9 @@ hash_from h (v ∷ vs) = hash_from (((h * 0x9e37_79b9_7f4a_7c15) % 2 ^ 64 + hash
 abbrev pub key_hash : List Value → ℕ
 key_hash key = hash_from 0 key
 
--- the head of the chain of a hash
+-- the head of the chain of a hash: its lowest bits, where the heads are a power of two
 abbrev pub head_of : ℕ → ℕ → ℕ
-head_of heads hash = hash % heads
+head_of heads hash = bit_and hash (heads - 1)
 
 -- no two keys are equal, and each is a link of the chain behind the head of its hash
 pub record IsTable (t : KeyTable) : Type 0 where
@@ -41,3 +43,7 @@ pub record Numbers (old new : List (List Value)) (numbers : List ℕ) (rows : Li
   pub added : List (List Value)
   pub whole : new ≡ old ++ added
   pub counts : (k : List Value) → times k new ≡ min 1 (times k old + times k rows)
+
+-- a number that is noted for a code is that of its word
+abbrev pub AreKnown : List (List Value) → List Value → List (Option ℕ) → Type 0
+AreKnown keys words known = (c n : ℕ) → get_or known c None ≡ Some n → (n < length keys) × (row_at keys n ≡ alone (cell_of words c))

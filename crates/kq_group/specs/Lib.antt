@@ -1,3 +1,4 @@
+pub mod Arguments
 pub mod Grouped
 pub mod Groups
 pub mod Keys

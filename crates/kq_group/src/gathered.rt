@@ -1,12 +1,14 @@
 // The states of the aggregates as rows come.
 ghost use Rattle.std.specs.Prelude.{◌≡◌, ◌<◌, ◌≤◌, IfOk, OnOk, length, map};
 ghost use Rattle.std.specs.List.{All};
-ghost use Rattle.kq_agg.specs.Tables.{Numbered};
+ghost use Rattle.kq_agg.specs.Steps.{TakesIn};
+ghost use Rattle.kq_agg.specs.Tables.{Numbered, SameShape};
+ghost use Rattle.kq_group.specs.Arguments.{rows_given, rows_in};
 ghost use Rattle.kq_group.specs.Groups.{Gathers, GatherAll, HasNoRows, Lengthens, shape_of};
 
 use crate::aggregated::Aggregated;
+use crate::argument::Argument;
 use kq_agg::States;
-use kq_rows::Rows;
 use kq_value::Memory;
 use std::alloc::Global;
 
@@ -21,22 +23,40 @@ pub(crate) fn lengthen(alloc: Global, states: &mut States, count: usize) -> Resu
     Ok(())
 }
 
-// The same, and then takes in the rows, each of the group whose number stands beside it.
+// The same, and then takes in the rows of arguments, each of the group whose number stands beside it.
 fn gather(
     alloc: Global,
     states: &mut States,
     count: usize,
     numbers: &[u32],
-    rows: &Rows,
+    argument: &Argument<'_>,
 ) -> Result<(), Memory>
     requires fewer { length states.old.kept ≤ count }
-    requires along { length numbers.now ≡ length rows.now }
+    requires along { length numbers.now ≡ length (rows_in (length numbers.now) argument.now) }
     requires known { All (λ n. n < count) numbers.now }
-    ensures { OnOk result (Gathers numbers.now rows.now count states.old states.new) }
+    ensures { OnOk result (Gathers numbers.now (rows_in (length numbers.now) argument.now) count states.old states.new) }
 {
     lengthen(alloc, states, count)?;
-    states.step_batch(alloc, numbers, rows)?;
+    take_in(alloc, states, numbers, argument)?;
     Ok(())
+}
+
+fn take_in(
+    alloc: Global,
+    states: &mut States,
+    numbers: &[u32],
+    argument: &Argument<'_>,
+) -> Result<(), Memory>
+    requires along { length numbers.now ≡ length (rows_in (length numbers.now) argument.now) }
+    requires known { All (λ n. n < length states.old.kept) numbers.now }
+    ensures shape { SameShape states.old states.new }
+    ensures ok { OnOk result (TakesIn states.old.kind numbers.now (rows_in (length numbers.now) argument.now) states.old.kept states.new.kept) }
+{
+    match argument {
+        Argument::Nothing => states.step_bare(alloc, numbers),
+        Argument::Column(column) => states.step_column(alloc, numbers, column),
+        Argument::Rows(rows) => states.step_batch(alloc, numbers, rows),
+    }
 }
 
 // The same for all aggregates.
@@ -45,16 +65,16 @@ pub(crate) fn gather_all(
     states: &mut [States],
     count: usize,
     numbers: &[u32],
-    args: &[Rows],
+    args: &[Argument<'_>],
 ) -> Result<(), Memory>
     requires each { length args.now ≡ length states.old }
     requires fewer { All (λ (s : Numbered). length s.kept ≤ count) states.old }
-    requires along { All (λ rows. length numbers.now ≡ length rows) args.now }
+    requires along { All (λ rows. length numbers.now ≡ length rows) (rows_given (length numbers.now) args.now) }
     requires known { All (λ n. n < count) numbers.now }
-    ensures { OnOk result (GatherAll numbers.now args.now count states.old states.new) }
+    ensures { OnOk result (GatherAll numbers.now (rows_given (length numbers.now) args.now) count states.old states.new) }
 {
-    for (i, rows) in args.iter().enumerate() {
-        gather(alloc, &mut states[i], count, numbers, rows)?;
+    for (i, argument) in args.iter().enumerate() {
+        gather(alloc, &mut states[i], count, numbers, argument)?;
     }
     Ok(())
 }

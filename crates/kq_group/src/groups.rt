@@ -3,7 +3,10 @@ ghost use Rattle.std.specs.Prelude.{◌≡◌, ◌<◌, ◌≤◌, ◌++◌, Lis
 ghost use Rattle.std.specs.List.{All};
 ghost use Rattle.kq_computed.specs.Computed.{Answers, AnswersAs, Is, and_then};
 ghost use Rattle.kq_rows.specs.Chunks.{HasWidth, row_at};
+ghost use Rattle.kq_agg.specs.Alone.{each_alone};
 ghost use Rattle.kq_agg.specs.Tables.{Numbered};
+ghost use Rattle.kq_group.specs.Arguments.{rows_given};
+ghost use Rattle.kq_vector.specs.Vectors.{cells_of};
 ghost use Rattle.kq_group.specs.Grouped.{AreKeys, FitArgs, IsGrouped};
 ghost use Rattle.kq_value.specs.Same.{times};
 ghost use Rattle.kq_group.specs.Groups.{AddsRows, EndsWide, HasAllGroups, Starts, cells_from, rows_from, shape_of};
@@ -11,14 +14,17 @@ ghost use Rattle.kq_group.specs.Keys.{IsTable, key_hash};
 ghost use Rattle.kq_group.specs.Merges.{Lacks, Merges, picked};
 
 use crate::aggregated::Aggregated;
+use crate::argument::Argument;
 use crate::cells::hash;
 use crate::gathered::{all_fresh, gather_all};
+use crate::hint::Hint;
 use crate::key_table::KeyTable;
 use crate::merged::{absorb_all, all_places};
 use kq_agg::States;
 use kq_computed::EvalFault;
 use kq_rows::Rows;
 use kq_value::{Memory, Row, Value};
+use kq_vector::Vector;
 use std::alloc::Global;
 use std::marker::Model;
 
@@ -26,6 +32,7 @@ use std::marker::Model;
 #[derive(Drop)]
 pub struct Groups {
     keys: KeyTable,
+    hint: Hint,
     states: Vec<States>,
 }
 
@@ -51,7 +58,11 @@ impl Groups {
     {
         let keys = first_keys(alloc, width)?;
         let states = all_fresh(alloc, aggregates, keys.keys.len())?;
-        Ok(Groups { keys, states })
+        Ok(Groups {
+            keys,
+            hint: Hint::new(alloc),
+            states,
+        })
     }
 
     /// No groups, not even that of the one empty key.
@@ -60,7 +71,11 @@ impl Groups {
     {
         let keys = KeyTable::new(alloc, width)?;
         let states = all_fresh(alloc, aggregates, 0)?;
-        Ok(Groups { keys, states })
+        Ok(Groups {
+            keys,
+            hint: Hint::new(alloc),
+            states,
+        })
     }
 
     /// The number of groups. Their keys are different ones.
@@ -97,14 +112,39 @@ impl Groups {
     }
 
     /// Takes in rows with these keys and, for each aggregate, arguments. After a refusal the groups are to be dropped.
-    pub fn add(&mut self, alloc: Global, keys: &Rows, args: &[Rows]) -> Result<(), Memory>
+    pub fn add(&mut self, alloc: Global, keys: &Rows, args: &[Argument<'_>]) -> Result<(), Memory>
         requires whole { HasAllGroups self.old }
         requires wide { All (HasWidth self.old.width) keys.now }
         requires each { length args.now ≡ length self.old.states }
-        requires along { All (λ rows. length rows ≡ length keys.now) args.now }
-        ensures { OnOk result (AddsRows keys.now args.now self.old self.new) }
+        requires along { All (λ rows. length rows ≡ length keys.now) (rows_given (length keys.now) args.now) }
+        ensures { OnOk result (AddsRows keys.now (rows_given (length keys.now) args.now) self.old self.new) }
     {
         let numbers = self.keys.numbers(alloc, keys)?;
+        let count = self.keys.keys.len();
+        gather_all(
+            alloc,
+            self.states.as_mut_slice(),
+            count,
+            numbers.as_slice(),
+            args,
+        )?;
+        Ok(())
+    }
+
+    /// The same of keys of one cell each, those of a column.
+    pub fn add_column(
+        &mut self,
+        alloc: Global,
+        keys: &Vector<'_>,
+        args: &[Argument<'_>],
+    ) -> Result<(), Memory>
+        requires whole { HasAllGroups self.old }
+        requires wide { self.old.width ≡ 1 }
+        requires each { length args.now ≡ length self.old.states }
+        requires along { All (λ rows. length rows ≡ length (cells_of keys.now)) (rows_given (length (cells_of keys.now)) args.now) }
+        ensures { OnOk result (AddsRows (each_alone (cells_of keys.now)) (rows_given (length (cells_of keys.now)) args.now) self.old self.new) }
+    {
+        let numbers = self.keys.numbers_of_column(alloc, keys, &mut self.hint)?;
         let count = self.keys.keys.len();
         gather_all(
             alloc,
@@ -218,13 +258,13 @@ pub fn group_rows(
     alloc: Global,
     width: usize,
     keys: &Rows,
-    args: &[Rows],
+    args: &[Argument<'_>],
     aggregates: &[Aggregated],
 ) -> Result<Rows, EvalFault>
     requires wide { All (HasWidth width) keys.now }
-    requires along { All (λ rows. length rows ≡ length keys.now) args.now }
-    requires fit { FitArgs aggregates.now args.now }
-    ensures { IsGrouped width aggregates.now keys.now args.now result }
+    requires along { All (λ rows. length rows ≡ length keys.now) (rows_given (length keys.now) args.now) }
+    requires fit { FitArgs aggregates.now (rows_given (length keys.now) args.now) }
+    ensures { IsGrouped width aggregates.now keys.now (rows_given (length keys.now) args.now) result }
 {
     let mut groups = Groups::new(alloc, width, aggregates)?;
     groups.add(alloc, keys, args)?;

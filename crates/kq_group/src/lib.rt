@@ -2,11 +2,15 @@
 #![tactic(auto)]
 
 mod aggregated;
+mod argument;
 mod cells;
+mod column_keys;
 mod gathered;
 mod groups;
+mod hint;
 mod key_table;
 mod merged;
 
 pub use aggregated::Aggregated;
+pub use argument::Argument;
 pub use groups::{Groups, group_rows};

@@ -8,7 +8,7 @@ use Rattle.kq_computed.specs.declared.fault.EvalFault.{EvalFault}
 use Rattle.kq_computed.specs.declared.fault.EvalFault.TheVariants as fault
 use Rattle.kq_expr.specs.Terms.{Term}
 use Rattle.kq_group.specs.Grouped.{AggregateShape as Aggregated, FitArgs, Grouped}
-use Rattle.kq_group.specs.Groups.{EndsWide, Grouping, HasAllGroups, Stands, Starts, args_at, beside, rows_from, shape_of}
+use Rattle.kq_group.specs.Groups.{AddsRows, EndsWide, Grouping, HasAllGroups, Stands, Starts, args_at, beside, rows_from, shape_of}
 use Rattle.kq_group.proofs.Finishing.{EndsWide-Stands, Grouped-Stands}
 use Rattle.kq_lent.proofs.kq_piecewise.Laws.{each_append}
 use Rattle.kq_lent.specs.kq_piecewise.Operators.{Row, values_at}
@@ -116,6 +116,11 @@ keyed_parts es gs s rows keys args e = both_are (each (values_at es s) rows) (ea
 pub keyed_is : (es : List Term) (gs : List Aggregating) (s : Surroundings) (rows keys : List Row) (args : Args) → each (values_at es s) rows ≡ Is keys → each (arguments_over s rows) gs ≡ Is args → keyed es gs s rows ≡ Is (keys, args)
 keyed_is es gs s rows keys args a b =
     ap (λ (c : Computed (List Row)). and_then c (λ x. and_then (each (arguments_over s rows) gs) (λ y. Is (x, y)))) a ∙ ap (λ (c : Computed Args). and_then c (λ y. Is (keys, y))) b
+
+-- rows whose keys and arguments are these came to groups
+pub come_to : (es : List Term) (gs : List Aggregating) (s : Surroundings) (rows keys : List Row) (args : Args) (old new : Grouping) → each (values_at es s) rows ≡ Is keys → each (arguments_over s rows) gs ≡ Is args → AddsRows keys args old new
+    → ComeTo es gs s rows old new (Ok tt)
+come_to es gs s rows keys args old new a b adds = (keys, args, keyed_is es gs s rows keys args a b, adds)
 
 comes_lost : {B : Type 0} (c : Computed (List Row)) (d : Computed Args) (these : List Row → Args → Computed B → Type 0) → and_then c (λ x. and_then {B = Keyed} d (λ y. Is (x, y))) ≡ Overflow
     → ThenComes c (λ x. ThenComes d (λ y. these x y)) Overflow

@@ -1,0 +1,18 @@
+use Rattle.std.proofs.Common.{rules, w64, FitsSigned}
+use Rattle.std.proofs.lemmas.Int.{to_z-of_z}
+use Rattle.std.proofs.lemmas.List.{length-map}
+use Rattle.kq_agg.specs.Alone.{alone, cell_as}
+use Rattle.kq_agg.specs.Holds.{summed}
+use Rattle.kq_agg.specs.Steps.{Steps}
+use Rattle.kq_agg.specs.declared.kind.Kind.TheVariants as kind
+use Rattle.kq_agg.proofs.Changes.{ChangesAt-ok}
+use Rattle.kq_agg.proofs.StepLemmas.{Steps-number}
+use Rattle.kq_agg.proofs.columns.sum_at.Goals as goal
+
+pub returns-clause-ok : goal.returns-clause-ok
+returns-clause-ok c =
+    let sums = c.args.sums.now.items in
+    let fz : FitsSigned w64 c.args.number = search rules in
+    let step = simp to_z-of_z at c.step_number.ensures.ok in
+    ChangesAt-ok summed (Steps kind.Sum (alone (cell_as c.args.reading c.args.number))) sums c.args.group _ _ c.step_number.result (rw (length-map sums summed) c.requires) c.index_mut.ensures.value
+    step (λ e. rw e (Steps-number c.args.reading _ c.args.number))
