@@ -4,13 +4,11 @@
 mod joined;
 mod leaves;
 mod outcome;
-mod places;
 mod reshaped;
 mod run;
 mod shared;
 mod single;
 mod sinks;
-mod sort;
 mod step;
 mod stretch;
 mod terms;

@@ -1,0 +1,6 @@
+pub mod Answered
+pub mod Dealt
+pub mod Entries
+pub mod Firsts
+pub mod Keyed
+pub mod Orders

@@ -1,0 +1,9 @@
+//! Rows in an order: what `sort` and `top` make of rows. Where rows stand, and what a step of a plan gives, is left to the crates of plans.
+#![tactic(auto)]
+
+mod first;
+mod placed;
+mod radix;
+mod sort;
+
+pub use sort::{sort_rows, top_rows};
