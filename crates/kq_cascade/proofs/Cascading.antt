@@ -4,7 +4,7 @@ use Rattle.std.proofs.lemmas.List.{length_push}
 use Rattle.std.proofs.lemmas.List.Elements.{All-nil, All-cons, All-push, Contains-append_left, Contains-push}
 use Rattle.kq_model.specs.declared.batch.Batch.{Batch}
 use Rattle.kq_model.specs.declared.batch.Failure.{Failure}
-use Rattle.kq_model.specs.declared.cause.Cause.{Cause}
+use Rattle.kq_answer.specs.declared.cause.Cause.{Cause}
 use Rattle.kq_model.specs.declared.policy.Due.{Due}
 use Rattle.kq_cascade.specs.declared.running.CascadeFault.{CascadeFault}
 use Rattle.kq_cascade.specs.declared.running.CascadeFault.TheVariants.{PolicyFailed, Full, Memory}

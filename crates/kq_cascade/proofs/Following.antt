@@ -4,7 +4,7 @@ use Rattle.std.proofs.lemmas.List.{take-append-drop, drop-append-le, take-append
 use Rattle.std.proofs.lemmas.List.Elements.{All-take}
 use Rattle.kq_model.specs.declared.batch.Batch.{Batch}
 use Rattle.kq_model.specs.declared.batch.Failure.{Failure}
-use Rattle.kq_model.specs.declared.cause.Cause.{Cause}
+use Rattle.kq_answer.specs.declared.cause.Cause.{Cause}
 use Rattle.kq_model.specs.declared.policy.Due.{Due}
 use Rattle.kq_cascade.specs.declared.stack.Frame.{Frame}
 use Rattle.kq_model.specs.Derived.{Row, Queries, Cascade, Made, Failed, TooMany, Comes, first, Follows, no_more, too_many, ended, goes_on, Leaves, gives, after, ends, batches_of, failures_of, next_batch}

@@ -3,7 +3,7 @@ use Rattle.std.proofs.Common.{◌≡◌, ◌≤◌, ◌<◌, ℕ, Bool, true, fa
 use Rattle.std.proofs.lemmas.List.{length-take-le}
 use Rattle.kq_model.specs.declared.batch.Batch.{Batch}
 use Rattle.kq_model.specs.declared.batch.Failure.{Failure}
-use Rattle.kq_model.specs.declared.cause.Cause.{Cause}
+use Rattle.kq_answer.specs.declared.cause.Cause.{Cause}
 use Rattle.kq_model.specs.declared.policy.Due.{Due}
 use Rattle.kq_cascade.specs.declared.stack.Frame.{Frame}
 use Rattle.kq_cascade.specs.Steps.{State, batch_at, due_at, advanced, left, noted, ArePiled, IsLaid, Settles, none_left, resumed, FallsTo, Falls, notes, drops, drops_all}

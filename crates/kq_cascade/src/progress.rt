@@ -6,7 +6,8 @@ ghost use Rattle.kq_cascade.specs.Steps.{Falls, IsLaid, IsNext, Settles, batch_a
 use crate::batch::BatchRows;
 use crate::stack::{Frame, Stack};
 use crate::tables::Tables;
-use kq_model::{Cause, Due, Failure, Failures};
+use kq_answer::Cause;
+use kq_model::{Due, Failure, Failures};
 use kq_value::Memory;
 use std::alloc::Global;
 

@@ -9,7 +9,8 @@ ghost use Rattle.kq_widened.specs.Widened.{widened};
 
 use crate::batch::BatchRows;
 use crate::tables::{QueryFault, Tables};
-use kq_model::{Cause, Due};
+use kq_answer::Cause;
+use kq_model::Due;
 use kq_rows::Rows;
 use kq_value::{Field, Memory, Tags, Value};
 use kq_widened::widen;

@@ -8,8 +8,9 @@ ghost use Rattle.kq_model.specs.Typed.{IsLead};
 ghost use Rattle.kq_value.specs.Typed.{HasTypes};
 
 use crate::batch::BatchRows;
+use kq_answer::Cause;
 use kq_extent::TableExtents;
-use kq_model::{Cause, Due};
+use kq_model::Due;
 use kq_rows::Rows;
 use kq_value::{Field, Memory};
 use std::alloc::Global;
@@ -37,7 +38,7 @@ pub trait Tables {
     ghost use Rattle.std.specs.Prelude.{List, Result};
     ghost use Rattle.kq_model.specs.Force.{Rules};
     ghost use Rattle.kq_model.specs.declared.policy.Due.{Due as Standing};
-    ghost use Rattle.kq_model.specs.declared.cause.Cause.{Cause as Reason};
+    ghost use Rattle.kq_answer.specs.declared.cause.Cause.{Cause as Reason};
     ghost use Rattle.kq_value.specs.declared.value.Value.{Value as Cell};
 
     /// The columns of each table, and the entries of each table's policy.

@@ -7,7 +7,7 @@ use Rattle.std.proofs.lemmas.List.Folds.{list_any_more}
 use Rattle.kq_model.specs.declared.batch.Batch.{Batch}
 use Rattle.kq_model.specs.declared.event.Commit.{Commit}
 use Rattle.kq_model.specs.History.{Log}
-use Rattle.kq_model.specs.Names.{is_among}
+use Rattle.kq_model.specs.kq_repeats.Names.{is_among}
 use Rattle.kq_model.specs.Tagged.{gives_tag, is_tagged_by}
 use Rattle.kq_model.proofs.Tagged.{first_tagged-push}
 use Rattle.kq_tagged.specs.declared.entry.Entry.{Entry}

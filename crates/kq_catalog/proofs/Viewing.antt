@@ -20,7 +20,7 @@ use Rattle.kq_model.specs.declared.limits.Limits.{Limits}
 use Rattle.kq_model.specs.Edits.{changed}
 use Rattle.kq_model.specs.History.{History, Log, log, commits_of, cursor as cursor_of, Viewed, views, views_by, view_count, view_cursor, view_cursor_after, names_of_views}
 use Rattle.kq_model.specs.Lawful.{AreLawful, IsFold, LawfulCommit}
-use Rattle.kq_model.specs.Names.{is_among}
+use Rattle.kq_model.specs.kq_repeats.Names.{is_among}
 use Rattle.kq_model.specs.Policies.{noted, policies}
 use Rattle.kq_model.specs.Tables.{TableState}
 use Rattle.kq_model.specs.Views.{covered}

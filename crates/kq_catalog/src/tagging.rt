@@ -1,7 +1,7 @@
 // The index of tags after a commit.
 ghost use Rattle.std.specs.Prelude.{◌&&◌, IfOk, nat_eq};
 ghost use Rattle.std.specs.List.{list_any};
-ghost use Rattle.kq_model.specs.Names.{is_among};
+ghost use Rattle.kq_model.specs.kq_repeats.Names.{is_among};
 ghost use Rattle.kq_model.specs.Tagged.{gives_tag, is_tagged_by};
 ghost use Rattle.kq_tagged.specs.Index.{AddsTags};
 

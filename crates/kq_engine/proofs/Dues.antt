@@ -25,7 +25,7 @@ use Rattle.kq_model.specs.History.{Log, NumberedTable, Viewed, names_of_views, t
 use Rattle.kq_model.specs.Beside.{DueGives}
 use Rattle.kq_model.specs.Derived.{Cascade, Failed, IsDerived, Made, TooMany}
 use Rattle.kq_model.specs.Lawful.{IsIngestion, IsNewView, batch_violation, table_violation, view_violation, own_rows}
-use Rattle.kq_model.specs.Names.{names_of, repeat_of}
+use Rattle.kq_model.specs.kq_repeats.Names.{names_of, repeat_of}
 use Rattle.kq_model.specs.Policies.{rules}
 use Rattle.kq_model.specs.Tagged.{least_tagged}
 use Rattle.kq_model.proofs.Given.{IsDerived-led}

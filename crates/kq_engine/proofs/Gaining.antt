@@ -10,7 +10,7 @@ use Rattle.kq_model.specs.declared.event.Commit.TheVariants as commits
 use Rattle.kq_model.specs.declared.limits.Limits.{Limits}
 use Rattle.kq_model.specs.History.{Log, NumberedTable, tables, table_numbered}
 use Rattle.kq_model.specs.Lawful.{IsWidening}
-use Rattle.kq_model.specs.Names.{is_among, names_of, repeat_of}
+use Rattle.kq_model.specs.kq_repeats.Names.{is_among, names_of, repeat_of}
 use Rattle.kq_model.proofs.Repeats.{repeat_of-filter}
 use Rattle.kq_model.proofs.Tables.{table_numbered-at}
 use Rattle.kq_command.specs.declared.columns.Column.{Column}

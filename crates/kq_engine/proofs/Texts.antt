@@ -6,7 +6,7 @@ use Rattle.std.proofs.lemmas.List.{length-map}
 use Rattle.std.proofs.lemmas.Option.{slice_get_cases}
 use Rattle.std.proofs.lemmas.Simd.{map-map}
 use Rattle.kq_value.specs.declared.schema.Field.{Field}
-use Rattle.kq_model.specs.Names.{repeat_of, names_of}
+use Rattle.kq_model.specs.kq_repeats.Names.{repeat_of, names_of}
 use Rattle.kq_model.proofs.Repeats.{repeat_of-within}
 use Rattle.kq_command.specs.declared.columns.Column.{Column}
 use Rattle.kq_command.specs.Columns.{schema_of, column_names}

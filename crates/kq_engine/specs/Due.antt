@@ -12,7 +12,7 @@ use Rattle.kq_model.specs.Beside.{DueGives}
 use Rattle.kq_model.specs.Derived.{Cascade, IsDerived, Made, Failed, TooMany}
 use Rattle.kq_model.specs.History.{Log, tables, table_named, is_view, NumberedTable, table_numbered, History, Viewed, log, names_of_views, view_count, views}
 use Rattle.kq_model.specs.Lawful.{own_rows}
-use Rattle.kq_model.specs.Names.{repeat_of}
+use Rattle.kq_model.specs.kq_repeats.Names.{repeat_of}
 use Rattle.kq_model.specs.Policies.{rules}
 use Rattle.kq_model.specs.Tagged.{ingested_by, least_tagged}
 use Rattle.kq_command.specs.declared.columns.Column.{Column}

@@ -1,6 +1,6 @@
 -- The replies to what is shown of the catalogue.
 use Rattle.std.specs.Prelude.{◌≡◌, ℕ, false, List, Option, Some, None}
-use Rattle.kq_model.specs.declared.answer.Answer.{Answer}
+use Rattle.kq_answer.specs.declared.answer.Answer.{Answer}
 use Rattle.kq_model.specs.History.{History, NumberedTable, log, tables, table_numbered}
 use Rattle.kq_command.specs.declared.columns.Identifier.{Identifier}
 use Rattle.kq_command.specs.declared.command.Show.{Show}

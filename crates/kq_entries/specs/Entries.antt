@@ -7,8 +7,8 @@ use Rattle.kq_entries.specs.declared.fault.EntriesFault.{EntriesFault}
 use Rattle.kq_entries.specs.declared.fault.EntriesFault.TheVariants as faults
 use Rattle.kq_entries.specs.declared.fault.EntryFault.{EntryFault}
 use Rattle.kq_entries.specs.declared.fault.EntryFault.TheVariants as fault
-use Rattle.kq_model.specs.declared.cause.Why.{Why}
-use Rattle.kq_model.specs.declared.cause.Why.TheVariants as why
+use Rattle.kq_answer.specs.declared.cause.Why.{Why}
+use Rattle.kq_answer.specs.declared.cause.Why.TheVariants as why
 use Rattle.kq_model.specs.declared.policy.Entry.{Entry}
 use Rattle.kq_model.specs.History.{Log, NumberedTable, table_numbered, tables}
 use Rattle.kq_plan.specs.Fits.{FitsNames}

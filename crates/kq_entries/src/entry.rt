@@ -4,9 +4,10 @@ ghost use Rattle.kq_entries.specs.Entries.{BindsEntry, BindsQuery, fault_by};
 ghost use Rattle.kq_model.specs.History.{log};
 
 use crate::fault::EntryFault;
+use kq_answer::Why;
 use kq_bind_policy::{PolicyFault, bind_policy};
 use kq_catalog::Snapshot;
-use kq_model::{Entry, Why};
+use kq_model::Entry;
 use kq_plan::Names;
 use kq_policy_json::Written;
 use kq_value::Field;

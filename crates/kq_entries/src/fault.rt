@@ -1,5 +1,5 @@
 // Why a text is no update policy.
-use kq_model::Why;
+use kq_answer::Why;
 use std::alloc::{AllocError, AllocFailed};
 
 /// Why a text gives no entries of an update policy.

@@ -6,8 +6,9 @@ ghost use Rattle.kq_policy_json.specs.PolicyTexts.{fault_of};
 
 use crate::entry::bind_entry;
 use crate::fault::{EntriesFault, EntryFault};
+use kq_answer::Why;
 use kq_catalog::Snapshot;
-use kq_model::{Entry, Why};
+use kq_model::Entry;
 use kq_plan::Names;
 use kq_policy_json::{JsonFault, Written, read_policy};
 use kq_value::Field;

@@ -3,8 +3,8 @@ use Rattle.std.proofs.Common.{◌≡◌, ◌≤◌, ℕ, Bool, true, false, List
 use Rattle.kq_plan.specs.declared.plan.Plan.{Plan}
 use Rattle.kq_model.specs.declared.batch.Batch.{Batch}
 use Rattle.kq_model.specs.declared.batch.Failure.{Failure}
-use Rattle.kq_model.specs.declared.cause.Cause.{Cause}
-use Rattle.kq_model.specs.declared.cause.Cause.TheVariants as causes
+use Rattle.kq_answer.specs.declared.cause.Cause.{Cause}
+use Rattle.kq_answer.specs.declared.cause.Cause.TheVariants as causes
 use Rattle.kq_model.specs.declared.policy.Entry.{Entry}
 use Rattle.kq_model.specs.Derived.{Row, Queries, Made, Failed, gave_none, first, no_more, ended, goes_on, fails, gives, IsDerived}
 use Rattle.kq_model.specs.Force.{Rules}

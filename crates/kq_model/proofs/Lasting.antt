@@ -12,7 +12,7 @@ use Rattle.kq_value.specs.declared.schema.Field.{Field}
 use Rattle.kq_value.specs.Same.{Same}
 use Rattle.kq_widened.specs.Widened.{widened_records}
 use Rattle.kq_model.specs.declared.batch.Batch.{Batch}
-use Rattle.kq_model.specs.declared.cause.Cause.{Cause}
+use Rattle.kq_answer.specs.declared.cause.Cause.{Cause}
 use Rattle.kq_model.specs.declared.policy.Due.{Due}
 use Rattle.kq_model.specs.declared.policy.Entry.{Entry}
 use Rattle.kq_model.specs.declared.table.Table.{Table}

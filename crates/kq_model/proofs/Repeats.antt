@@ -4,7 +4,7 @@ use Rattle.std.specs.Cmp.Lexicographic.{pointwise}
 use Rattle.std.specs.List.{filter}
 use Rattle.std.proofs.lemmas.Bool.{false≢true}
 use Rattle.std.proofs.lemmas.List.Folds.{list_any-append}
-use Rattle.kq_model.specs.Names.{is_among, repeat_after, repeat_of}
+use Rattle.kq_repeats.specs.Names.{is_among, repeat_after, repeat_of}
 
 repeat_after-within : (before names : List (List ℕ)) (i : ℕ) → repeat_after before names ≡ Some i → i < length before + length names
 repeat_after-within before [] i e = cc

@@ -1,7 +1,7 @@
 -- What comes of a batch by some queries comes of it by all that may give as much.
 use Rattle.std.proofs.Common.{◌+◌, ℕ, List, Result}
 use Rattle.kq_model.specs.declared.batch.Batch.{Batch}
-use Rattle.kq_model.specs.declared.cause.Cause.{Cause}
+use Rattle.kq_answer.specs.declared.cause.Cause.{Cause}
 use Rattle.kq_model.specs.declared.policy.Due.{Due}
 use Rattle.kq_model.specs.Derived.{Row, Queries, Cascade, FailsBy, gave_none, gave_too_many, Comes, first, Follows, no_more, too_many, ended, goes_on, Leaves, fails, gives, next_batch, IsDerived}
 use Rattle.kq_model.specs.Force.{Rules, in_force}

@@ -12,8 +12,8 @@ use Rattle.kq_value.specs.declared.record.Record.{Record}
 use Rattle.kq_value.specs.declared.schema.Field.{Field}
 use Rattle.kq_value.specs.Same.{Same}
 use Rattle.kq_value.specs.Typed.{HasTypes}
-use Rattle.kq_model.specs.declared.cause.Cause.{Cause}
-use Rattle.kq_model.specs.declared.cause.Cause.TheVariants as causes
+use Rattle.kq_answer.specs.declared.cause.Cause.{Cause}
+use Rattle.kq_answer.specs.declared.cause.Cause.TheVariants as causes
 use Rattle.kq_model.specs.declared.policy.Due.{Due}
 use Rattle.kq_model.specs.declared.policy.Entry.{Entry}
 use Rattle.kq_model.specs.Derived.{Row}

@@ -2,8 +2,8 @@
 use Rattle.std.specs.Prelude.{◌≡◌, ◌≤◌, ◌<◌, ◌+◌, ℕ, Bool, true, false, List, [], ◌∷◌, ◌++◌, Result, Ok, Err, length, map, if◌then◌else◌}
 use Rattle.kq_model.specs.declared.batch.Batch.{Batch}
 use Rattle.kq_model.specs.declared.batch.Failure.{Failure}
-use Rattle.kq_model.specs.declared.cause.Cause.{Cause}
-use Rattle.kq_model.specs.declared.cause.Cause.TheVariants as causes
+use Rattle.kq_answer.specs.declared.cause.Cause.{Cause}
+use Rattle.kq_answer.specs.declared.cause.Cause.TheVariants as causes
 use Rattle.kq_value.specs.declared.schema.Field.{Field}
 use Rattle.kq_value.specs.declared.value.Value.{Value}
 use Rattle.kq_widened.specs.Widened.{widened}

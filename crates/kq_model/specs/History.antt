@@ -13,7 +13,7 @@ use Rattle.kq_model.specs.declared.event.Operation.TheVariants as operation
 use Rattle.kq_model.specs.declared.event.Event.{Event}
 use Rattle.kq_model.specs.declared.view.View.{View}
 use Rattle.kq_model.specs.Changed.{changed}
-use Rattle.kq_model.specs.Names.{is_among}
+use Rattle.kq_repeats.specs.Names.{is_among}
 
 abbrev pub History : Type 0
 History = List Event

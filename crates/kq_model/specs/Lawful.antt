@@ -23,7 +23,7 @@ use Rattle.kq_model.specs.Beside.{DueGives}
 use Rattle.kq_model.specs.Cycles.{IsOnCycle}
 use Rattle.kq_model.specs.Derived.{IsDerived, Made}
 use Rattle.kq_model.specs.History.{History, Log, log, cursor, tables, table_named, NumberedTable, table_numbered, view_count, is_view, view_cursor}
-use Rattle.kq_model.specs.Names.{is_among, repeat_of, names_of}
+use Rattle.kq_repeats.specs.Names.{is_among, repeat_of, names_of}
 use Rattle.kq_model.specs.Policies.{policies, rules, with_policy}
 use Rattle.kq_model.specs.PolicyBodies.{IsPolicyBody}
 use Rattle.kq_model.specs.Records.{picked, item_ids, extents_made}

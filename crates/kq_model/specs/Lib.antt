@@ -1,5 +1,4 @@
 pub mod Beside
-pub mod Causes
 pub mod Changed
 pub mod Cycles
 pub mod Derived
@@ -11,7 +10,6 @@ pub mod Lawful
 pub mod Limits
 pub mod Requests
 pub mod Moments
-pub mod Names
 pub mod Policies
 pub mod PolicyBodies
 pub mod Records
@@ -20,3 +18,4 @@ pub mod Tagged
 pub mod Typed
 pub mod Views
 pub mod kq_grouping
+pub mod kq_repeats

@@ -5,7 +5,7 @@ use Rattle.kq_model.specs.declared.batch.Batch.{Batch}
 use Rattle.kq_model.specs.declared.event.Commit.{Commit}
 use Rattle.kq_model.specs.declared.event.Commit.TheVariants.{CreateTable, SetPolicy, CreateView, AlterMerge, Ingest}
 use Rattle.kq_model.specs.History.{Log}
-use Rattle.kq_model.specs.Names.{is_among}
+use Rattle.kq_repeats.specs.Names.{is_among}
 
 -- whether a batch gives a table an extent with the tag
 abbrev pub gives_tag : ℕ → List ℕ → Batch → Bool

@@ -1,7 +1,7 @@
 // Batches and failures of an ingestion.
 ghost use Rattle.std.specs.Prelude.{◌≡◌, List, [], ◌∷◌, ◌++◌, OnOk, OnErr, length};
 
-use crate::cause::Cause;
+use kq_answer::Cause;
 use kq_rows::RecordedRows;
 use kq_value::{Memory, Tags};
 use std::alloc::Global;

@@ -1,10 +1,8 @@
-//! The words that the engine speaks: commits, events, tables, answers and limits, with the definitions of what a history
+//! The words that the engine speaks: commits, events, tables and limits, with the definitions of what a history
 //! of events says. It holds no algorithm: storing a history is left to the catalogue, answering commands to the engine.
 #![tactic(auto)]
 
-mod answer;
 mod batch;
-mod cause;
 mod event;
 mod ids;
 mod limits;
@@ -12,9 +10,7 @@ mod policy;
 mod table;
 mod view;
 
-pub use answer::Answer;
 pub use batch::{Batch, Batches, Failure, Failures, Noted};
-pub use cause::{Cause, Why};
 pub use event::{By, Commit, Event, Operation};
 pub use ids::Ids;
 pub use limits::Limits;

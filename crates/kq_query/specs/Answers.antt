@@ -6,7 +6,7 @@ use Rattle.kq_bind_expression.specs.declared.fault.BindFault.{BindFault}
 use Rattle.kq_bind_expression.specs.declared.fault.BindFault.TheVariants as faults
 use Rattle.kq_bind_expression.specs.Verdicts.{Fault, unsupported, unknown, mistyped, Verdict}
 use Rattle.kq_grammar.specs.Trees.{QueryTree}
-use Rattle.kq_model.specs.declared.answer.Answer.{Answer}
+use Rattle.kq_answer.specs.declared.answer.Answer.{Answer}
 use Rattle.kq_model.specs.History.{History}
 use Rattle.kq_pipe.specs.declared.outcome.Outcome.{Outcome}
 use Rattle.kq_pipe.specs.declared.outcome.Outcome.TheVariants as outcome

@@ -1,6 +1,6 @@
 -- Answers as they are printed.
 use Rattle.std.specs.Prelude.{◌≡◌, ℕ, List}
-use Rattle.kq_model.specs.declared.answer.Answer.{Answer}
+use Rattle.kq_answer.specs.declared.answer.Answer.{Answer}
 use Rattle.kq_reply.specs.declared.reply.Reply.{Reply}
 use Rattle.kq_reply.specs.declared.reply.Reply.TheVariants as replies
 use Rattle.kq_reply.specs.Answer.{Prints}

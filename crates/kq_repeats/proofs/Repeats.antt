@@ -6,7 +6,7 @@ use Rattle.std.proofs.lemmas.Map.Text.{is_eq-slice_cmp}
 use Rattle.std.specs.BTreeSet.{BTreeSet, Updates, contains_by}
 use Rattle.std.specs.Cmp.Lexicographic.{pointwise, slice_cmp}
 use Rattle.std.specs.Ordering.{nat_cmp}
-use Rattle.kq_model.specs.Names.{is_among, repeat_after}
+use Rattle.kq_repeats.specs.Names.{is_among, repeat_after}
 use denote.Ref.{Bor}
 
 -- what is left to look through after the first items

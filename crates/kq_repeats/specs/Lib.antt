@@ -1,1 +1,1 @@
-pub mod kq_model
+pub mod Names

@@ -3,7 +3,7 @@
 #![tactic(auto)]
 
 ghost use Rattle.std.specs.Prelude.{◌≡◌, ◌<◌, IfErr, IfOk, List, ℕ, length, map};
-ghost use Rattle.kq_model.specs.Names.{is_among as stands_among, repeat_of};
+ghost use Rattle.kq_repeats.specs.Names.{is_among as stands_among, repeat_of};
 
 use kq_value::{Memory, Text};
 use std::alloc::Global;

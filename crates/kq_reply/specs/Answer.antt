@@ -8,7 +8,7 @@ use Rattle.kq_value.specs.declared.ty.Ty.TheVariants.{Long, Int, Text, Bool as T
 use Rattle.kq_value.specs.declared.schema.Field.{Field}
 use Rattle.kq_value.specs.declared.value.Value.{Value}
 use Rattle.kq_written.specs.Cells.{escaped, reply_text_of}
-use Rattle.kq_model.specs.declared.answer.Answer.{Answer}
+use Rattle.kq_answer.specs.declared.answer.Answer.{Answer}
 use Rattle.kq_reply.specs.Text.{counted}
 
 abbrev pub type_name : Ty → List ℕ

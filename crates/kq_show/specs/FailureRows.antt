@@ -5,7 +5,7 @@ use Rattle.kq_value.specs.declared.ty.Ty.TheVariants as ty
 use Rattle.kq_value.specs.declared.value.Value.{Value}
 use Rattle.kq_value.specs.declared.value.Value.TheVariants.{Text}
 use Rattle.kq_model.specs.declared.batch.Noted.{Noted}
-use Rattle.kq_model.specs.Causes.{cause_text}
+use Rattle.kq_answer.specs.Causes.{cause_text}
 use Rattle.kq_model.specs.History.{History, Log, log}
 use Rattle.kq_model.specs.Policies.{noted}
 use Rattle.kq_show.specs.Cells.{column, number_cell}

@@ -12,9 +12,9 @@ ghost use Rattle.kq_show.specs.Cells.{number_or_null};
 ghost use Rattle.kq_show.specs.ExtentRows.{extent_columns, extent_rows, greatest, held_row, least, strings};
 
 use crate::cells::{number_cell, schema_of};
+use kq_answer::Answer;
 use kq_catalog::Snapshot;
 use kq_extent::{Extent, TableExtents};
-use kq_model::Answer;
 use kq_rows::Rows;
 use kq_value::{Dyn, DynList, Memory, Schema, Tags, Ty, Value};
 use std::alloc::Global;

@@ -2,15 +2,16 @@
 ghost use Rattle.std.specs.Prelude.{◌≡◌, ◌++◌, [], All, IfOk, OnOk, codes, decimal, false, map};
 ghost use Rattle.std.specs.Arc.{arc_value};
 ghost use Rattle.kq_value.specs.Typed.{HasTypes};
-ghost use Rattle.kq_model.specs.Causes.{cause_text};
+ghost use Rattle.kq_answer.specs.Causes.{cause_text};
 ghost use Rattle.kq_model.specs.History.{log};
 ghost use Rattle.kq_show.specs.FailureRows.{failure_columns, failure_row, failure_rows};
 
 use crate::cells::{number_cell, schema_of};
 use crate::journal::table_name;
 use itoa::Buffer;
+use kq_answer::{Answer, Cause};
 use kq_catalog::Snapshot;
-use kq_model::{Answer, Cause, Noted};
+use kq_model::Noted;
 use kq_rows::Rows;
 use kq_value::{Memory, Schema, Text, Ty, Value};
 use std::alloc::Global;

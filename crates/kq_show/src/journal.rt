@@ -6,8 +6,9 @@ ghost use Rattle.kq_model.specs.History.{commits_of, log};
 ghost use Rattle.kq_show.specs.JournalRows.{cursor_of, entity_of, event_row, journal_columns, journal_rows, kind_of, name_of, rows_behind, view_name_of};
 
 use crate::cells::{number_cell, schema_of};
+use kq_answer::Answer;
 use kq_catalog::Snapshot;
-use kq_model::{Answer, Commit, Event, Operation};
+use kq_model::{Commit, Event, Operation};
 use kq_rows::Rows;
 use kq_value::{Memory, Schema, Text, Ty, Value};
 use std::alloc::Global;

@@ -6,8 +6,9 @@ ghost use Rattle.kq_show.specs.ViewRows.{view_columns, view_row, view_rows};
 
 use crate::cells::{number_cell, schema_of};
 use crate::journal::table_name;
+use kq_answer::Answer;
 use kq_catalog::Snapshot;
-use kq_model::{Answer, View};
+use kq_model::View;
 use kq_rows::Rows;
 use kq_value::{Memory, Schema, Ty, Value};
 use std::alloc::Global;

@@ -1,5 +1,5 @@
 use Rattle.std.proofs.Common.{◌≡◌, drop, map}
-use Rattle.kq_model.specs.Names.{is_among}
+use Rattle.kq_repeats.specs.Names.{is_among}
 use Rattle.kq_repeats.proofs.is_among.Given as goal
 
 -- what is left has the answer of the whole

@@ -1,5 +1,5 @@
 use Rattle.std.proofs.Common.{◌≡◌, ◌<◌, ◌∙◌, true, false, length, map, ap, sym, take, arith}
-use Rattle.kq_model.specs.Names.{is_among}
+use Rattle.kq_repeats.specs.Names.{is_among}
 use Rattle.kq_repeats.proofs.Repeats.{HasFirst-next, has, held, new, repeat-found, repeat-more}
 use Rattle.kq_repeats.proofs.repeated_among_many.Goals as goal
 

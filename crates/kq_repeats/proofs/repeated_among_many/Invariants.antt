@@ -1,5 +1,5 @@
 use Rattle.std.proofs.Common.{◌≡◌, map}
-use Rattle.kq_model.specs.Names.{repeat_of}
+use Rattle.kq_repeats.specs.Names.{repeat_of}
 use Rattle.kq_repeats.proofs.Repeats.{HasFirst, repeat_from}
 use Rattle.kq_repeats.proofs.repeated_among_many.Given as goal
 

@@ -2,7 +2,7 @@
 ghost use Rattle.std.specs.Prelude.{IfOk, IsTrue, All};
 ghost use Rattle.kq_value.specs.Typed.{HasTypes};
 
-use kq_model::Answer;
+use kq_answer::Answer;
 use kq_reply::render;
 use kq_rows::Rows;
 use kq_value::{Dyn, DynBox, Field, Memory, Row, Schema, Text, Ty, Value};

@@ -1,7 +1,7 @@
 // What is printed, in the words of the tables of replies and refusals.
 ghost use Rattle.std.specs.Prelude.{◌<◌};
 
-use kq_model::{Cause, Why};
+use kq_answer::{Cause, Why};
 use kq_reply::{Refusal, Reply, write_reply};
 use kq_value::{Bytes, Memory, Text};
 use kq_world::{MemorySink, put_all};

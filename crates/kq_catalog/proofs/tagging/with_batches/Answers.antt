@@ -1,5 +1,5 @@
 use Rattle.std.proofs.Common.{ℕ, List, ◌&&◌, nat_eq, subst}
-use Rattle.kq_model.specs.Names.{is_among}
+use Rattle.kq_model.specs.kq_repeats.Names.{is_among}
 use Rattle.kq_tagged.specs.Index.{AddsTags}
 use Rattle.kq_catalog.proofs.Tagged.{batches_more}
 use Rattle.kq_catalog.proofs.tagging.with_batches.Goals as goal

@@ -1,7 +1,7 @@
 -- Causes as they are told.
 use Rattle.std.specs.Prelude.{ℕ, List, ◌++◌, codes, decimal}
-use Rattle.kq_model.specs.declared.cause.Cause.{Cause}
-use Rattle.kq_model.specs.declared.cause.Cause.TheVariants as cause
+use Rattle.kq_answer.specs.declared.cause.Cause.{Cause}
+use Rattle.kq_answer.specs.declared.cause.Cause.TheVariants as cause
 
 abbrev pub cause_text : Cause → List ℕ
 cause_text (cause.Overflow stage) = codes "Overflow stage " ++ decimal stage

@@ -1,2 +1,0 @@
--- What callers of this crate name of `kq_model`.
-pub use Rattle.kq_model.specs.Names
