@@ -1,4 +1,4 @@
-//! Tests of values, of literals and cells that are read, and of what is kept of them, over the public calls of their crates.
+//! Tests of values, of cells that are read, and of what is kept of them, over the public calls of their crates.
 #![tactic(auto)]
 
 #[cfg(test)]
@@ -7,8 +7,6 @@ mod chain;
 mod extent;
 #[cfg(test)]
 mod ingest;
-#[cfg(test)]
-mod literal;
 #[cfg(test)]
 mod rows;
 #[cfg(test)]
