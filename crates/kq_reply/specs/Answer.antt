@@ -1,14 +1,13 @@
 -- The printed form of an answer.
-use Rattle.std.specs.Prelude.{◌≡◌, ℕ, zero, suc, Bool, true, false, List, [], ◌∷◌, ◌++◌, length, map, codes, Option, Some, None, IsPermutation, IsSorted}
+use Rattle.std.specs.Prelude.{◌≡◌, ℕ, zero, suc, Bool, List, [], ◌∷◌, ◌++◌, length, map, codes, Option, Some, None}
 use Rattle.std.specs.List.{flat_map, join_with_byte}
-use Rattle.std.specs.Ordering.{nat_cmp}
-use Rattle.std.specs.Cmp.Lexicographic.{slice_cmp}
 use Rattle.kq_value.specs.declared.ty.Ty.{Ty}
 use Rattle.kq_value.specs.declared.ty.Ty.TheVariants.{Long, Int, Text, Bool as Truth, Moment, Span, Dynamic}
 use Rattle.kq_value.specs.declared.schema.Field.{Field}
 use Rattle.kq_value.specs.declared.value.Value.{Value}
 use Rattle.kq_written.specs.Cells.{escaped, reply_text_of}
 use Rattle.kq_answer.specs.declared.answer.Answer.{Answer}
+pub use Rattle.kq_lines.specs.Lines.{AreArranged, ended}
 use Rattle.kq_reply.specs.Text.{counted}
 
 abbrev pub type_name : Ty → List ℕ
@@ -32,15 +31,6 @@ header_text schema = tabbed (map column_text schema)
 
 abbrev pub row_text : List Value → List ℕ
 row_text row = tabbed (map reply_text_of row)
-
--- a line with the LF at its end
-abbrev pub ended : List ℕ → List ℕ
-ended line = line ++ codes "\n"
-
--- an ordered answer has its lines in the order of its rows, any other in byte order
-abbrev pub AreArranged : Bool → List (List ℕ) → List (List ℕ) → Type 0
-AreArranged true rows lines = lines ≡ rows
-AreArranged false rows lines = IsPermutation rows lines × IsSorted (slice_cmp nat_cmp) lines
 
 -- rows are put behind a text, a line each, as they are to be arranged
 pub record PutsRows (ordered : Bool) (rows : List (List Value)) (old new : List ℕ) : Type 0 where

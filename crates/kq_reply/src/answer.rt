@@ -5,13 +5,13 @@ ghost use Rattle.kq_written.specs.Cells.{escaped, escaped_byte, reply_text_of};
 ghost use Rattle.kq_value.specs.Typed.{HasTypes, IsProper};
 ghost use Rattle.kq_reply.specs.Text.{counted};
 ghost use Rattle.kq_reply.specs.Answer.{Prints, PutsRows, column_text, ended, header_text, row_text, tab_before, type_name as name_of};
-ghost use Rattle.kq_reply.specs.Lines.{AreLines};
+ghost use Rattle.kq_lines.specs.Lines.{AreLines};
 
 use crate::escape::escape_sign;
-use crate::lines::{Lines, sorted};
 use itoa::Buffer;
 use kq_answer::Answer;
 use kq_dynamic::put_dyn;
+use kq_lines::{Lines, put_line, put_lines, sorted};
 use kq_rows::Rows;
 use kq_time::{put_datetime, put_timespan};
 use kq_value::{Bytes, Field, Memory, Schema, Ty, Value};
@@ -35,13 +35,6 @@ fn put_count(text: &mut Bytes, rows: usize) -> Result<(), Memory>
     let mut digits = Buffer::new();
     text.extend(b"rows ")?;
     put_line(text, digits.format(rows).as_bytes())
-}
-
-fn put_line(text: &mut Bytes, line: &[u8]) -> Result<(), Memory>
-    ensures { OnOk result (text.new ≡ text.old ++ ended line.now) }
-{
-    text.extend(line)?;
-    text.push(b'\n')
 }
 
 fn put_header(text: &mut Bytes, schema: &Schema) -> Result<(), Memory>
@@ -81,15 +74,6 @@ fn put_sorted(alloc: Global, text: &mut Bytes, rows: &Rows) -> Result<(), Memory
     let held = row_lines(alloc, rows)?;
     let lines = sorted(alloc, held.bytes.as_slice(), held.sizes.as_slice())?;
     put_lines(text, lines.as_slice())
-}
-
-fn put_lines(text: &mut Bytes, lines: &[&[u8]]) -> Result<(), Memory>
-    ensures { OnOk result (text.new ≡ text.old ++ flat_map ended (map (λ line. line.now) lines.now)) }
-{
-    for line in lines {
-        put_line(text, line)?;
-    }
-    Ok(())
 }
 
 fn row_lines(alloc: Global, rows: &Rows) -> Result<Lines, Memory>

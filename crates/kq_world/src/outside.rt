@@ -1,18 +1,18 @@
 // What a session is given.
 ghost use Rattle.std.specs.Prelude.{◌≡◌, ◌≢◌, ◌<◌, ◌++◌, ◌∷◌, [], true, false, Bool, ℕ, ℤ, List, IfOk, OnErr, length};
 ghost use Rattle.kq_world.specs.Told.{Adds};
-ghost use Rattle.kq_world.specs.Outside.{SourceView, Takes, Puts, HasCause, OpensByCause, AsksFor, Contents, contents};
+ghost use Rattle.kq_world.specs.Outside.{SourceView, Takes, Puts, HasCause, OpensByCause, AsksFor, Contents, contents, Put, Keeps};
 ghost use Rattle.kq_value.specs.Typed.{IsMoment};
 
 use kq_value::Memory;
 use std::alloc::AllocFailed;
 
 /// The outside failed.
-#[derive(Clone, Copy, Debug, PartialEq, Eq)]
+#[derive(Clone, Copy, PartialEq, Eq)]
 pub struct Failed;
 
 /// Why a feed wasn't opened.
-#[derive(Clone, Copy, Debug, PartialEq, Eq)]
+#[derive(Clone, Copy, PartialEq, Eq)]
 pub enum OpenFault {
     /// The outside failed.
     Failed,
@@ -83,6 +83,21 @@ pub trait Clock: Drop {
         ensures reading { Adds (readings self.old) (readings self.new) (result ∷ []) };
 }
 
+/// Where artefacts go: bytes under names.
+pub trait Artefacts: Drop {
+    /// All that was put, in order.
+    ghost kept: { Self → List Put };
+
+    /// How often it has failed.
+    ghost faults: { Self → ℕ };
+
+    /// Puts the bytes under the name, in place of what stood there. A refusal puts nothing there, and leaves what stands
+    /// under other names.
+    fn put(&mut self, name: &str, bytes: &[u8]) -> Result<(), Failed>
+        ensures keeps { Keeps (kept self.old) (kept self.new) result name.now bytes.now }
+        ensures cause { HasCause (faults self.old) (faults self.new) result };
+}
+
 /// A point that a session or a worker comes to. Actors 0 to 7 are sessions, 8 to 15 workers; an actor's commands are
 /// numbered from 1.
 #[derive(Clone, Copy, PartialEq, Eq)]
@@ -116,8 +131,13 @@ pub trait World {
 
     type Clock: Clock + Send;
 
+    type Artefacts: Artefacts + Send;
+
     /// Whether `first` was asked.
     ghost begun: { Self → Bool };
+
+    /// Whether `artefacts` was asked.
+    ghost given: { Self → Bool };
 
     /// The names that `open_feed` was asked for, in order.
     ghost asked: { Self → List (List ℕ) };
@@ -139,6 +159,7 @@ pub trait World {
         ensures source { Self.Source.faults result.source ≡ 0 }
         ensures sink { Self.Sink.faults result.sink ≡ 0 }
         ensures feeds { (name : List ℕ) → feed_contents self.new name ≡ feed_contents self.old name }
+        ensures given { given self.new ≡ given self.old }
         ensures asked { asked self.new ≡ asked self.old }
         ensures cause { faults self.new ≡ faults self.old };
 
@@ -154,6 +175,19 @@ pub trait World {
         ensures refused { OnErr result (feed_contents self.new name.now ≡ feed_contents self.old name.now) }
         ensures first { first_contents self.new ≡ first_contents self.old }
         ensures begun { begun self.new ≡ begun self.old }
+        ensures given { given self.new ≡ given self.old }
         ensures asked { AsksFor (asked self.old) (asked self.new) result name.now }
         ensures cause { OpensByCause (faults self.old) (faults self.new) result };
+
+    /// Where session 0 puts what it exports. Nothing was put there yet, and it has not failed yet.
+    fn artefacts(&mut self) -> Self::Artefacts
+        requires { given self.old ≡ false }
+        ensures given { given self.new ≡ true }
+        ensures fresh { Self.Artefacts.kept result ≡ [] }
+        ensures unfailed { Self.Artefacts.faults result ≡ 0 }
+        ensures first { first_contents self.new ≡ first_contents self.old }
+        ensures feeds { (name : List ℕ) → feed_contents self.new name ≡ feed_contents self.old name }
+        ensures begun { begun self.new ≡ begun self.old }
+        ensures asked { asked self.new ≡ asked self.old }
+        ensures cause { faults self.new ≡ faults self.old };
 }
