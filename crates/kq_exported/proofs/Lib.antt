@@ -1,0 +1,3 @@
+pub mod Exported
+pub mod Names
+pub mod Ranges
