@@ -2,14 +2,30 @@
 ghost use Rattle.std.specs.Prelude.{◌≡◌};
 
 use crate::columns::{Columns, Identifier};
-use crate::definition::NewView;
+use crate::definition::{NewExport, NewView};
 use crate::ingestion::Ingestion;
 use kq_grammar::Query as WrittenQuery;
 use kq_parse::ParseFault;
 use kq_value::Text;
 use std::alloc::{AllocError, AllocFailed};
 
-/// What a text asks for.
+/// What a text asks for: of the engine, or of the exporter that a session has.
+#[derive(Drop)]
+pub enum Asked {
+    Engine(Command),
+    Exporter(Export),
+}
+
+/// What an exporter is asked for.
+#[derive(Drop)]
+pub enum Export {
+    /// `#export NAME over NAME { QUERY }`
+    Define(NewExport),
+    /// `#export NAME`
+    Run(Identifier),
+}
+
+/// What the engine is asked for.
 #[derive(Drop)]
 pub enum Command {
     /// A query of any form.
@@ -22,8 +38,6 @@ pub enum Command {
     Merge(Identifier),
     /// `#fold NAME`
     Fold(Identifier),
-    /// A form that isn't built yet.
-    Unbuilt,
 }
 
 /// A query: its text, and its tree, whose symbols are places in the text.

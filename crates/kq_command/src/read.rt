@@ -1,32 +1,33 @@
 // Reading a command.
-ghost use Rattle.std.specs.Prelude.{◌≡◌, ◌≤◌, ◌∷◌, None, true, All, IfErr, IfOk, IfSome, OnErr, length};
+ghost use Rattle.std.specs.Prelude.{◌≡◌, ◌≤◌, ◌∷◌, Some, None, true, All, IfErr, IfOk, OnErr, length};
 ghost use Rattle.std.specs.Option.{option_map};
-ghost use Rattle.kq_command.specs.InText.{ColumnIn, ColumnsIn, ControlIn};
+ghost use Rattle.kq_command.specs.InText.{ColumnIn, ColumnsIn, ControlIn, IsPiece, MaybeExportIn};
 ghost use Rattle.kq_command.specs.Meanings.{behind, column_of, columns_of};
-ghost use Rattle.kq_command.specs.Reads.{IsCommandOf, IsControlOf, ReadsAs, ReadsText};
-ghost use Rattle.kq_command.specs.Unsupported.{control_fault};
+ghost use Rattle.kq_command.specs.Reads.{IsCommandOf, IsControlOf, IsExport, ReadsAs, ReadsText};
+ghost use Rattle.kq_command.specs.Unsupported.{IsTyped, column_fault, control_fault, first_of};
 ghost use Rattle.kq_control.specs.ControlTrees.{control as command, query};
-ghost use Rattle.kq_control.specs.ControlViews.{columns_of as columns_view, control_of};
+ghost use Rattle.kq_control.specs.ControlViews.{columns_of as columns_view, control_of, export_of};
 ghost use Rattle.kq_control.specs.Statements.{IsStatement};
 ghost use Rattle.kq_grammar.specs.TabularViews.{query_of};
 
 use crate::columns::{Column, Columns};
-use crate::command::{Change, Command, CommandFault, Query, Show};
+use crate::command::{Asked, Change, Command, CommandFault, Export, Query, Show};
 use crate::ingestion::Ingestion;
 use crate::meanings::{identifier, piece, string_at};
 use crate::memory::Requests;
 use crate::properties::read_properties;
 use crate::rows::rows_after;
 use crate::unsupported::unsupported;
-use crate::views::new_view;
-use kq_control::{ColumnList, Control, Statement};
-use kq_grammar::{Column as WrittenColumn, Query as WrittenQuery};
+use crate::views::{new_export, new_view};
+use kq_control::{ColumnList, Control, ExportDefinition, Statement};
+use kq_grammar::{Column as WrittenColumn, Name, Query as WrittenQuery};
 use kq_spelled::ty_of;
+use kq_syntax::Symbol;
 use kq_value::Memory;
 use std::alloc::Global;
 
 /// The command that a block of text is.
-pub fn read_command(alloc: Global, text: &[u8]) -> Result<Command, CommandFault>
+pub fn read_command(alloc: Global, text: &[u8]) -> Result<Asked, CommandFault>
     ensures { ReadsAs text.now result }
 {
     match std::str::from_utf8(text) {
@@ -37,13 +38,13 @@ pub fn read_command(alloc: Global, text: &[u8]) -> Result<Command, CommandFault>
     }
 }
 
-fn read_text(alloc: Global, text: &str) -> Result<Command, CommandFault>
+fn read_text(alloc: Global, text: &str) -> Result<Asked, CommandFault>
     ensures { ReadsText text.now result }
 {
     read_in(&mut Requests::new(alloc), text)
 }
 
-fn read_in(memory: &mut Requests, text: &str) -> Result<Command, CommandFault>
+fn read_in(memory: &mut Requests, text: &str) -> Result<Asked, CommandFault>
     ensures answer { ReadsText text.now result }
     ensures refused { IfErr result (λ f. f ≡ CommandFault.Memory → memory.new.refused ≡ true) }
 {
@@ -55,130 +56,137 @@ fn read_in(memory: &mut Requests, text: &str) -> Result<Command, CommandFault>
 }
 
 // The query of the text, whose tree it is.
-fn asked(memory: &mut Requests, text: &str, tree: Box<WrittenQuery>) -> Result<Command, Memory>
+fn asked(memory: &mut Requests, text: &str, tree: Box<WrittenQuery>) -> Result<Asked, Memory>
     ensures value { IfOk result (IsCommandOf text.now (query (query_of tree.value))) }
     ensures refused { OnErr result (memory.new.refused ≡ true) }
 {
     let text = memory.text(text)?;
-    Ok(Command::Query(Query {
+    Ok(Asked::Engine(Command::Query(Query {
         text,
         tree: Box::into_inner(tree),
-    }))
+    })))
 }
 
 // The command, unless a symbol of it isn't supported.
-fn supported(memory: &mut Requests, text: &str, control: Control) -> Result<Command, CommandFault>
+fn supported(memory: &mut Requests, text: &str, control: Control) -> Result<Asked, CommandFault>
     requires { IsStatement text.now (command (control_of control)) }
     ensures answer { ReadsText text.now result }
     ensures refused { IfErr result (λ f. f ≡ CommandFault.Memory → memory.new.refused ≡ true) }
 {
     match unsupported(memory, text, &control)? {
         Some(at) => Err(CommandFault::Unsupported { at }),
-        None => Ok(built(memory, text, control)?),
+        None => Ok(command_in(memory, text, control)?),
     }
 }
 
-// The command of a form that is built.
-fn built(memory: &mut Requests, text: &str, control: Control) -> Result<Command, Memory>
+// The command, all of which is supported.
+fn command_in(memory: &mut Requests, text: &str, control: Control) -> Result<Asked, Memory>
     requires stands { ControlIn text.now (control_of control) }
     requires supported { control_fault text.now (control_of control) ≡ None }
     ensures value { IfOk result (IsControlOf text.now (control_of control)) }
     ensures refused { OnErr result (memory.new.refused ≡ true) }
 {
-    match control {
-        Control::CreateTable(name, columns) => {
-            let name = identifier(memory, text, name)?;
-            match columns_in(memory, text, &columns)? {
-                Some(columns) => Ok(Command::Change(Change::CreateTable { name, columns })),
-                None => Ok(Command::Unbuilt),
-            }
-        }
-        Control::AlterMerge(name, columns) => {
-            let name = identifier(memory, text, name)?;
-            match columns_in(memory, text, &columns)? {
-                Some(columns) => Ok(Command::Change(Change::AlterMerge { name, columns })),
-                None => Ok(Command::Unbuilt),
-            }
-        }
-        Control::Ingest(table, list, mark) => Ok(Command::Change(Change::Ingest(Ingestion {
+    Ok(Asked::Engine(match control {
+        Control::CreateTable(name, columns) => Command::Change(Change::CreateTable {
+            name: identifier(memory, text, name)?,
+            columns: columns_in(memory, text, &columns)?,
+        }),
+        Control::AlterMerge(name, columns) => Command::Change(Change::AlterMerge {
+            name: identifier(memory, text, name)?,
+            columns: columns_in(memory, text, &columns)?,
+        }),
+        Control::Ingest(table, list, mark) => Command::Change(Change::Ingest(Ingestion {
             table: identifier(memory, text, table)?,
             properties: read_properties(memory, text, &list)?,
             body: memory.text(rows_after(text, mark))?,
-        }))),
+        })),
         Control::CreateView(view) => {
             let view = new_view(memory, text, Box::into_inner(view))?;
-            Ok(Command::Change(Change::CreateView(view)))
+            Command::Change(Change::CreateView(view))
         }
-        Control::SetPolicy(target, policy) => Ok(Command::Change(Change::SetPolicy {
+        Control::SetPolicy(target, policy) => Command::Change(Change::SetPolicy {
             target: identifier(memory, text, target)?,
             policy: string_at(memory, text, policy)?,
-        })),
-        Control::ShowView(view) => Ok(Command::Show(Show::View(identifier(memory, text, view)?))),
-        Control::ShowFailures => Ok(Command::Show(Show::Failures)),
-        Control::ShowExtents(table) => Ok(Command::Show(Show::Extents(identifier(
+        }),
+        Control::ShowView(view) => Command::Show(Show::View(identifier(memory, text, view)?)),
+        Control::ShowFailures => Command::Show(Show::Failures),
+        Control::ShowExtents(table) => Command::Show(Show::Extents(identifier(
             memory, text, table,
-        )?))),
-        Control::ShowJournal => Ok(Command::Show(Show::Journal)),
-        Control::Merge(table) => Ok(Command::Merge(identifier(memory, text, table)?)),
-        Control::Fold(view) => Ok(Command::Fold(identifier(memory, text, view)?)),
-        Control::Export(_, _) => Ok(Command::Unbuilt),
+        )?)),
+        Control::ShowJournal => Command::Show(Show::Journal),
+        Control::Merge(table) => Command::Merge(identifier(memory, text, table)?),
+        Control::Fold(view) => Command::Fold(identifier(memory, text, view)?),
+        Control::Export(name, export) => {
+            return Ok(Asked::Exporter(export_in(memory, text, name, export)?));
+        }
+    }))
+}
+
+// An export that is to be made, or one that is to run.
+fn export_in(
+    memory: &mut Requests,
+    text: &str,
+    name: Symbol,
+    export: Option<Box<ExportDefinition>>,
+) -> Result<Export, Memory>
+    requires name { IsPiece text.now name }
+    requires parts { MaybeExportIn text.now (option_map (λ e. export_of e.value) export) }
+    ensures value { IfOk result (IsExport text.now name (option_map (λ e. export_of e.value) export)) }
+    ensures refused { OnErr result (memory.new.refused ≡ true) }
+{
+    match export {
+        Some(export) => {
+            let export = new_export(memory, text, name, Box::into_inner(export))?;
+            Ok(Export::Define(export))
+        }
+        None => Ok(Export::Run(identifier(memory, text, Name::Word(name))?)),
     }
 }
 
-fn column_in(
-    memory: &mut Requests,
-    text: &str,
-    column: WrittenColumn,
-) -> Result<Option<Column>, Memory>
-    requires { ColumnIn text.now column }
-    ensures value { IfOk result (λ o. o ≡ column_of text.now column) }
+fn column_in(memory: &mut Requests, text: &str, column: WrittenColumn) -> Result<Column, Memory>
+    requires stands { ColumnIn text.now column }
+    requires typed { IsTyped text.now column }
+    ensures value { IfOk result (λ c. column_of text.now column ≡ Some c) }
     ensures refused { OnErr result (memory.new.refused ≡ true) }
 {
     let name = identifier(memory, text, column.name)?;
     match ty_of(piece(text, column.ty).as_bytes()) {
-        Some(ty) => Ok(Some(Column { name, ty })),
-        None => Ok(None),
+        Some(ty) => Ok(Column { name, ty }),
+        None => unreachable!(),
     }
 }
 
-// The columns behind those that were found, where each has a known type.
+// The columns behind those that were found.
 fn more_columns(
     memory: &mut Requests,
     text: &str,
     columns: &[WrittenColumn],
     mut found: Vec<Column>,
-) -> Result<Option<Vec<Column>>, Memory>
-    requires { All (ColumnIn text.now) columns.now }
-    ensures columns { IfOk result (λ o. option_map (λ v. v.items) o ≡ behind found.items (columns_of text.now columns.now)) }
-    ensures some { IfOk result (λ o. IfSome o (λ v. length found.items ≤ length v.items)) }
+) -> Result<Vec<Column>, Memory>
+    requires stand { All (ColumnIn text.now) columns.now }
+    requires typed { All (IsTyped text.now) columns.now }
+    ensures columns { IfOk result (λ v. behind found.items (columns_of text.now columns.now) ≡ Some v.items) }
+    ensures some { IfOk result (λ v. length found.items ≤ length v.items) }
     ensures refused { OnErr result (memory.new.refused ≡ true) }
 {
     for column in columns {
-        match column_in(memory, text, *column)? {
-            Some(column) => memory.push(&mut found, column)?,
-            None => return Ok(None),
-        }
+        let column = column_in(memory, text, *column)?;
+        memory.push(&mut found, column)?;
     }
-    Ok(Some(found))
+    Ok(found)
 }
 
-// The columns, where each has a known type.
-fn columns_in(
-    memory: &mut Requests,
-    text: &str,
-    list: &ColumnList,
-) -> Result<Option<Columns>, Memory>
-    requires { ColumnsIn text.now (columns_view list.now) }
-    ensures value { IfOk result (λ o. o ≡ columns_of text.now (list.now.first ∷ list.now.others.items)) }
+// The columns of a list, each of a known type.
+#[tactic(auto, using(crate::proofs::Typed::first_typed, crate::proofs::Typed::others_typed))]
+fn columns_in(memory: &mut Requests, text: &str, list: &ColumnList) -> Result<Columns, Memory>
+    requires stand { ColumnsIn text.now (columns_view list.now) }
+    requires typed { first_of (column_fault text.now) (list.now.first ∷ list.now.others.items) ≡ None }
+    ensures value { IfOk result (λ cs. columns_of text.now (list.now.first ∷ list.now.others.items) ≡ Some cs) }
     ensures refused { OnErr result (memory.new.refused ≡ true) }
 {
+    let first = column_in(memory, text, list.first)?;
     let mut found = memory.empty();
-    match column_in(memory, text, list.first)? {
-        Some(column) => memory.push(&mut found, column)?,
-        None => return Ok(None),
-    }
-    match more_columns(memory, text, list.others.as_slice(), found)? {
-        Some(columns) => Ok(Some(Columns::from_vec(columns))),
-        None => Ok(None),
-    }
+    memory.push(&mut found, first)?;
+    let columns = more_columns(memory, text, list.others.as_slice(), found)?;
+    Ok(Columns::from_vec(columns))
 }
