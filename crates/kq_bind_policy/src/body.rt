@@ -2,11 +2,11 @@
 ghost use Rattle.std.specs.Prelude.{◌≡◌, ◌↔◌, IsTrue, map};
 ghost use Rattle.std.specs.List.{list_any};
 ghost use Rattle.kq_bind_policy.specs.Policies as the;
-ghost use Rattle.kq_model.specs.PolicyBodies.{IsPolicyBody};
-ghost use Rattle.kq_model.specs.PolicyBodies as form;
+ghost use Rattle.kq_moments.specs.kq_model.PolicyBodies.{IsPolicyBody};
+ghost use Rattle.kq_moments.specs.kq_model.PolicyBodies as form;
 ghost use Rattle.kq_plan.specs.Plans.{planned_of, stepping_of};
 
-use crate::moments::work_asks;
+use kq_moments::work_asks;
 use kq_plan::{LeafKind, Plan, Step, Work};
 use kq_value::Text;
 

@@ -54,7 +54,7 @@ fn source_place(source: &Source) -> usize
     }
 }
 
-fn pipe_place(tree: &Tabular) -> usize
+pub(crate) fn pipe_place(tree: &Tabular) -> usize
     ensures { result ≡ the.pipe_place (tabular_of tree.now) }
 {
     source_place(&tree.source)

@@ -1,8 +1,8 @@
 use Rattle.std.proofs.Common.{◌≡◌, ◌+◌, ◌*◌, drop, map}
 use Rattle.std.specs.List.{list_any}
 use Rattle.kq_model.specs.Moments.{some_asks}
-use Rattle.kq_bind_policy.specs.Links.{link_asks}
-use Rattle.kq_bind_policy.proofs.moments.+moments.Given as goal
+use Rattle.kq_moments.specs.Links.{link_asks}
+use Rattle.kq_moments.proofs.moments.+moments.Given as goal
 use Rattle.kq_expr.specs.Terms.{link_of, term_of, terms_of}
 
 abbrev pub invariant-some_asks-loop-expr : goal.invariant-some_asks-loop-expr

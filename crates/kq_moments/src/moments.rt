@@ -2,7 +2,7 @@
 ghost use Rattle.std.specs.Prelude.{◌≡◌, map};
 ghost use Rattle.std.specs.List.{list_any};
 ghost use Rattle.kq_model.specs.Moments as the;
-ghost use Rattle.kq_bind_policy.specs.Links.{link_asks};
+ghost use Rattle.kq_moments.specs.Links.{link_asks};
 ghost use Rattle.kq_expr.specs.Terms.{link_of, term_of, terms_of};
 ghost use Rattle.kq_plan.specs.Plans.{aggregating_of, doing_of, sorting_of};
 
@@ -106,8 +106,8 @@ fn some_aggregate_asks(aggregates: &[Aggregate]) -> bool
     false
 }
 
-// Whether some expression of a step calls `now` or `ago`.
-pub(crate) fn work_asks(work: &Work) -> bool
+/// Whether some expression of a step calls `now` or `ago`. Takes no memory.
+pub fn work_asks(work: &Work) -> bool
     ensures { result ≡ the.step_asks (doing_of work.now) }
 {
     match work {

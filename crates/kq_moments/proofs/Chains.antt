@@ -13,7 +13,7 @@ use Rattle.kq_expr.specs.Operations.{function_of}
 use Rattle.kq_expr.specs.Terms.{Term, and_term, linked, chained, link_of, term_of}
 use Rattle.kq_expr.proofs.Chains.{term_of_chain}
 use Rattle.kq_model.specs.Moments.{is_moment, asks}
-use Rattle.kq_bind_policy.specs.Links.{link_asks}
+use Rattle.kq_moments.specs.Links.{link_asks}
 
 or_false : (a : Bool) → (a || false) ≡ a
 or_false true = refl

@@ -1,0 +1,3 @@
+mod Clauses
+mod Owned
+mod Timeless
