@@ -5,7 +5,7 @@ use Rattle.kq_model.specs.declared.event.Commit.TheVariants as commits
 use Rattle.kq_model.specs.declared.limits.Limits.{Limits}
 use Rattle.kq_model.specs.History.{Log}
 use Rattle.kq_command.specs.declared.command.Command.{Command}
-use Rattle.kq_command.specs.declared.command.Command.TheVariants.{Query, Show, Change, Merge, Unbuilt, Fold}
+use Rattle.kq_command.specs.declared.command.Command.TheVariants.{Query, Show, Change, Merge, Fold}
 use Rattle.kq_reply.specs.declared.reply.Reply.{Reply}
 use Rattle.kq_reply.specs.declared.reply.Reply.TheVariants as replies
 use Rattle.kq_reply.specs.Number.{kind_of}
@@ -26,7 +26,6 @@ Accept-commit limits l (Show show) reply c makes = absurd makes
 Accept-commit limits l (Change change) reply c makes = ap kind_of makes.1 ∙ granted c _
 Accept-commit limits l (Merge table) reply c makes = absurd makes
 Accept-commit limits l (Fold view) reply c makes = absurd makes
-Accept-commit limits l Unbuilt reply c makes = absurd makes
 
 reply_to-granted : (c : Commit) (cursor : ℕ) → IsGranted (reply_to c cursor)
 reply_to-granted (commits.CreateTable name schema) cursor = λ r e. cc
@@ -42,7 +41,6 @@ Makes-granted limits l (Show show) reply c makes = absurd makes
 Makes-granted limits l (Change change) reply c makes = subst IsGranted (sym makes.1) (reply_to-granted c _)
 Makes-granted limits l (Merge table) reply c makes = absurd makes
 Makes-granted limits l (Fold view) reply c makes = absurd makes
-Makes-granted limits l Unbuilt reply c makes = absurd makes
 
 -- a reply that is no refusal has the kind 0
 pub granted_kind : (reply : Reply) → IsGranted reply → kind_of reply ≡ 0

@@ -39,7 +39,6 @@ folds_of h (commands.Show show) f is = absurd is
 folds_of h (commands.Change change) f is = absurd is
 folds_of h (commands.Merge table) f is = absurd is
 folds_of h (commands.Fold view) f is = record { name = view; is = refl; of = is }
-folds_of h commands.Unbuilt f is = absurd is
 
 -- it was made at some place of the history
 pub folding_made : (h : History) (place : ℕ) (command : Command) (f : Folding) → IsFoldingFor (take place h) command f → WasFolded h f.view f.to f.part

@@ -290,4 +290,3 @@ Commit-lawful limits l (commands.Show show) c due = absurd due
 Commit-lawful limits l (commands.Change change) c due = Due-lawful limits l change c due.0
 Commit-lawful limits l (commands.Merge table) c due = absurd due
 Commit-lawful limits l (commands.Fold view) c due = absurd due
-Commit-lawful limits l commands.Unbuilt c due = absurd due

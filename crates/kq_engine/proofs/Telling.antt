@@ -67,7 +67,6 @@ Makes-still limits l (commands.Show show) reply c makes = absurd makes
 Makes-still limits l (commands.Change change) reply c makes = still_by reply (reply_to c (length l + 1)) makes.1 (reply_to-still c (length l + 1))
 Makes-still limits l (commands.Merge table) reply c makes = absurd makes
 Makes-still limits l (commands.Fold view) reply c makes = absurd makes
-Makes-still limits l commands.Unbuilt reply c makes = absurd makes
 
 -- ---- what it need not meet
 

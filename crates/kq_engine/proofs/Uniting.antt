@@ -37,7 +37,6 @@ merges_of h (commands.Show show) m is = absurd is
 merges_of h (commands.Change change) m is = absurd is
 merges_of h (commands.Merge table) m is = record { name = table; is = refl; of = is }
 merges_of h (commands.Fold view) m is = absurd is
-merges_of h commands.Unbuilt m is = absurd is
 
 -- it was picked at some place of the history
 pub merging_picked : (h : History) (place : ℕ) (command : Command) (m : Merging) → IsMergingFor (take place h) command m → WasPicked h m

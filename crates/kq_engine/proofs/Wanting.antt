@@ -14,7 +14,7 @@ use Rattle.kq_command.specs.declared.columns.Column.{Column}
 use Rattle.kq_command.specs.declared.columns.Identifier.{Identifier}
 use Rattle.kq_command.specs.declared.command.Change.TheVariants.{CreateTable, AlterMerge, Ingest, CreateView, SetPolicy}
 use Rattle.kq_command.specs.declared.command.Command.{Command}
-use Rattle.kq_command.specs.declared.command.Command.TheVariants.{Query, Show, Change, Merge, Unbuilt, Fold}
+use Rattle.kq_command.specs.declared.command.Command.TheVariants.{Query, Show, Change, Merge, Fold}
 use Rattle.kq_command.specs.declared.ingestion.Ingestion.{Ingestion}
 use Rattle.kq_command.specs.declared.command.Show.{Show as Showing}
 use Rattle.kq_command.specs.declared.command.Show.TheVariants as shows
@@ -67,7 +67,6 @@ commit_finds limits h (Merge table) c due = absurd due
 commit_finds limits h (Change (CreateView view)) c due = view_wanted limits (log h) view (table_numbered view.table.text (tables (log h))) c (Due-is_good limits (log h) (CreateView view) c due.0).1
 commit_finds limits h (Change (SetPolicy target policy)) c due = policy_wanted limits (log h) target policy (table_numbered target.text (tables (log h))) c (Due-is_good limits (log h) (SetPolicy target policy) c due.0).1
 commit_finds limits h (Fold view) c due = absurd due
-commit_finds limits h Unbuilt c due = absurd due
 
 -- ---- want of memory isn't due to `.create table` or `.alter-merge table`
 
@@ -187,7 +186,6 @@ due_finds limits h now (Merge table) due = named_finds h table (table_numbered t
 due_finds limits h now (Change (CreateView view)) due = text_find limits (log h) view (unsupported_query view.body.text (tree_in view)) view.repeated due
 due_finds limits h now (Change (SetPolicy target policy)) due = policy_finds limits (log h) target policy (table_numbered target.text (tables (log h))) due
 due_finds limits h now (Fold view) due = folds_find h view (view_number h view) due
-due_finds limits h now Unbuilt due = cc
 
 -- what is found outside the lock takes the memory of preparing
 pub found_wants : (h : History) (command : Command) → is_prepared_outside command ≡ true → TakesToFind h command → TakesMemory h command
@@ -200,7 +198,6 @@ found_wants h (Merge table) outside takes = takes
 found_wants h (Change (CreateView view)) outside takes = absurd (false≢true outside)
 found_wants h (Change (SetPolicy target policy)) outside takes = absurd (false≢true outside)
 found_wants h (Fold view) outside takes = takes
-found_wants h Unbuilt outside takes = takes
 
 -- what is merged takes the memory of finding it
 pub merging_finds : (h : History) (command : Command) (m : Merging) → IsMergingFor h command m → TakesToFind h command
@@ -209,7 +206,6 @@ merging_finds h (Show show) m is = absurd is
 merging_finds h (Change change) m is = absurd is
 merging_finds h (Merge table) m is = subst Stands (sym is.named) tt
 merging_finds h (Fold view) m is = absurd is
-merging_finds h Unbuilt m is = absurd is
 
 -- and is prepared outside the lock
 pub merging_outside : (h : History) (command : Command) (m : Merging) → IsMergingFor h command m → is_prepared_outside command ≡ true
@@ -218,4 +214,3 @@ merging_outside h (Show show) m is = absurd is
 merging_outside h (Change change) m is = absurd is
 merging_outside h (Merge table) m is = refl
 merging_outside h (Fold view) m is = absurd is
-merging_outside h Unbuilt m is = absurd is

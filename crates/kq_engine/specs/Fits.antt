@@ -7,7 +7,7 @@ use Rattle.kq_model.specs.declared.event.Operation.TheVariants as operation
 use Rattle.kq_model.specs.declared.limits.Limits.{Limits}
 use Rattle.kq_model.specs.History.{History, Log, CommitAt, cursor, log, commits_at}
 use Rattle.kq_command.specs.declared.command.Command.{Command}
-use Rattle.kq_command.specs.declared.command.Command.TheVariants.{Query, Show, Change, Merge, Unbuilt, Fold}
+use Rattle.kq_command.specs.declared.command.Command.TheVariants.{Query, Show, Change, Merge, Fold}
 use Rattle.kq_grammar.specs.TabularViews.{query_of}
 use Rattle.kq_query.specs.Answers.{AnswersQuery}
 use Rattle.kq_reply.specs.declared.refusal.Refusal.{Refusal}
@@ -28,7 +28,6 @@ IsDue limits h now (Show show) reply = AnswersShow h show reply
 IsDue limits h now (Change change) reply = Accept limits (log h) change reply None
 IsDue limits h now (Merge table) reply = AnswersMerge h table reply
 IsDue limits h now (Fold view) reply = AnswersFold h view reply
-IsDue limits h now Unbuilt reply = reply ≡ replies.Refused refusals.Unbuilt
 
 -- the log admits this reply to the command with this commit, so it is a change
 abbrev pub Makes : Limits → Log → Command → Reply → Commit → Type 0
@@ -37,7 +36,6 @@ Makes limits l (Show show) reply c = ⊥
 Makes limits l (Change change) reply c = Accept limits l change reply (Some c)
 Makes limits l (Merge table) reply c = ⊥
 Makes limits l (Fold view) reply c = ⊥
-Makes limits l Unbuilt reply c = ⊥
 
 -- a reply without a commit: the one that is due, or want of memory
 abbrev pub AnswersCommand : Limits → History → ℤ → Command → Reply → Type 0

@@ -20,7 +20,7 @@ use Rattle.kq_command.specs.Widening.{new_columns}
 use Rattle.kq_command.specs.declared.command.Change.{Change as Changing}
 use Rattle.kq_command.specs.declared.command.Change.TheVariants.{CreateTable, AlterMerge, Ingest, CreateView, SetPolicy}
 use Rattle.kq_command.specs.declared.command.Command.{Command}
-use Rattle.kq_command.specs.declared.command.Command.TheVariants.{Query, Show, Change, Merge, Unbuilt, Fold}
+use Rattle.kq_command.specs.declared.command.Command.TheVariants.{Query, Show, Change, Merge, Fold}
 use Rattle.kq_command.specs.declared.ingestion.Ingestion.{Ingestion}
 use Rattle.kq_command.specs.declared.command.Show.{Show as Showing}
 use Rattle.kq_command.specs.declared.command.Show.TheVariants as shows
@@ -167,7 +167,6 @@ is_prepared_outside (Merge table) = true
 is_prepared_outside (Change (CreateView view)) = false
 is_prepared_outside (Change (SetPolicy target policy)) = false
 is_prepared_outside (Fold view) = true
-is_prepared_outside Unbuilt = true
 
 -- the commit is due, with its reply
 abbrev pub IsCommitDue : Limits → Log → Command → Commit → Type 0
@@ -179,7 +178,6 @@ IsDueTo limits l (Show show) due = ⊥
 IsDueTo limits l (Change change) due = IsChangeDue limits l change due
 IsDueTo limits l (Merge table) due = ⊥
 IsDueTo limits l (Fold view) due = ⊥
-IsDueTo limits l Unbuilt due = ⊥
 
 -- the commit is due, with the part of a view that it makes; and after more events, if the command is prepared outside the lock and what was found is as it would be found, it is due what the offer comes to
 pub record IsOffered (limits : Limits) (l : Log) (command : Command) (offer : Offer) : Type 0 where
@@ -217,7 +215,6 @@ IsGoodText (Show show) = Unit {0}
 IsGoodText (Change change) = text_refusal change ≡ None
 IsGoodText (Merge table) = Unit {0}
 IsGoodText (Fold view) = Unit {0}
-IsGoodText Unbuilt = Unit {0}
 
 -- looking at the text of a change takes memory: a repeated column is looked for among more than 256
 abbrev pub TakesToRead : Changing → Type 0
@@ -234,7 +231,6 @@ RefusesText (Show show) r = ⊥
 RefusesText (Change change) r = ((r ≡ refusals.Memory) × TakesToRead change) ⊎ (text_refusal change ≡ Some r)
 RefusesText (Merge table) r = ⊥
 RefusesText (Fold view) r = ⊥
-RefusesText Unbuilt r = ⊥
 
 -- a command of a good text that isn't prepared outside the lock
 pub record IsPending (command : Command) : Type 0 where
@@ -293,7 +289,6 @@ TakesToFind h (Merge table) = Stands (table_numbered table.text (tables (log h))
 TakesToFind h (Change (CreateView view)) = Stands (table_numbered view.table.text (tables (log h)))
 TakesToFind h (Change (SetPolicy target policy)) = Stands (table_numbered target.text (tables (log h)))
 TakesToFind h (Fold view) = LagsBehind h (view_number h view)
-TakesToFind h Unbuilt = ⊥
 
 -- preparing the command on this history takes memory: to look at its text does, or to find what it is due outside the lock
 abbrev pub TakesMemory : History → Command → Type 0
@@ -306,7 +301,6 @@ TakesMemory h (Merge table) = TakesToFind h (Merge table)
 TakesMemory h (Change (CreateView view)) = TakesToRead (CreateView view)
 TakesMemory h (Change (SetPolicy target policy)) = TakesToRead (SetPolicy target policy)
 TakesMemory h (Fold view) = TakesToFind h (Fold view)
-TakesMemory h Unbuilt = ⊥
 
 -- deciding a command on this history, of which a snapshot told nothing, takes memory
 pub record TakesToDecide (h : History) (command : Command) : Type 0 where
