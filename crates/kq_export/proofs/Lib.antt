@@ -1,0 +1,9 @@
+mod Alone
+mod Bound
+mod Defining
+mod Held
+mod Named
+mod Putting
+mod Reading
+mod Ready
+mod Running

@@ -1,0 +1,70 @@
+// The records of a range, as the leaves of a plan read them.
+use crate::definition::Definition;
+use kq_catalog::Snapshot;
+use kq_computed::EvalFault;
+use kq_pipe::{Held, Leaves};
+use kq_plan::LeafKind;
+use kq_scan::delta;
+use kq_value::{Field, Text};
+use std::alloc::Global;
+use std::marker::Model;
+
+// What came to the table of an export since its last range, up to a cursor. The export stands over its table.
+#[derive(Drop)]
+pub(crate) struct Range<'a> {
+    pub snapshot: &'a Snapshot,
+    pub export: &'a Definition,
+    pub to: u64,
+}
+
+impl<'a> Model for Range<'a> {
+    ghost use Rattle.std.specs.Coded.{codes};
+    ghost use Rattle.kq_value.specs.contracts.value.Value as cell;
+    ghost use Rattle.kq_expr.specs.contracts.expr.Expr as expr;
+    ghost use Rattle.kq_exported.specs.Exported.{IsDefined};
+    ghost use Rattle.kq_export.specs.Held.{export_of};
+    ghost use Rattle.kq_export.specs.Runs.{RangeView};
+    ghost use Rattle.kq_model.specs.History.{log};
+
+    ghost Value = { RangeView };
+
+    ghost coded = { Prim.hlevel (codes, cell.the_row.coded, expr.the_row.coded) };
+
+    ghost view = { λ r. record { history = r.snapshot.now.history; export = r.export.now; to = r.to } };
+
+    ghost invariant = { λ r. IsDefined (log r.snapshot.now.history) (export_of r.export.now) };
+}
+
+impl Leaves for Range<'_> {
+    ghost use Rattle.kq_exported.specs.Exported.{only};
+    ghost use Rattle.kq_export.specs.Runs.{gives_of};
+
+    ghost known = { λ r. only r.export.source r.export.columns };
+
+    ghost may_give = { gives_of };
+
+    fn rows(
+        &self,
+        alloc: Global,
+        kind: LeafKind,
+        _name: &Text,
+        _columns: &[Field],
+    ) -> Result<Held, EvalFault> {
+        match kind {
+            LeafKind::Table => {
+                let mut read = 0;
+                let extents = self.snapshot.extents(self.export.table);
+                let rows = delta(
+                    alloc,
+                    extents,
+                    self.export.columns.as_slice(),
+                    self.export.end,
+                    self.to,
+                    &mut read,
+                )?;
+                Ok(Held::own(rows))
+            }
+            LeafKind::View | LeafKind::Part => unreachable!(),
+        }
+    }
+}
