@@ -1,5 +1,5 @@
 -- What the reader gives makes a exchange.
-use Rattle.std.proofs.Common.{◌≡◌, ◌≢◌, ℕ, Bool, true, false, List, [], ◌∷◌, ◌++◌, Some, Result, Ok, refl, ap, sym, ◌∙◌, subst, arith, append-nil}
+use Rattle.std.proofs.Common.{◌≡◌, ◌≢◌, ℕ, Bool, true, false, List, [], ◌∷◌, ◌++◌, None, Some, Result, Ok, refl, ap, sym, ◌∙◌, subst, arith, append-nil}
 use Rattle.kq_world.specs.Outside.{SourceView, Delivers, Rose}
 use Rattle.kq_world.proofs.Faults.{Rose-later, same-later}
 use Rattle.kq_world.proofs.Told.{Delivers-none}
@@ -44,6 +44,7 @@ open_still ended_before ended_now bytes blocks same before after = absurd (false
 pub Idle-short : (p : Progress) (s : State) (receipts : List Receipt) (reader : ScriptReader) → IsAfter reader s.contents.source p → receipts ≡ s.receipts → Idle p s (record s { receipts = receipts }) ends.Short
 Idle-short p s receipts reader reading same = record {
   same_pass = refl;
+  same_exporter = refl;
   same_receipts = same;
   bytes = [];
   gave = Delivers-none s.contents.source;
@@ -58,6 +59,7 @@ Idle-short p s receipts reader reading same = record {
 pub Idle-read : (p : Progress) (s : State) (now : SourceView) (receipts : List Receipt) (bytes : List ℕ) (end : End) → Delivers s.contents.source now bytes → AreBlocks end (p.taken ++ bytes) now.ended p.given → IsLeft end p.first now → AreAllAtEnd p.first.ended now.ended (p.taken ++ bytes) p.given → receipts ≡ s.receipts → Idle p s (read_on s now receipts) end
 Idle-read p s now receipts bytes end gave blocks at_end all same = record {
   same_pass = refl;
+  same_exporter = refl;
   same_receipts = same;
   bytes = bytes;
   gave = gave;
@@ -90,6 +92,8 @@ Went-reply limits by p s new reader now receipts item result not reads same is_n
         same_block = done.same_block;
         answered = record {
           step = done.answered.step;
+          held = done.answered.held;
+          holds = done.answered.holds;
           number = done.answered.number;
           kind = done.answered.kind;
           receipt = subst (λ (l : List Receipt). new.receipts ≡ l ++ done.exchange.receipt ∷ []) same done.answered.receipt;
@@ -105,6 +109,10 @@ Rises-none before now fault same never = record { never_falls = same-later befor
 
 pub Rises-fault : (before now : ℕ) (fault : Type 0) → Rose before now → fault → Rises before now fault
 Rises-fault before now fault rose is = record { never_falls = Rose-later before now rose; rose = λ f. rose; stays = λ other. absurd (other is) }
+
+-- an exchange without an end has none
+pub not_ended : (end : End) → None ≡ Some end → ⊥
+not_ended end e = cc
 
 -- the exchange of the end, after others that didn't fail
 pub Rises-end : (before between now : ℕ) (end fault : End) → between ≡ before → Rises between now (Some end ≡ Some fault) → Rises before now (end ≡ fault)

@@ -13,22 +13,24 @@ use Rattle.kq_script.specs.declared.item.Item.{Item}
 use Rattle.kq_script.specs.Reading.{IsReading}
 use Rattle.kq_script.specs.declared.reader.ScriptReader.{ScriptReader}
 use Rattle.kq_engine.specs.Shared.{PassView}
+use Rattle.kq_exporter.specs.Due.{ExporterView}
 use Rattle.kq_session.specs.declared.end.End.{End}
 use Rattle.kq_session.specs.declared.end.End.TheVariants.{Finished, Short, SourceFault, SinkFault, InputLimit}
 use Rattle.kq_session.specs.declared.receipt.Receipt.{Receipt}
 use Rattle.kq_session.specs.declared.session.Session.{Session}
-use Rattle.kq_session.specs.Blocks.{AnswersBlock}
+use Rattle.kq_session.specs.Blocks.{AnswersBlock, GoesOn}
 use Rattle.kq_session.specs.Session.{Exchange, SessionEnds, PassGoesOn, AreBlocks, AreAllAtEnd, IsLeft, command_bytes, input_bytes}
 
--- a session at one moment: its pass, what its objects tell, and its receipts
+-- a session at one moment: its pass, what its exporter and its objects tell, and its receipts
 pub record State : Type 0 where
   pub pass : PassView
+  pub exporter : ExporterView
   pub contents : Contents
   pub receipts : List Receipt
 
 -- that of a session under way, each object by its own meaning
-abbrev pub state_of : {S K C : Type 0} → (S → SourceView) → (K → List ℕ) → (C → List ℤ) → Session S K C → State
-state_of told accepted readings s = record { pass = s.pass; contents = contents told accepted readings s.parts; receipts = s.receipts.items }
+abbrev pub state_of : {S K C E : Type 0} → (S → SourceView) → (K → List ℕ) → (C → List ℤ) → (E → ExporterView) → Session S K C E → State
+state_of told accepted readings exporter s = record { pass = s.pass; exporter = exporter s.exporter; contents = contents told accepted readings s.parts; receipts = s.receipts.items }
 
 -- what was read so far: what the source told at first, the bytes that it gave since, and the blocks given of them
 pub record Progress : Type 0 where
@@ -41,7 +43,9 @@ IsAfter reader now p = IsReading command_bytes input_bytes reader p.first now p.
 
 -- a block was answered, and its receipt kept
 pub record Answered (limits : Limits) (by : By) (old new : State) (t : Exchange) : Type 0 where
-  pub step : AnswersBlock limits old.pass new.pass by t.block t.receipt.moment (record { place = t.receipt.place; own = t.receipt.own; reply = t.reply })
+  pub step : AnswersBlock limits old.pass new.pass old.exporter new.exporter by t.block t.receipt.moment (record { place = t.receipt.place; own = t.receipt.own; reply = t.reply })
+  pub held : t.held ≡ old.exporter.holding
+  pub holds : t.holds ≡ new.exporter.holding
   pub number : t.receipt.number ≡ by.number
   pub kind : t.receipt.kind ≡ kind_of t.reply
   pub receipt : new.receipts ≡ old.receipts ++ t.receipt ∷ []
@@ -67,6 +71,7 @@ pub record ReadsBlock (p : Progress) (old new : SourceView) (reader : ScriptRead
 -- no block was answered
 pub record Idle (p : Progress) (old new : State) (end : End) : Type 0 where
   pub same_pass : new.pass ≡ old.pass
+  pub same_exporter : new.exporter ≡ old.exporter
   pub same_receipts : new.receipts ≡ old.receipts
   pub bytes : List ℕ
   pub gave : Delivers old.contents.source new.contents.source bytes
@@ -92,15 +97,16 @@ ExchangeBy limits by p old new reader (Some SourceFault) = Idle p old new Source
 ExchangeBy limits by p old new reader (Some InputLimit) = Idle p old new InputLimit
 
 -- one exchange of a session under way, whatever was read before it
-abbrev pub TakesExchange : {S K C : Type 0} → (S → SourceView) → (K → List ℕ) → (C → List ℤ) → Limits → By → ScriptReader → ScriptReader → Session S K C → Session S K C → Option End → Type 0
-TakesExchange told accepted readings limits by was reader old new end =
-    let at = state_of told accepted readings in
+abbrev pub TakesExchange : {S K C E : Type 0} → (S → SourceView) → (K → List ℕ) → (C → List ℤ) → (E → ExporterView) → Limits → By → ScriptReader → ScriptReader → Session S K C E → Session S K C E → Option End → Type 0
+TakesExchange told accepted readings exporter limits by was reader old new end =
+    let at = state_of told accepted readings exporter in
     (p : Progress) → IsAfter was (at old).contents.source p → ExchangeBy limits by p (at old) (at new) reader end
 
 -- what a session comes to from its start
 pub record SessionComesTo (limits : Limits) (actor : ℕ) (old new : State) (end : End) : Type 0 where
   pub goes_on : PassGoesOn actor old.pass new.pass new.receipts
-  pub ends : SessionEnds limits new.pass.seen actor old.contents new.contents new.receipts end
+  pub ends : SessionEnds limits new.pass.seen actor old.contents new.contents new.receipts new.exporter.holding end
+  pub exporter : GoesOn new.pass.seen old.exporter new.exporter
 
 -- the count of faults never falls, rose where this holds, and stays where it doesn't
 pub record Rises (before now : ℕ) (fault : Type 0) : Type 0 where

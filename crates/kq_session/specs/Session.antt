@@ -8,7 +8,8 @@ use Rattle.kq_model.specs.declared.event.Event.{Event}
 use Rattle.kq_model.specs.declared.limits.Limits.{Limits}
 use Rattle.kq_model.specs.History.{History, CommitAt}
 use Rattle.kq_reply.specs.declared.reply.Reply.{Reply}
-use Rattle.kq_reply.specs.Number.{kind_of}
+use Rattle.kq_reply.specs.Number.{kind_of, number_of}
+use Rattle.kq_reply.specs.declared.refusal.Refusal.TheVariants.{ArtefactFault}
 use Rattle.kq_reply.specs.Text.{text_of}
 use Rattle.kq_script.specs.Script.{Block, script_blocks}
 use Rattle.kq_script.specs.Reading.{IsPrefix as Begins}
@@ -16,6 +17,7 @@ use Rattle.kq_script.specs.State.{IsAtEnd}
 use Rattle.kq_engine.specs.Fits.{own_commit}
 use Rattle.kq_engine.specs.Merges.{NamesAll}
 use Rattle.kq_engine.specs.Shared.{PassView}
+use Rattle.kq_exporter.specs.Due.{Holding, nothing_held}
 use Rattle.kq_session.specs.declared.end.End.{End}
 use Rattle.kq_session.specs.declared.end.End.TheVariants.{Finished, Short, SourceFault, SinkFault, InputLimit}
 use Rattle.kq_session.specs.declared.receipt.Receipt.{Receipt}
@@ -29,15 +31,17 @@ command_bytes = 16777216
 abbrev pub input_bytes : ℕ
 input_bytes = 4294967296
 
--- a block with its reply and its receipt
+-- a block with its reply and its receipt, and what the exporter holds before and after it
 pub record Exchange : Type 0 where
   pub block : Block
   pub reply : Reply
   pub receipt : Receipt
+  pub held : Holding
+  pub holds : Holding
 
 -- the reply fits the history at the receipt's place
 pub record IsExchange (limits : Limits) (h : History) (actor : ℕ) (t : Exchange) : Type 0 where
-  pub fits : FitsBlock limits h (record { actor = actor; number = t.receipt.number }) t.block t.receipt.moment t.receipt.place t.receipt.own t.reply
+  pub fits : FitsBlock limits h (record { actor = actor; number = t.receipt.number }) t.held t.holds t.block t.receipt.moment t.receipt.place t.receipt.own t.reply
   pub within : t.receipt.place ≤ length h
   pub kind : t.receipt.kind ≡ kind_of t.reply
 
@@ -51,6 +55,11 @@ pub record ComesAfter (h : History) (q : ℕ) (t : Exchange) : Type 0 where
 abbrev pub AreExchanges : Limits → History → ℕ → ℕ → ℕ → List Exchange → Type 0
 AreExchanges limits h actor n q [] = Unit {0}
 AreExchanges limits h actor n q (t ∷ ts) = (t.receipt.number ≡ n + 1) × ComesAfter h q t × IsExchange limits h actor t × AreExchanges limits h actor (n + 1) t.receipt.place ts
+
+-- each exchange finds what the one before it left the exporter with, from what it held first to what it holds last
+abbrev pub AreLinked : Holding → List Exchange → Holding → Type 0
+AreLinked first [] last = last ≡ first
+AreLinked first (t ∷ ts) last = (t.held ≡ first) × AreLinked t.holds ts last
 
 abbrev pub blocks_of : List Exchange → List Block
 blocks_of = map (λ (t : Exchange). t.block)
@@ -93,12 +102,22 @@ AreWritten SinkFault before now exchanges =
     × Adds before now (texts_of front ++ take n (text_of last.reply))
 AreWritten InputLimit before now exchanges = Adds before now (texts_of exchanges)
 
+-- the kind of a reply that tells that the artefacts failed
+abbrev pub is_fault : ℕ → Bool
+is_fault kind = nat_eq kind (number_of ArtefactFault)
+
+-- how many of the replies tell that the artefacts failed
+abbrev pub artefact_faults : List Receipt → ℕ
+artefact_faults = count_by (λ (r : Receipt). is_fault r.kind)
+
 -- a session's exchanges explain what its source gave, what its sink took, what its clock read, its receipts and how it ended
-pub record SessionEnds (limits : Limits) (h : History) (actor : ℕ) (before now : Contents) (receipts : List Receipt) (end : End) : Type 0 where
+pub record SessionEnds (limits : Limits) (h : History) (actor : ℕ) (before now : Contents) (receipts : List Receipt) (holding : Holding) (end : End) : Type 0 where
   pub exchanges : List Exchange
   pub bytes : List ℕ
   pub of_exchanges : receipts ≡ map (λ (t : Exchange). t.receipt) exchanges
   pub each : AreExchanges limits h actor 0 0 exchanges
+  pub linked : AreLinked nothing_held exchanges holding
+  pub faults : artefact_faults receipts ≤ holding.faults
   pub gave : Delivers before.source now.source bytes
   pub blocks : AreBlocks end bytes now.source.ended (blocks_of exchanges)
   pub at_end : IsLeft end before.source now.source
@@ -106,10 +125,10 @@ pub record SessionEnds (limits : Limits) (h : History) (actor : ℕ) (before now
   pub moments : Adds before.readings now.readings (moments_of exchanges)
   pub written : AreWritten end before.accepted now.accepted exchanges
 
--- the session of an actor, whose objects told this at first, is explained by a history
-pub record Explained (limits : Limits) (h : History) (actor : ℕ) (before : Contents) (s : SessionView) : Type 0 where
+-- the session of an actor, whose objects told this at first and whose exporter holds this in the end, is explained by a history
+pub record Explained (limits : Limits) (h : History) (actor : ℕ) (holding : Holding) (before : Contents) (s : SessionView) : Type 0 where
   pub end : End
-  pub ends : SessionEnds limits h actor before s.objects.contents s.receipts end
+  pub ends : SessionEnds limits h actor before s.objects.contents s.receipts holding end
   pub by_end : s.status ≡ status_of end s.receipts
 
 -- the commits of an actor's receipts with `own`

@@ -1,14 +1,16 @@
 // Answering a block.
 ghost use Rattle.std.specs.Prelude.{◌≡◌, ◌≢◌, ℕ, false, length};
+ghost use mathlib.Core.List.{IsPrefix};
 ghost use Rattle.kq_script.specs.Script.{Block, command};
 ghost use Rattle.kq_script.specs.Item.{IsItemOf};
 ghost use Rattle.kq_value.specs.Typed.{IsMoment};
 ghost use Rattle.kq_reply.specs.declared.reply.Reply.TheVariants as replies;
-ghost use Rattle.kq_session.specs.Blocks.{AnswersBlock, refusal_of};
+ghost use Rattle.kq_session.specs.Blocks.{AnswersBlock, AnswersExport, refusal_of, serves_to};
 
 use crate::service::Service;
-use kq_command::{CommandFault, read_command};
+use kq_command::{Asked, CommandFault, Export, read_command};
 use kq_engine::{Outcome, Pass, Shared, Work};
+use kq_exporter::{Exporter, answered};
 use kq_model::By;
 use kq_reply::{Refusal, Reply};
 use kq_script::Item;
@@ -17,9 +19,10 @@ use kq_world::Gate;
 use std::sync::Wait;
 
 // The outcome of a block: what the engine answers to its command, or the refusal of its text.
-pub(crate) fn answer<R: Wait, G: Gate>(
+pub(crate) fn answer<R: Wait, G: Gate, E: Exporter>(
     service: &Service<R, G>,
     pass: &mut Pass,
+    exporter: &mut E,
     by: By,
     item: Item,
     now: i64,
@@ -27,35 +30,63 @@ pub(crate) fn answer<R: Wait, G: Gate>(
     requires of { pass.old.of ≡ service.now.shared.now.turn }
     requires block { item ≢ Item.Finished }
     requires moment { IsMoment now }
-    ensures { (limit : ℕ) (block : Block) → IsItemOf limit item block → AnswersBlock service.now.shared.now.limits pass.old pass.new by block now result }
+    requires serves { (E.told exporter.old).serves ≡ serves_to by.actor }
+    requires behind { IsPrefix (E.told exporter.old).seen pass.old.seen }
+    ensures { (limit : ℕ) (block : Block) → IsItemOf limit item block → AnswersBlock service.now.shared.now.limits pass.old pass.new (E.told exporter.old) (E.told exporter.new) by block now result }
 {
     let shared = service.shared;
     match item {
-        Item::Command(text) => answer_text(service, pass, by, &text, now),
+        Item::Command(text) => answer_text(service, pass, exporter, by, &text, now),
         Item::TooLong { bytes } => refused(shared, pass, Refusal::TooLong { bytes }),
         Item::Lost => refused(shared, pass, Refusal::Memory),
         Item::Finished => unreachable!(),
     }
 }
 
-fn answer_text<R: Wait, G: Gate>(
+fn answer_text<R: Wait, G: Gate, E: Exporter>(
     service: &Service<R, G>,
     pass: &mut Pass,
+    exporter: &mut E,
     by: By,
     text: &Bytes,
     now: i64,
 ) -> Outcome
     requires of { pass.old.of ≡ service.now.shared.now.turn }
     requires moment { IsMoment now }
-    ensures { AnswersBlock service.now.shared.now.limits pass.old pass.new by (command text.now) now result }
+    requires serves { (E.told exporter.old).serves ≡ serves_to by.actor }
+    requires behind { IsPrefix (E.told exporter.old).seen pass.old.seen }
+    ensures { AnswersBlock service.now.shared.now.limits pass.old pass.new (E.told exporter.old) (E.told exporter.new) by (command text.now) now result }
 {
     let shared = service.shared;
     match read_command(service.alloc, text.as_slice()) {
-        Ok(command) => {
+        Ok(Asked::Engine(command)) => {
             let work = Work { by, command, now };
             shared.apply(service.rt, pass, &work, service.gate)
         }
+        Ok(Asked::Exporter(asked)) => export(service, pass, exporter, &asked),
         Err(fault) => refused(shared, pass, refusal(fault)),
+    }
+}
+
+// What the exporter answers over the catalogue as it stands. The answer has the place of the snapshot and makes no commit.
+fn export<R: Wait, G: Gate, E: Exporter>(
+    service: &Service<R, G>,
+    pass: &mut Pass,
+    exporter: &mut E,
+    asked: &Export,
+) -> Outcome
+    requires of { pass.old.of ≡ service.now.shared.now.turn }
+    requires behind { IsPrefix (E.told exporter.old).seen pass.old.seen }
+    ensures { AnswersExport pass.old pass.new (E.told exporter.old) (E.told exporter.new) asked.now result }
+{
+    let shared = service.shared;
+    match shared.snapshot(service.rt, pass) {
+        Ok(snapshot) => Outcome {
+            place: shared.seen(pass),
+            own: false,
+            reply: answered(exporter.export(&snapshot, asked)),
+        },
+        Err(_) => refused(shared, pass, Refusal::Memory),
     }
 }
 

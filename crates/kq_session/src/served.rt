@@ -1,6 +1,7 @@
 // What a session hands back.
 use crate::receipt::Receipts;
 use kq_engine::Pass;
+use kq_exporter::Exporter;
 use kq_world::{Clock, Parts, Sink, Source};
 use std::marker::Model;
 
@@ -8,22 +9,24 @@ use std::marker::Model;
 /// memory; else 1 for want of memory, 3 for a fault of the source, 4 of the sink, and 6 where 2^32 bytes were taken
 /// without an end.
 #[derive(Drop)]
-pub struct Served<S: Source, K: Sink, C: Clock> {
+pub struct Served<S: Source, K: Sink, C: Clock, E: Exporter> {
     pub pass: Pass,
     pub parts: Parts<S, K, C>,
+    pub exporter: E,
     pub receipts: Receipts,
     pub status: u8,
 }
 
-impl<S: Source, K: Sink, C: Clock> Model for Served<S, K, C> {
+impl<S: Source, K: Sink, C: Clock, E: Exporter> Model for Served<S, K, C, E> {
     ghost use Rattle.std.specs.Coded.{codes};
     ghost use Rattle.kq_value.specs.contracts.value.Value as cell;
     ghost use Rattle.kq_expr.specs.contracts.expr.Expr as expr;
+    ghost use Rattle.kq_session.specs.Codes.{term_code};
     ghost use Rattle.kq_session.specs.Objects.{ServedView, objects};
 
     ghost Value = { ServedView };
 
-    ghost coded = { Prim.hlevel (codes, cell.the_row.coded, expr.the_row.coded) };
+    ghost coded = { Prim.hlevel (codes, cell.the_row.coded, expr.the_row.coded, term_code) };
 
-    ghost view = { λ s. record { pass = s.pass; session = record { objects = objects S.told S.faults K.accepted K.faults C.readings s.parts; receipts = s.receipts; status = s.status } } };
+    ghost view = { λ s. record { pass = s.pass; session = record { objects = objects S.told S.faults K.accepted K.faults C.readings s.parts; receipts = s.receipts; status = s.status }; exporter = E.told s.exporter } };
 }

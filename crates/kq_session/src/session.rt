@@ -1,6 +1,9 @@
 // The session's loop.
 ghost use Rattle.std.specs.Prelude.{◌≡◌, ◌≢◌, ◌<◌, ℕ, [], Some, vec_len, vec_capacity};
+ghost use mathlib.Core.List.{IsPrefix};
 ghost use Rattle.kq_world.specs.Outside.{HasCause, contents};
+ghost use Rattle.kq_exporter.specs.Due.{nothing_held};
+ghost use Rattle.kq_session.specs.Blocks.{GoesOn, serves_to};
 ghost use Rattle.kq_script.specs.Reading.{IsReading, IsUnclosed as MayGoOn};
 ghost use Rattle.kq_session.specs.Complete.{CompletesSession};
 ghost use Rattle.kq_session.specs.Objects.{objects};
@@ -13,6 +16,7 @@ use crate::receipt::{Receipt, Receipts};
 use crate::served::Served;
 use crate::service::Service;
 use kq_engine::{Pass, Shared};
+use kq_exporter::Exporter;
 use kq_model::By;
 use kq_reply::write_reply;
 use kq_script::{Item, ScriptFault, ScriptReader};
@@ -28,26 +32,33 @@ const INPUT_BYTES: u64 = 4_294_967_296;
 
 // A session that is under way.
 #[derive(Drop)]
-pub(crate) struct Session<S: Drop, K: Drop, C: Drop> {
+pub(crate) struct Session<S: Drop, K: Drop, C: Drop, E: Drop> {
     pub pass: Pass,
     pub parts: Parts<S, K, C>,
+    pub exporter: E,
     pub receipts: Vec<Receipt>,
 }
 
-/// Serves a session to its end. Others may be served at the same time, each with a pass of its own. It waits.
-pub fn serve<R: Wait, S: Source, K: Sink, C: Clock, G: Gate>(
+/// Serves a session to its end. Others may be served at the same time, each with a pass of its own. Session 0 alone has
+/// an exporter that serves, which no one has asked yet. It waits.
+pub fn serve<R: Wait, S: Source, K: Sink, C: Clock, G: Gate, E: Exporter>(
     rt: &R,
     alloc: Global,
     shared: &Shared,
     pass: Pass,
     actor: u32,
     parts: Parts<S, K, C>,
+    exporter: E,
     gate: &G,
-) -> Served<S, K, C>
-    requires { pass.of ≡ shared.now.turn }
+) -> Served<S, K, C, E>
+    requires of { pass.of ≡ shared.now.turn }
+    requires serves { (E.told exporter).serves ≡ serves_to actor }
+    requires holds { (E.told exporter).holding ≡ nothing_held }
+    requires unasked { (E.told exporter).seen ≡ [] }
     ensures pass { PassGoesOn actor pass result.pass result.session.receipts }
-    ensures explained { Explained shared.now.limits result.pass.seen actor (contents S.told K.accepted C.readings parts) result.session }
-    ensures complete { CompletesSession shared.now.limits result.pass.seen actor (objects S.told S.faults K.accepted K.faults C.readings parts) result.session }
+    ensures explained { Explained shared.now.limits result.pass.seen actor result.exporter.holding (contents S.told K.accepted C.readings parts) result.session }
+    ensures exporter { GoesOn result.pass.seen (E.told exporter) result.exporter }
+    ensures complete { CompletesSession shared.now.limits result.pass.seen actor result.exporter.holding (objects S.told S.faults K.accepted K.faults C.readings parts) result.session }
     ensures source { Rises (S.faults parts.source) result.session.objects.source_faults (result.session.status ≡ 3) }
     ensures sink { Rises (K.faults parts.sink) result.session.objects.sink_faults (result.session.status ≡ 4) }
 {
@@ -61,6 +72,7 @@ pub fn serve<R: Wait, S: Source, K: Sink, C: Clock, G: Gate>(
     let mut session = Session {
         pass,
         parts,
+        exporter,
         receipts,
     };
     let end = match ScriptReader::new(alloc, COMMAND_BYTES, INPUT_BYTES) {
@@ -71,26 +83,31 @@ pub fn serve<R: Wait, S: Source, K: Sink, C: Clock, G: Gate>(
     let Session {
         pass,
         parts,
+        exporter,
         receipts,
     } = session;
     Served {
         pass,
         parts,
+        exporter,
         receipts: Receipts::from_vec(receipts),
         status,
     }
 }
 
-fn serve_script<R: Wait, S: Source, K: Sink, C: Clock, G: Gate>(
+fn serve_script<R: Wait, S: Source, K: Sink, C: Clock, G: Gate, E: Exporter>(
     service: &Service<R, G>,
     actor: u32,
     reader: &mut ScriptReader,
-    session: &mut Session<S, K, C>,
+    session: &mut Session<S, K, C, E>,
 ) -> End
     requires of { session.old.pass.of ≡ service.now.shared.now.turn }
     requires reading { let source = S.told session.old.parts.source in IsReading command_bytes input_bytes reader.old source source [] [] }
     requires fresh { session.old.receipts.items ≡ [] }
-    ensures comes { let at = state_of S.told K.accepted C.readings in SessionComesTo service.now.shared.now.limits actor (at session.old) (at session.new) result }
+    requires serves { (E.told session.old.exporter).serves ≡ serves_to actor }
+    requires holds { (E.told session.old.exporter).holding ≡ nothing_held }
+    requires unasked { (E.told session.old.exporter).seen ≡ [] }
+    ensures comes { let at = state_of S.told K.accepted C.readings E.told in SessionComesTo service.now.shared.now.limits actor (at session.old) (at session.new) result }
     ensures source { Rises (S.faults session.old.parts.source) (S.faults session.new.parts.source) (result ≡ End.SourceFault) }
     ensures sink { Rises (K.faults session.old.parts.sink) (K.faults session.new.parts.sink) (result ≡ End.SinkFault) }
 {
@@ -104,15 +121,17 @@ fn serve_script<R: Wait, S: Source, K: Sink, C: Clock, G: Gate>(
 }
 
 // One block, or the end.
-fn exchange<R: Wait, S: Source, K: Sink, C: Clock, G: Gate>(
+fn exchange<R: Wait, S: Source, K: Sink, C: Clock, G: Gate, E: Exporter>(
     service: &Service<R, G>,
     by: By,
     reader: &mut ScriptReader,
-    session: &mut Session<S, K, C>,
+    session: &mut Session<S, K, C, E>,
 ) -> Option<End>
     requires of { session.old.pass.of ≡ service.now.shared.now.turn }
     requires goes_on { MayGoOn reader.old }
-    ensures exchange { TakesExchange S.told K.accepted C.readings service.now.shared.now.limits by reader.old reader.new session.old session.new result }
+    requires serves { (E.told session.old.exporter).serves ≡ serves_to by.actor }
+    requires behind { IsPrefix (E.told session.old.exporter).seen session.old.pass.seen }
+    ensures exchange { TakesExchange S.told K.accepted C.readings E.told service.now.shared.now.limits by reader.old reader.new session.old session.new result }
     ensures source { Rises (S.faults session.old.parts.source) (S.faults session.new.parts.source) (result ≡ Some End.SourceFault) }
     ensures sink { Rises (K.faults session.old.parts.sink) (K.faults session.new.parts.sink) (result ≡ Some End.SinkFault) }
 {
@@ -138,23 +157,32 @@ fn exchange<R: Wait, S: Source, K: Sink, C: Clock, G: Gate>(
 }
 
 // Answers a block, keeps the receipt, for which there is room, and writes the reply.
-fn reply<R: Wait, S: Source, K: Sink, C: Clock, G: Gate>(
+fn reply<R: Wait, S: Source, K: Sink, C: Clock, G: Gate, E: Exporter>(
     service: &Service<R, G>,
     by: By,
     item: Item,
-    session: &mut Session<S, K, C>,
+    session: &mut Session<S, K, C, E>,
 ) -> Result<(), Failed>
     requires of { session.old.pass.of ≡ service.now.shared.now.turn }
     requires block { item ≢ Item.Finished }
     requires room { vec_len session.old.receipts < vec_capacity session.old.receipts }
+    requires serves { (E.told session.old.exporter).serves ≡ serves_to by.actor }
+    requires behind { IsPrefix (E.told session.old.exporter).seen session.old.pass.seen }
     ensures source { session.new.parts.source ≡ session.old.parts.source }
-    ensures replied { let at = state_of S.told K.accepted C.readings in Replies service.now.shared.now.limits by item (at session.old) (at session.new) result }
+    ensures replied { let at = state_of S.told K.accepted C.readings E.told in Replies service.now.shared.now.limits by item (at session.old) (at session.new) result }
     ensures sink { HasCause (K.faults session.old.parts.sink) (K.faults session.new.parts.sink) result }
 {
     let By { actor, number } = by;
     service.gate.at(Point::Starting { actor, number });
     let moment = session.parts.clock.now();
-    let outcome = answer(service, &mut session.pass, by, item, moment);
+    let outcome = answer(
+        service,
+        &mut session.pass,
+        &mut session.exporter,
+        by,
+        item,
+        moment,
+    );
     session.receipts.push_reserved(Receipt {
         number,
         place: outcome.place,
