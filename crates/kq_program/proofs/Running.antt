@@ -3,6 +3,7 @@ use Rattle.std.proofs.Common.{◌≡◌, ◌≢◌, ◌<◌, ◌+◌, ◌++◌, 
 use Rattle.std.proofs.lemmas.List.Elements.{All-cons, All-head, All-nil, All-tail}
 use Rattle.std.proofs.lemmas.List.Sums.{sum_by-cons}
 use mathlib.Core.List.{IsPrefix}
+use Rattle.kq_turn.proofs.Beginnings.{IsPrefix-trans}
 use Rattle.kq_world.specs.Outside.{Contents, Rose}
 use Rattle.kq_model.specs.declared.event.Event.{Event}
 use Rattle.kq_model.specs.declared.limits.Limits.{Limits}
@@ -10,6 +11,10 @@ use Rattle.kq_model.specs.Limits.{AreFull}
 use Rattle.kq_model.specs.History.{History, cursor}
 use Rattle.kq_workers.specs.kq_catalog.Seen.{CatalogView, hist, Sound}
 use Rattle.kq_workers.specs.kq_engine.Shared.{PassView}
+use Rattle.kq_exported.specs.Exported.{IsExported}
+use Rattle.kq_exported.proofs.Exported.{IsExported-later}
+use Rattle.kq_session.specs.kq_exporter.Due.{ExporterView, Holding, nothing_held}
+use Rattle.kq_export.specs.Held.{ExporterState, exports_in, told_of}
 use Rattle.kq_session.specs.declared.end.End.{End}
 use Rattle.kq_session.specs.declared.end.End.TheVariants.{Finished, Short, SourceFault, SinkFault, InputLimit}
 use Rattle.kq_session.specs.declared.receipt.Receipt.{Receipt}
@@ -18,7 +23,7 @@ use Rattle.kq_session.specs.Session.{Explained}
 use Rattle.kq_program.specs.Headline.{RanSessions, AreExplained, IsCaused, first_status, given_to_sessions}
 use Rattle.kq_program.specs.Opening.{AreOpened}
 use Rattle.kq_program.specs.Together.{IsServed, AreServed, ServedAll}
-use Rattle.kq_program.specs.Views.{EndedView, Given, OpenedView}
+use Rattle.kq_program.specs.Views.{EndedView, Given, OpenedView, held_by}
 use Rattle.kq_program.specs.Whole.{is_caused}
 use Rattle.kq_program.proofs.Scripting.{ByScript-given, explained-end}
 use Rattle.kq_program.proofs.Serving.{AreServed-later}
@@ -56,16 +61,17 @@ all_caused test h added counts all = all_pass test h (counts (λ (e : Event). no
 abbrev own_script : (List ℕ → Contents) → List ℕ → Given
 own_script told name = record { generate = None; contents = told name }
 
-explained_all : (limits : Limits) (h : History) (n : ℕ) (told : List ℕ → Contents) (names : List (List ℕ)) (os : List OpenedView) (ss : List EndedView) → AreOpened told names os → AreServed limits h n os ss → AreExplained limits h n (map (own_script told) names) ss
+explained_all : (limits : Limits) (h : History) (n : ℕ) (told : List ℕ → Contents) (names : List (List ℕ)) (os : List OpenedView) (ss : List EndedView) → AreOpened told names os → AreServed limits h n nothing_held os ss → AreExplained limits h n nothing_held (map (own_script told) names) ss
 explained_all limits h n told [] [] [] opened served = tt
 explained_all limits h n told [] [] (s ∷ ss) opened served = absurd served
 explained_all limits h n told [] (o ∷ os) ss opened served = absurd opened
 explained_all limits h n told (name ∷ names) [] ss opened served = absurd opened
 explained_all limits h n told (name ∷ names) (o ∷ os) [] opened served = absurd served
 explained_all limits h n told (name ∷ names) (o ∷ os) (s ∷ ss) opened served =
-    (ByScript-given (Explained limits h n) o None (told name) s.session opened.0.own opened.0.contents opened.0.source opened.0.sink served.0.explained, explained_all limits h (n + 1) told names os ss opened.1 served.1)
+    let here = opened.0 in
+    (ByScript-given (Explained limits h n nothing_held) o None (told name) s.session here.own here.contents here.source here.sink served.0.explained, explained_all limits h (n + 1) told names os ss opened.1 served.1)
 
-named_all : (limits : Limits) (h : History) (n : ℕ) (told : List ℕ → Contents) (names : List (List ℕ)) (os : List OpenedView) (ss : List EndedView) → AreOpened told names os → AreServed limits h n os ss → map (λ (s : EndedView). s.name) ss ≡ names
+named_all : (limits : Limits) (h : History) (n : ℕ) (told : List ℕ → Contents) (names : List (List ℕ)) (os : List OpenedView) (ss : List EndedView) → AreOpened told names os → AreServed limits h n nothing_held os ss → map (λ (s : EndedView). s.name) ss ≡ names
 named_all limits h n told [] [] [] opened served = refl
 named_all limits h n told [] [] (s ∷ ss) opened served = absurd served
 named_all limits h n told [] (o ∷ os) ss opened served = absurd opened
@@ -78,44 +84,51 @@ named_all limits h n told (name ∷ names) (o ∷ os) (s ∷ ss) opened served =
 some_fault : (now : ℕ) → Rose 0 now → 0 < now
 some_fault now rose = elim rose [ inl more ↦ more | inr end ↦ absurd (omega (arith, end.0)) ]
 
-caused_one : (limits : Limits) (h : History) (n : ℕ) (o : OpenedView) (s : EndedView) → o.objects.source_faults ≡ 0 → o.objects.sink_faults ≡ 0 → IsServed limits h n o s → IsCaused s
-caused_one limits h n o s source sink served = record {
+caused_one : (limits : Limits) (h : History) (n : ℕ) (x : Holding) (o : OpenedView) (s : EndedView) → o.objects.source_faults ≡ 0 → o.objects.sink_faults ≡ 0 → IsServed limits h n x o s → IsCaused s
+caused_one limits h n x o s source sink served = record {
   source = λ e. some_fault s.session.objects.source_faults (subst (λ (k : ℕ). Rose k s.session.objects.source_faults) source (served.source.rose e));
   sink = λ e. some_fault s.session.objects.sink_faults (subst (λ (k : ℕ). Rose k s.session.objects.sink_faults) sink (served.sink.rose e));
   source_stays = λ other. served.source.stays other ∙ source;
   sink_stays = λ other. served.sink.stays other ∙ sink;
 }
 
-caused_all : (limits : Limits) (h : History) (n : ℕ) (told : List ℕ → Contents) (names : List (List ℕ)) (os : List OpenedView) (ss : List EndedView) → AreOpened told names os → AreServed limits h n os ss → All IsCaused ss
+caused_all : (limits : Limits) (h : History) (n : ℕ) (told : List ℕ → Contents) (names : List (List ℕ)) (os : List OpenedView) (ss : List EndedView) → AreOpened told names os → AreServed limits h n nothing_held os ss → All IsCaused ss
 caused_all limits h n told [] [] [] opened served = All-nil IsCaused
 caused_all limits h n told [] [] (s ∷ ss) opened served = absurd served
 caused_all limits h n told [] (o ∷ os) ss opened served = absurd opened
 caused_all limits h n told (name ∷ names) [] ss opened served = absurd opened
 caused_all limits h n told (name ∷ names) (o ∷ os) [] opened served = absurd served
-caused_all limits h n told (name ∷ names) (o ∷ os) (s ∷ ss) opened served = All-cons IsCaused s ss (caused_one limits h n o s opened.0.source opened.0.sink served.0) (caused_all limits h (n + 1) told names os ss opened.1 served.1)
+caused_all limits h n told (name ∷ names) (o ∷ os) (s ∷ ss) opened served = All-cons IsCaused s ss (caused_one limits h n nothing_held o s opened.0.source opened.0.sink served.0) (caused_all limits h (n + 1) told names os ss opened.1 served.1)
 
-pub RanSessions-all : (workers : ℕ) (c : CatalogView) (limits : Limits) (old new : PassView) (o : OpenedView) (os : List OpenedView) (ss : List EndedView) (generate : Option ℕ) (first : Contents) (told : List ℕ → Contents) (names : List (List ℕ)) (status : ℕ)
-    → o.name ≡ [] → o.generate ≡ generate → o.objects.contents ≡ first → o.objects.source_faults ≡ 0 → o.objects.sink_faults ≡ 0 → AreOpened told names os → ServedAll limits workers old new (o ∷ os) ss → old.made ≡ 0 → old.added ≡ []
-    → Sound c → AreFull limits → c.limits ≡ limits → IsPrefix new.seen (hist c) → ((test : Event → Bool) → count_by test (hist c) ≡ count_by test new.added) → cursor (hist c) ≡ new.made → status ≡ first_status ss → RanSessions workers names (given_to_sessions generate first told names) status c ss
-RanSessions-all workers c limits old new o os [] generate first told names status name script contents source sink opened all none nothing sound full same seen counts made is_status = absurd all.served
-RanSessions-all workers c limits old new o os (s ∷ ss) generate first told names status name script contents source sink opened all none nothing sound full same seen counts made is_status =
+-- what the artefacts hold over what a pass has seen, they hold over the history of the catalogue
+exported_later : (seen h : History) (x : ExporterState) → IsPrefix x.seen seen → IsPrefix seen h → IsExported x.seen (exports_in x) x.puts → IsExported h (exports_in x) x.puts
+exported_later seen h x behind later exported = IsExported-later x.seen h (exports_in x) x.puts (IsPrefix-trans x.seen seen h behind later) exported
+
+pub RanSessions-all : (workers : ℕ) (c : CatalogView) (x : ExporterState) (limits : Limits) (old new : PassView) (o : OpenedView) (os : List OpenedView) (ss : List EndedView) (generate : Option ℕ) (first : Contents) (told : List ℕ → Contents) (names : List (List ℕ)) (status : ℕ)
+    → o.name ≡ [] → o.generate ≡ generate → o.objects.contents ≡ first → o.objects.source_faults ≡ 0 → o.objects.sink_faults ≡ 0 → AreOpened told names os → ServedAll limits workers old new (told_of x) (o ∷ os) ss → old.made ≡ 0 → old.added ≡ []
+    → Sound c → IsExported x.seen (exports_in x) x.puts → AreFull limits → c.limits ≡ limits → IsPrefix new.seen (hist c) → ((test : Event → Bool) → count_by test (hist c) ≡ count_by test new.added) → cursor (hist c) ≡ new.made → status ≡ first_status ss
+    → RanSessions workers names (given_to_sessions generate first told names) status c x ss
+RanSessions-all workers c x limits old new o os [] generate first told names status name script contents source sink opened all none nothing sound exported full same seen counts made is_status = absurd all.served
+RanSessions-all workers c x limits old new o os (s ∷ ss) generate first told names status name script contents source sink opened all none nothing sound exported full same seen counts made is_status =
     let h = hist c in
-    let served = AreServed-later limits new.seen h 0 (o ∷ os) (s ∷ ss) seen all.served in
+    let held = held_by x in
+    let served = AreServed-later limits new.seen h 0 held (o ∷ os) (s ∷ ss) seen all.served in
     let given = given_to_sessions generate first told names in
-    let explained : AreExplained limits h 0 given (s ∷ ss) = (ByScript-given (Explained limits h 0) o generate first s.session script contents source sink served.0.explained, explained_all limits h 1 told names os ss opened served.1) in
+    let explained : AreExplained limits h 0 held given (s ∷ ss) = (ByScript-given (Explained limits h 0 held) o generate first s.session script contents source sink served.0.explained, explained_all limits h 1 told names os ss opened served.1) in
     let here = served.0.named ∙ name in
     let every : (test : Event → Bool) → count_by test h ≡ count_by test all.passed.events = λ test. counts test ∙ ap (count_by test) (all.passed.added ∙ ap (λ (l : History). l ++ all.passed.events) nothing) in
     let others = named_all limits h 1 told names os ss opened served.1 in
     record {
       headline = record {
         sound = sound;
-        whole = Whole-owned workers h (s ∷ ss) (AreServed-owned limits h 0 (o ∷ os) (s ∷ ss) served) (omega (arith, all.passed.made, none, made)) (all_caused (is_caused workers (s ∷ ss)) h all.passed.events every all.passed.caused);
+        whole = Whole-owned workers h (s ∷ ss) (AreServed-owned limits h 0 held (o ∷ os) (s ∷ ss) served) (omega (arith, all.passed.made, none, made)) (all_caused (is_caused workers (s ∷ ss)) h all.passed.events every all.passed.caused);
         named = λ i. here i ∷ others i;
-        explained = subst (λ (l : Limits). AreExplained l h 0 given (s ∷ ss)) (sym same) explained;
+        explained = subst (λ (l : Limits). AreExplained l h 0 held given (s ∷ ss)) (sym same) explained;
+        exported = exported_later new.seen h x all.behind seen exported;
       };
       limits = subst AreFull (sym same) full;
       status_is = is_status;
-      caused = All-cons IsCaused s ss (caused_one limits h 0 o s source sink served.0) (caused_all limits h 1 told names os ss opened served.1);
+      caused = All-cons IsCaused s ss (caused_one limits h 0 held o s source sink served.0) (caused_all limits h 1 told names os ss opened served.1);
     }
 
 -- ---- the status
@@ -155,19 +168,19 @@ status_own SourceFault receipts = own_3
 status_own SinkFault receipts = own_4
 status_own InputLimit receipts = own_6
 
-own_first : (limits : Limits) (h : History) (n : ℕ) (os : List OpenedView) (ss : List EndedView) → AreServed limits h n os ss → IsOwn (first_status ss)
-own_first limits h n [] [] served = own_0
-own_first limits h n [] (s ∷ ss) served = absurd served
-own_first limits h n (o ∷ os) [] served = absurd served
-own_first limits h n (o ∷ os) (s ∷ ss) served =
-    let end = explained-end limits h n o.generate o.objects s.session served.0.explained in
+own_first : (limits : Limits) (h : History) (n : ℕ) (x : Holding) (os : List OpenedView) (ss : List EndedView) → AreServed limits h n x os ss → IsOwn (first_status ss)
+own_first limits h n x [] [] served = own_0
+own_first limits h n x [] (s ∷ ss) served = absurd served
+own_first limits h n x (o ∷ os) [] served = absurd served
+own_first limits h n x (o ∷ os) (s ∷ ss) served =
+    let end = explained-end limits h n x o.generate o.objects s.session served.0.explained in
     let here = subst IsOwn (sym end.1) (status_own end.0 s.session.receipts) in
-    own_if (nat_eq s.session.status 0) (first_status ss) s.session.status (own_first limits h (n + 1) os ss served.1) here
+    own_if (nat_eq s.session.status 0) (first_status ss) s.session.status (own_first limits h (n + 1) nothing_held os ss served.1) here
 
-pub first-of-sessions : (limits : Limits) (workers : ℕ) (old new : PassView) (os : List OpenedView) (ss : List EndedView) (status : ℕ) → ServedAll limits workers old new os ss → status ≡ first_status ss → (status ≢ 2) × (status ≢ 5)
+pub first-of-sessions : (limits : Limits) (workers : ℕ) (old new : PassView) (x : ExporterView) (os : List OpenedView) (ss : List EndedView) (status : ℕ) → ServedAll limits workers old new x os ss → status ≡ first_status ss → (status ≢ 2) × (status ≢ 5)
 unfolding IsOwn
-first-of-sessions limits workers old new os ss status all is =
-    subst IsOwn (sym is) (own_first limits new.seen 0 os ss all.served)
+first-of-sessions limits workers old new x os ss status all is =
+    subst IsOwn (sym is) (own_first limits new.seen 0 x.holding os ss all.served)
 
 -- ---- the feeds
 

@@ -1,5 +1,5 @@
 -- Sessions that were served together.
-use Rattle.std.proofs.Common.{◌≡◌, ◌≤◌, ◌+◌, ◌-◌, ◌&&◌, ◌||◌, ℕ, Bool, true, false, nat_eq, nat_le, nat_lt, append_assoc, List, [], ◌∷◌, ◌++◌, length, refl, ap, sym, ◌∙◌, subst, arith, add-zero, zero-add}
+use Rattle.std.proofs.Common.{◌≡◌, ◌<◌, ◌≤◌, ◌+◌, ◌-◌, ◌&&◌, ◌||◌, ℕ, Bool, true, false, nat_eq, nat_le, nat_lt, append_assoc, List, [], ◌∷◌, ◌++◌, length, refl, ap, sym, ◌∙◌, subst, arith, add-zero}
 use Rattle.std.proofs.lemmas.Bool.Decides.{nat_tests}
 use Rattle.std.proofs.lemmas.List.Elements.{All-append, All-weaker}
 use Rattle.std.proofs.lemmas.List.Sums.{sum_by-append}
@@ -12,40 +12,59 @@ use Rattle.kq_model.specs.History.{History, commits_of}
 use Rattle.kq_workers.specs.kq_engine.Shared.{PassView}
 use Rattle.kq_session.specs.Session.{Explained, is_receipted, owns}
 use Rattle.kq_session.proofs.Serving.{Explained-later}
-use Rattle.kq_program.specs.Together.{IsServed, AreServed, Passed, ServedOne, ServedAll, all_owns}
+use Rattle.kq_session.specs.Blocks.{serves_to}
+use Rattle.kq_session.specs.kq_exporter.Due.{ExporterView, Holding, none_told, nothing_held}
+use Rattle.kq_program.specs.Together.{IsUnasked, IsServed, AreServed, Passed, ServedOne, ServedAll, all_owns}
 use Rattle.kq_program.specs.Views.{OpenedView, EndedView}
 use Rattle.kq_program.specs.Whole.{is_caused, is_of_sessions, is_of_workers}
 use Rattle.kq_workers.specs.Rounds.{is_upkeep}
 use Rattle.kq_program.proofs.Scripting.{ByScript-map}
 
-IsServed-later : (limits : Limits) (h new : History) (actor : ℕ) (o : OpenedView) (s : EndedView) → IsPrefix h new → IsServed limits h actor o s → IsServed limits new actor o s
-IsServed-later limits h new actor o s later served = record {
+IsServed-later : (limits : Limits) (h new : History) (actor : ℕ) (x : Holding) (o : OpenedView) (s : EndedView) → IsPrefix h new → IsServed limits h actor x o s → IsServed limits new actor x o s
+IsServed-later limits h new actor x o s later served = record {
   named = served.named;
-  explained = ByScript-map (Explained limits h actor) (Explained limits new actor) (λ before t. Explained-later limits h new actor before t later) o.generate o.objects s.session served.explained;
+  explained = ByScript-map (Explained limits h actor x) (Explained limits new actor x) (λ before t. Explained-later limits h new actor x before t later) o.generate o.objects s.session served.explained;
   source = served.source;
   sink = served.sink;
 }
 
-pub AreServed-later : (limits : Limits) (h new : History) (n : ℕ) (os : List OpenedView) (ss : List EndedView) → IsPrefix h new → AreServed limits h n os ss → AreServed limits new n os ss
-AreServed-later limits h new n [] [] later served = tt
-AreServed-later limits h new n [] (s ∷ ss) later served = absurd served
-AreServed-later limits h new n (o ∷ os) [] later served = absurd served
-AreServed-later limits h new n (o ∷ os) (s ∷ ss) later served = (IsServed-later limits h new n o s later served.0, AreServed-later limits h new (n + 1) os ss later served.1)
+pub AreServed-later : (limits : Limits) (h new : History) (n : ℕ) (x : Holding) (os : List OpenedView) (ss : List EndedView) → IsPrefix h new → AreServed limits h n x os ss → AreServed limits new n x os ss
+AreServed-later limits h new n x [] [] later served = tt
+AreServed-later limits h new n x [] (s ∷ ss) later served = absurd served
+AreServed-later limits h new n x (o ∷ os) [] later served = absurd served
+AreServed-later limits h new n x (o ∷ os) (s ∷ ss) later served = (IsServed-later limits h new n x o s later served.0, AreServed-later limits h new (n + 1) nothing_held os ss later served.1)
 
-AreServed-push : (limits : Limits) (h : History) (n : ℕ) (os : List OpenedView) (ss : List EndedView) (o : OpenedView) (s : EndedView) → AreServed limits h n os ss → IsServed limits h (n + length os) o s → AreServed limits h n (os ++ o ∷ []) (ss ++ s ∷ [])
-AreServed-push limits h n [] [] o s served last = (subst (λ (k : ℕ). IsServed limits h k o s) (add-zero n) last, tt)
-AreServed-push limits h n [] (x ∷ ss) o s served last = absurd served
-AreServed-push limits h n (p ∷ os) [] o s served last = absurd served
-AreServed-push limits h n (p ∷ os) (x ∷ ss) o s served last =
+-- a feed more
+feeds_push : (limits : Limits) (h : History) (n : ℕ) (os : List OpenedView) (ss : List EndedView) (o : OpenedView) (s : EndedView) → AreServed limits h n nothing_held os ss → IsServed limits h (n + length os) nothing_held o s → AreServed limits h n nothing_held (os ++ o ∷ []) (ss ++ s ∷ [])
+feeds_push limits h n [] [] o s served last = (subst (λ (k : ℕ). IsServed limits h k nothing_held o s) (add-zero n) last, tt)
+feeds_push limits h n [] (q ∷ ss) o s served last = absurd served
+feeds_push limits h n (p ∷ os) [] o s served last = absurd served
+feeds_push limits h n (p ∷ os) (q ∷ ss) o s served last =
     let same : n + length (p ∷ os) ≡ n + 1 + length os = omega arith in
-    (served.0, AreServed-push limits h (n + 1) os ss o s served.1 (subst (λ (k : ℕ). IsServed limits h k o s) same last))
+    (served.0, feeds_push limits h (n + 1) os ss o s served.1 (subst (λ (k : ℕ). IsServed limits h k nothing_held o s) same last))
+
+-- a feed more, beside session 0
+AreServed-push : (limits : Limits) (h : History) (x : Holding) (p : OpenedView) (os : List OpenedView) (ss : List EndedView) (o : OpenedView) (s : EndedView) → AreServed limits h 0 x (p ∷ os) ss → IsServed limits h (length (p ∷ os)) nothing_held o s → AreServed limits h 0 x ((p ∷ os) ++ o ∷ []) (ss ++ s ∷ [])
+AreServed-push limits h x p os [] o s served last = absurd served
+AreServed-push limits h x p os (q ∷ ss) o s served last =
+    let same : length (p ∷ os) ≡ 1 + length os = omega arith in
+    (served.0, feeds_push limits h 1 os ss o s served.1 (subst (λ (k : ℕ). IsServed limits h k nothing_held o s) same last))
 
 -- there are as many sessions as there were before
-pub AreServed-length : (limits : Limits) (h : History) (n : ℕ) (os : List OpenedView) (ss : List EndedView) → AreServed limits h n os ss → length ss ≡ length os
-AreServed-length limits h n [] [] served = refl
-AreServed-length limits h n [] (s ∷ ss) served = absurd served
-AreServed-length limits h n (o ∷ os) [] served = absurd served
-AreServed-length limits h n (o ∷ os) (s ∷ ss) served = let rest = AreServed-length limits h (n + 1) os ss served.1 in omega (arith, rest)
+pub AreServed-length : (limits : Limits) (h : History) (n : ℕ) (x : Holding) (os : List OpenedView) (ss : List EndedView) → AreServed limits h n x os ss → length ss ≡ length os
+AreServed-length limits h n x [] [] served = refl
+AreServed-length limits h n x [] (s ∷ ss) served = absurd served
+AreServed-length limits h n x (o ∷ os) [] served = absurd served
+AreServed-length limits h n x (o ∷ os) (s ∷ ss) served = let rest = AreServed-length limits h (n + 1) nothing_held os ss served.1 in omega (arith, rest)
+
+-- ---- exporters
+
+above_zero : (actor : ℕ) → 0 < actor → nat_eq actor 0 ≡ false
+above_zero actor above = grind (arith, nat_tests, above)
+
+-- that of a feed
+pub IsUnasked-none : (actor : ℕ) → 0 < actor → IsUnasked (serves_to actor) none_told
+IsUnasked-none actor above = record { serves_so = sym (above_zero actor above); holds_nothing = refl; saw_nothing = refl }
 
 -- ---- events
 
@@ -134,8 +153,8 @@ empty_of [] e = refl
 empty_of (x ∷ xs) e = absurd (omega (arith, e))
 
 -- session 0 alone
-pub ServedAll-first : (limits : Limits) (old new : PassView) (o : OpenedView) (s : EndedView) → ServedOne limits old new 0 o s → ServedAll limits 0 old new (o ∷ []) (s ∷ [])
-ServedAll-first limits old new o s one = record {
+pub ServedAll-first : (limits : Limits) (old new : PassView) (x : ExporterView) (o : OpenedView) (s : EndedView) → ServedOne limits old new 0 x o s → ServedAll limits 0 old new x (o ∷ []) (s ∷ [])
+ServedAll-first limits old new x o s one = record {
   passed = record {
     events = one.passed.events;
     added = one.passed.added;
@@ -146,15 +165,16 @@ ServedAll-first limits old new o s one = record {
     made = one.passed.made;
   };
   served = (one.served, tt);
+  behind = one.behind;
 }
 
--- one session more, beside the others
-pub ServedAll-push : (limits : Limits) (workers : ℕ) (of : TurnId) (old rest mine rest' mine' joined : PassView) (os : List OpenedView) (ss : List EndedView) (o : OpenedView) (s : EndedView) (actor : ℕ)
+-- one feed more, beside the others
+pub ServedAll-push : (limits : Limits) (workers : ℕ) (of : TurnId) (old rest mine rest' mine' joined : PassView) (x : ExporterView) (p : OpenedView) (os : List OpenedView) (ss : List EndedView) (o : OpenedView) (s : EndedView) (actor : ℕ)
     → old.of ≡ of → 2 ≤ old.worth → rest ≡ record old { worth = old.worth - 1 } → mine ≡ record old { worth = 1; added = []; made = 0; taken = [] }
-    → ServedAll limits workers rest rest' os ss → ServedOne limits mine mine' actor o s → actor ≡ length os
+    → ServedAll limits workers rest rest' x (p ∷ os) ss → ServedOne limits mine mine' actor none_told o s → actor ≡ length (p ∷ os)
     → joined.of ≡ of → IsPrefix rest'.seen joined.seen → IsPrefix mine'.seen joined.seen → joined.worth ≡ rest'.worth + mine'.worth → joined.added ≡ rest'.added ++ mine'.added → joined.made ≡ rest'.made + mine'.made
-    → ServedAll limits workers old joined (os ++ o ∷ []) (ss ++ s ∷ [])
-ServedAll-push limits workers of old rest mine rest' mine' joined os ss o s actor of_old some is_rest is_mine others one is_last of_joined first second worth added made =
+    → ServedAll limits workers old joined x ((p ∷ os) ++ o ∷ []) (ss ++ s ∷ [])
+ServedAll-push limits workers of old rest mine rest' mine' joined x p os ss o s actor of_old some is_rest is_mine others one is_last of_joined first second worth added made =
     let rest_seen : IsPrefix old.seen rest'.seen = subst (λ (h : History). IsPrefix h rest'.seen) (ap (λ (p : PassView). p.seen) is_rest) others.passed.seen in
     let rest_worth = ap (λ (p : PassView). p.worth) is_rest in
     let rest_made = ap (λ (p : PassView). p.made) is_rest in
@@ -170,37 +190,38 @@ ServedAll-push limits workers of old rest mine rest' mine' joined os ss o s acto
         added = joined_added old.added rest.added mine.added rest'.added mine'.added joined.added others.passed.events one.passed.events (ap (λ (p : PassView). p.added) is_rest) (ap (λ (p : PassView). p.added) is_mine) others.passed.added one.passed.added added;
         caused = All-append (λ (e : Event). is_caused workers (ss ++ s ∷ []) e ≡ true) others.passed.events one.passed.events
             (All-weaker (λ (e : Event). is_caused workers ss e ≡ true) (λ (e : Event). is_caused workers (ss ++ s ∷ []) e ≡ true) (caused_front workers ss s) others.passed.events others.passed.caused)
-            (All-weaker (λ (e : Event). is_receipted actor s.session.receipts e ≡ true) (λ (e : Event). is_caused workers (ss ++ s ∷ []) e ≡ true) (caused_last workers actor ss s (is_last ∙ sym (AreServed-length limits rest'.seen 0 os ss others.served))) one.passed.events one.passed.caused);
+            (All-weaker (λ (e : Event). is_receipted actor s.session.receipts e ≡ true) (λ (e : Event). is_caused workers (ss ++ s ∷ []) e ≡ true) (caused_last workers actor ss s (is_last ∙ sym (AreServed-length limits rest'.seen 0 x.holding (p ∷ os) ss others.served))) one.passed.events one.passed.caused);
         made = omega (arith, made, others.passed.made, one.passed.made, rest_made, mine_made, total);
       };
-      served = AreServed-push limits joined.seen 0 os ss o s (AreServed-later limits rest'.seen joined.seen 0 os ss first others.served)
-          (subst (λ (k : ℕ). IsServed limits joined.seen k o s) (is_last ∙ sym (zero-add (length os))) (IsServed-later limits mine'.seen joined.seen actor o s second one.served));
+      served = AreServed-push limits joined.seen x.holding p os ss o s (AreServed-later limits rest'.seen joined.seen 0 x.holding (p ∷ os) ss first others.served)
+          (subst (λ (k : ℕ). IsServed limits joined.seen k nothing_held o s) is_last (IsServed-later limits mine'.seen joined.seen actor nothing_held o s second one.served));
+      behind = IsPrefix-trans x.seen rest'.seen joined.seen others.behind first;
     }
 
-pub served_count : (limits : Limits) (workers : ℕ) (old new : PassView) (o : OpenedView) (feeds : List OpenedView) (ss : List EndedView) → ServedAll limits workers old new (o ∷ feeds) ss → length ss ≡ length feeds + 1
-served_count limits workers old new o feeds ss all =
-    let same = AreServed-length limits new.seen 0 (o ∷ feeds) ss all.served in
+pub served_count : (limits : Limits) (workers : ℕ) (old new : PassView) (x : ExporterView) (o : OpenedView) (feeds : List OpenedView) (ss : List EndedView) → ServedAll limits workers old new x (o ∷ feeds) ss → length ss ≡ length feeds + 1
+served_count limits workers old new x o feeds ss all =
+    let same = AreServed-length limits new.seen 0 x.holding (o ∷ feeds) ss all.served in
     omega (arith, same)
 
-pub ServedAll-more : (limits : Limits) (workers : ℕ) (of : TurnId) (old rest mine rest' mine' joined : PassView) (o last : OpenedView) (whole feeds : List OpenedView) (sessions ss : List EndedView) (e : EndedView) (actor : ℕ)
+pub ServedAll-more : (limits : Limits) (workers : ℕ) (of : TurnId) (old rest mine rest' mine' joined : PassView) (x : ExporterView) (o last : OpenedView) (whole feeds : List OpenedView) (sessions ss : List EndedView) (e : EndedView) (actor : ℕ)
     → whole ≡ feeds ++ last ∷ [] → sessions ≡ ss ++ e ∷ []
     → old.of ≡ of → 2 ≤ old.worth → rest ≡ record old { worth = old.worth - 1 } → mine ≡ record old { worth = 1; added = []; made = 0; taken = [] }
-    → ServedAll limits workers rest rest' (o ∷ feeds) ss → ServedOne limits mine mine' actor last e → actor ≡ length feeds + 1
+    → ServedAll limits workers rest rest' x (o ∷ feeds) ss → ServedOne limits mine mine' actor none_told last e → actor ≡ length feeds + 1
     → joined.of ≡ of → IsPrefix rest'.seen joined.seen → IsPrefix mine'.seen joined.seen → joined.worth ≡ rest'.worth + mine'.worth → joined.added ≡ rest'.added ++ mine'.added → joined.made ≡ rest'.made + mine'.made
-    → ServedAll limits workers old joined (o ∷ whole) sessions
-ServedAll-more limits workers of old rest mine rest' mine' joined o last whole feeds sessions ss e actor is_whole is_sessions of_old some is_rest is_mine others one is_last of_joined first_seen second_seen worth added made =
+    → ServedAll limits workers old joined x (o ∷ whole) sessions
+ServedAll-more limits workers of old rest mine rest' mine' joined x o last whole feeds sessions ss e actor is_whole is_sessions of_old some is_rest is_mine others one is_last of_joined first_seen second_seen worth added made =
     let os : o ∷ whole ≡ (o ∷ feeds) ++ last ∷ [] = ap (λ (l : List OpenedView). o ∷ l) is_whole in
     let count : actor ≡ length (o ∷ feeds) = omega (arith, is_last) in
-    let all = ServedAll-push limits workers of old rest mine rest' mine' joined (o ∷ feeds) ss last e actor of_old some is_rest is_mine others one count of_joined first_seen second_seen worth added made in
-    subst (λ (l : List OpenedView). ServedAll limits workers old joined l sessions) (sym os) (subst (ServedAll limits workers old joined ((o ∷ feeds) ++ last ∷ [])) (sym is_sessions) all)
+    let all = ServedAll-push limits workers of old rest mine rest' mine' joined x o feeds ss last e actor of_old some is_rest is_mine others one count of_joined first_seen second_seen worth added made in
+    subst (λ (l : List OpenedView). ServedAll limits workers old joined x l sessions) (sym os) (subst (ServedAll limits workers old joined x ((o ∷ feeds) ++ last ∷ [])) (sym is_sessions) all)
 
 -- a worker beside them, which makes no commit
-pub ServedAll-worker : (limits : Limits) (workers others actor : ℕ) (of : TurnId) (old rest mine rest' mine' joined : PassView) (os : List OpenedView) (ss : List EndedView)
+pub ServedAll-worker : (limits : Limits) (workers others actor : ℕ) (of : TurnId) (old rest mine rest' mine' joined : PassView) (x : ExporterView) (os : List OpenedView) (ss : List EndedView)
     → old.of ≡ of → 2 ≤ old.worth → rest ≡ record old { worth = old.worth - 1 } → mine ≡ record old { worth = 1; added = []; made = 0; taken = [] }
-    → workers ≡ others + 1 → actor ≡ 8 + others → ServedAll limits others rest rest' os ss → Passed (is_upkeep actor) mine mine' []
+    → workers ≡ others + 1 → actor ≡ 8 + others → ServedAll limits others rest rest' x os ss → Passed (is_upkeep actor) mine mine' []
     → joined.of ≡ of → IsPrefix rest'.seen joined.seen → joined.worth ≡ rest'.worth + mine'.worth → joined.added ≡ rest'.added ++ mine'.added → joined.made ≡ rest'.made + mine'.made
-    → ServedAll limits workers old joined os ss
-ServedAll-worker limits workers others actor of old rest mine rest' mine' joined os ss of_old some is_rest is_mine is_workers is_actor rested worked of_joined seen worth added made =
+    → ServedAll limits workers old joined x os ss
+ServedAll-worker limits workers others actor of old rest mine rest' mine' joined x os ss of_old some is_rest is_mine is_workers is_actor rested worked of_joined seen worth added made =
     let rest_seen : IsPrefix old.seen rest'.seen = subst (λ (h : History). IsPrefix h rest'.seen) (ap (λ (p : PassView). p.seen) is_rest) rested.passed.seen in
     let rest_worth = ap (λ (p : PassView). p.worth) is_rest in
     let rest_made = ap (λ (p : PassView). p.made) is_rest in
@@ -219,5 +240,6 @@ ServedAll-worker limits workers others actor of old rest mine rest' mine' joined
             (All-weaker (λ (e : Event). is_upkeep actor e ≡ true) (λ (e : Event). is_caused workers ss e ≡ true) (caused_worker workers others actor ss is_workers is_actor) worked.events worked.caused);
         made = omega (arith, made, rested.passed.made, worked.made, rest_made, mine_made, none);
       };
-      served = AreServed-later limits rest'.seen joined.seen 0 os ss seen rested.served;
+      served = AreServed-later limits rest'.seen joined.seen 0 x.holding os ss seen rested.served;
+      behind = IsPrefix-trans x.seen rest'.seen joined.seen rested.behind seen;
     }

@@ -14,6 +14,7 @@ use Rattle.kq_session.specs.declared.receipt.Receipt.{Receipt}
 use Rattle.kq_session.specs.Objects.{Objects, SessionView}
 use Rattle.kq_session.specs.Session.{Explained, owns, own_commits}
 use Rattle.kq_session.proofs.Owned.{Follows, AreIn, AreOwned, Explained-owned}
+use Rattle.kq_session.specs.kq_exporter.Due.{Holding, nothing_held}
 use Rattle.kq_program.specs.Scripts.{ByScript}
 use Rattle.kq_program.specs.Together.{AreServed, all_owns}
 use Rattle.kq_program.specs.Views.{OpenedView, EndedView}
@@ -238,12 +239,12 @@ Whole-owned workers h ss owned all caused =
     zero_plus n = omega arith
 
 -- by whatever script
-owned_by : (limits : Limits) (h : History) (n : ℕ) (generate : Option ℕ) (before : Objects) (s : SessionView) → ByScript (Explained limits h n) generate before s → AreOwned 0 0 (commits_at h) (own_commits n s.receipts)
-owned_by limits h n None before s explained = Explained-owned limits h n before.contents s explained
-owned_by limits h n (Some rows) before s scripted = Explained-owned limits h n _ _ scripted.holds
+owned_by : (limits : Limits) (h : History) (n : ℕ) (x : Holding) (generate : Option ℕ) (before : Objects) (s : SessionView) → ByScript (Explained limits h n x) generate before s → AreOwned 0 0 (commits_at h) (own_commits n s.receipts)
+owned_by limits h n x None before s explained = Explained-owned limits h n x before.contents s explained
+owned_by limits h n x (Some rows) before s scripted = Explained-owned limits h n x _ _ scripted.holds
 
-pub AreServed-owned : (limits : Limits) (h : History) (n : ℕ) (os : List OpenedView) (ss : List EndedView) → AreServed limits h n os ss → AllOwned h n ss
-AreServed-owned limits h n [] [] served = tt
-AreServed-owned limits h n [] (s ∷ ss) served = absurd served
-AreServed-owned limits h n (o ∷ os) [] served = absurd served
-AreServed-owned limits h n (o ∷ os) (s ∷ ss) served = (owned_by limits h n o.generate o.objects s.session served.0.explained, AreServed-owned limits h (n + 1) os ss served.1)
+pub AreServed-owned : (limits : Limits) (h : History) (n : ℕ) (x : Holding) (os : List OpenedView) (ss : List EndedView) → AreServed limits h n x os ss → AllOwned h n ss
+AreServed-owned limits h n x [] [] served = tt
+AreServed-owned limits h n x [] (s ∷ ss) served = absurd served
+AreServed-owned limits h n x (o ∷ os) [] served = absurd served
+AreServed-owned limits h n x (o ∷ os) (s ∷ ss) served = (owned_by limits h n x o.generate o.objects s.session served.0.explained, AreServed-owned limits h (n + 1) nothing_held os ss served.1)

@@ -10,15 +10,23 @@ use Rattle.kq_workers.specs.kq_engine.Shared.{PassView}
 use Rattle.kq_session.specs.Objects.{Objects, objects}
 use Rattle.kq_session.specs.Session.{Explained, is_receipted, owns}
 use Rattle.kq_session.specs.Exchanges.{Rises}
+use Rattle.kq_session.specs.kq_exporter.Due.{ExporterView, Holding, nothing_held}
 use Rattle.kq_workers.specs.Rounds.{Works}
 use Rattle.kq_program.specs.Scripts.{ByScript}
 use Rattle.kq_program.specs.Views.{OpenedView, EndedView}
 use Rattle.kq_program.specs.Whole.{is_caused}
 
--- the session of an actor was served: the history explains it by its script, and its faults have their causes
-pub record IsServed (limits : Limits) (h : History) (actor : ℕ) (o : OpenedView) (s : EndedView) : Type 0 where
+-- an exporter that serves or not, and was asked for nothing yet
+pub record IsUnasked (serves : Bool) (e : ExporterView) : Type 0 where
+  pub serves_so : e.serves ≡ serves
+  pub holds_nothing : e.holding ≡ nothing_held
+  pub saw_nothing : e.seen ≡ []
+
+-- the session of an actor, whose exporter holds this in the end, was served: the history explains it by its script, and its
+-- faults have their causes
+pub record IsServed (limits : Limits) (h : History) (actor : ℕ) (holding : Holding) (o : OpenedView) (s : EndedView) : Type 0 where
   pub named : s.name ≡ o.name
-  pub explained : ByScript (Explained limits h actor) o.generate o.objects s.session
+  pub explained : ByScript (Explained limits h actor holding) o.generate o.objects s.session
   pub source : Rises o.objects.source_faults s.session.objects.source_faults (s.session.status ≡ 3)
   pub sink : Rises o.objects.sink_faults s.session.objects.sink_faults (s.session.status ≡ 4)
 
@@ -30,12 +38,13 @@ scripted told source_faults accepted sink_faults readings name rows parts = reco
 abbrev pub unserved : List ℕ → Objects → EndedView
 unserved name objects = record { name = name; session = record { objects = objects; receipts = []; status = 1 } }
 
--- from the n-th session on, each was served
-abbrev pub AreServed : Limits → History → ℕ → List OpenedView → List EndedView → Type 0
-AreServed limits h n [] [] = Unit {0}
-AreServed limits h n [] (s ∷ ss) = ⊥
-AreServed limits h n (o ∷ os) [] = ⊥
-AreServed limits h n (o ∷ os) (s ∷ ss) = IsServed limits h n o s × AreServed limits h (n + 1) os ss
+-- from the n-th session on, each was served. The exporter of the first of them holds this in the end, and those of the others
+-- hold nothing
+abbrev pub AreServed : Limits → History → ℕ → Holding → List OpenedView → List EndedView → Type 0
+AreServed limits h n holding [] [] = Unit {0}
+AreServed limits h n holding [] (s ∷ ss) = ⊥
+AreServed limits h n holding (o ∷ os) [] = ⊥
+AreServed limits h n holding (o ∷ os) (s ∷ ss) = IsServed limits h n holding o s × AreServed limits h (n + 1) nothing_held os ss
 
 -- how many commits the sessions' receipts tell
 abbrev pub all_owns : List EndedView → ℕ
@@ -56,12 +65,15 @@ pub record Passed (cause : Event → Bool) (old new : PassView) (sessions : List
 abbrev pub RestsOrWorks : Limits → ℕ → PassView → PassView → Type 0
 RestsOrWorks limits actor old new = (new ≡ old) ⊎ ((short : Bool) × Works limits actor old new short)
 
--- the session of an actor was served through a pass
-pub record ServedOne (limits : Limits) (old new : PassView) (actor : ℕ) (o : OpenedView) (s : EndedView) : Type 0 where
+-- the session of an actor was served through a pass, and this is its exporter in the end, which was asked over no more than the
+-- pass has seen
+pub record ServedOne (limits : Limits) (old new : PassView) (actor : ℕ) (e : ExporterView) (o : OpenedView) (s : EndedView) : Type 0 where
   pub passed : Passed (is_receipted actor s.session.receipts) old new (s ∷ [])
-  pub served : IsServed limits new.seen actor o s
+  pub served : IsServed limits new.seen actor e.holding o s
+  pub behind : IsPrefix e.seen new.seen
 
--- all sessions were served through a pass, and beside them so many workers went to work
-pub record ServedAll (limits : Limits) (workers : ℕ) (old new : PassView) (os : List OpenedView) (ss : List EndedView) : Type 0 where
+-- all sessions were served through a pass, the first with this exporter, and beside them so many workers went to work
+pub record ServedAll (limits : Limits) (workers : ℕ) (old new : PassView) (e : ExporterView) (os : List OpenedView) (ss : List EndedView) : Type 0 where
   pub passed : Passed (is_caused workers ss) old new ss
-  pub served : AreServed limits new.seen 0 os ss
+  pub served : AreServed limits new.seen 0 e.holding os ss
+  pub behind : IsPrefix e.seen new.seen

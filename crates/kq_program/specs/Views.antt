@@ -3,6 +3,8 @@ use Rattle.std.specs.Prelude.{ℕ, List, Option}
 use Rattle.kq_world.specs.Outside.{Contents}
 use Rattle.kq_workers.specs.kq_catalog.Seen.{CatalogView}
 use Rattle.kq_session.specs.Objects.{Objects, SessionView}
+use Rattle.kq_session.specs.kq_exporter.Due.{Holding}
+use Rattle.kq_export.specs.Held.{ExporterState, exports_in}
 
 -- what a session is given: of how many rows its script is generated, where it is, and what its objects tell at first
 pub record Given : Type 0 where
@@ -20,8 +22,13 @@ pub record EndedView : Type 0 where
   pub name : List ℕ
   pub session : SessionView
 
+-- the exports that an exporter holds, and how often its artefacts have failed
+abbrev pub held_by : ExporterState → Holding
+held_by e = record { exports = exports_in e; faults = e.faults }
+
 -- what a run hands back
 pub record RunView : Type 0 where
   pub status : ℕ
   pub catalog : Option CatalogView
   pub sessions : List EndedView
+  pub export : Option ExporterState

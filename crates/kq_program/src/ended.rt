@@ -1,4 +1,5 @@
 // What the program hands back.
+use kq_export::ArtefactExporter;
 use kq_session::Receipts;
 use kq_value::Text;
 use kq_workers::Catalog;
@@ -35,12 +36,14 @@ impl<S: Source, K: Sink, C: Clock> Model for EndedSession<S, K, C> {
 /// A session that has ended, with the objects that the World gave it.
 pub type Ended<W> = EndedSession<<W as World>::Source, <W as World>::Sink, <W as World>::Clock>;
 
-/// What a run comes to: its status, and, where the sessions were begun, the catalogue and the sessions in order.
+/// What a run comes to: its status, and, where the sessions were begun, the catalogue, the sessions in order, and the exporter of
+/// session 0.
 #[derive(Drop)]
 pub struct Run<W: World> {
     pub status: u8,
     pub catalog: Option<Catalog>,
     pub sessions: Vec<Ended<W>>,
+    pub export: Option<ArtefactExporter<<W as World>::Artefacts>>,
 }
 
 impl<W: World> Model for Run<W> {
@@ -53,5 +56,5 @@ impl<W: World> Model for Run<W> {
 
     ghost coded = { Prim.hlevel (codes, cell.the_row.coded, expr.the_row.coded) };
 
-    ghost view = { λ r. record { status = r.status; catalog = r.catalog; sessions = r.sessions.items } };
+    ghost view = { λ r. record { status = r.status; catalog = r.catalog; sessions = r.sessions.items; export = r.export } };
 }

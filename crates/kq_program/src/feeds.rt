@@ -19,6 +19,7 @@ pub(crate) fn open_feeds<W: World>(
     ensures opened { IfOk result (λ v. AreOpened (W.feed_contents world.old) names.items v.items) }
     ensures first { W.first_contents world.new ≡ W.first_contents world.old }
     ensures begun { W.begun world.new ≡ W.begun world.old }
+    ensures given { W.given world.new ≡ W.given world.old }
     ensures asked { AsksInOrder (W.asked world.old) (W.asked world.new) result names.items }
     ensures cause { OpensByCause (W.faults world.old) (W.faults world.new) result }
 {

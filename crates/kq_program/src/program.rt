@@ -11,6 +11,7 @@ use crate::feeds::open_feeds;
 use crate::opened::{Opened, OpenedSession};
 use crate::together::Together;
 use crate::workers::serve_beside_workers;
+use kq_export::ArtefactExporter;
 use kq_model::Limits;
 use kq_value::Text;
 use kq_words::{Options, OptionsError};
@@ -39,7 +40,8 @@ pub fn run<R: Threads + Wait + Sync, W: World, G: Gate + Sync>(
     world: &mut W,
     gate: &G,
 ) -> Run<W>
-    requires { W.begun world.old ≡ false }
+    requires begun { W.begun world.old ≡ false }
+    requires given { W.given world.old ≡ false }
     ensures form { IsJustWhere result.status WRONG_WORDS (asked_in words.now ≡ None) }
     ensures untouched { result.status ≡ WRONG_WORDS → world.new ≡ world.old }
     ensures served { IsSome result.catalog → IsSome (asked_in words.now) }
@@ -62,7 +64,8 @@ pub fn exit_status<R: Threads + Wait + Sync, W: World, G: Gate + Sync>(
     world: &mut W,
     gate: &G,
 ) -> u8
-    requires { W.begun world.old ≡ false }
+    requires begun { W.begun world.old ≡ false }
+    requires given { W.given world.old ≡ false }
     ensures untouched { result ≡ WRONG_WORDS → world.new ≡ world.old }
     ensures ran { let said = asked_in words.now in (ran : RunView) × (ran.status ≡ result)
         × RunsProgram (workers_of said) (generate_of said) (feeds_of said) (W.first_contents world.old) (W.feed_contents world.old) ran }
@@ -79,6 +82,7 @@ fn run_sessions<R: Threads + Wait + Sync, W: World, G: Gate + Sync>(
     gate: &G,
 ) -> Run<W>
     requires begun { W.begun world.old ≡ false }
+    requires given { W.given world.old ≡ false }
     requires different { are_distinct options.feeds.items ≡ true }
     requires few { length options.feeds.items ≤ 7 }
     requires few_workers { options.workers ≤ 8 }
@@ -109,6 +113,7 @@ fn run_opened<R: Threads + Wait + Sync, W: World, G: Gate + Sync>(
     gate: &G,
 ) -> Run<W>
     requires begun { W.begun world.old ≡ false }
+    requires given { W.given world.old ≡ false }
     requires few { length feeds.items ≤ 7 }
     requires few_workers { workers ≤ 8 }
     ensures status { result.status ≢ WRONG_WORDS }
@@ -134,17 +139,23 @@ fn run_opened<R: Threads + Wait + Sync, W: World, G: Gate + Sync>(
         generate,
         parts: world.first(),
     };
+    let exporter = ArtefactExporter::new(alloc, world.artefacts());
     let stop = AtomicBool::new(false);
-    let Together { pass, sessions } = serve_beside_workers(
-        rt, alloc, &shared, pass, workers, &stop, first, feeds, room, gate,
+    let Together {
+        pass,
+        exporter,
+        sessions,
+    } = serve_beside_workers(
+        rt, alloc, &shared, pass, workers, &stop, first, exporter, feeds, room, gate,
     );
     let catalog = shared.close(pass);
-    // A catalogue is sound wherever it can be looked at.
-    let _place = catalog.place();
+    // A catalogue is sound wherever it can be looked at, and so is what an exporter holds.
+    let (_place, _count) = (catalog.place(), exporter.export_count());
     Run {
         status: first_status(sessions.as_slice()),
         catalog: Some(catalog),
         sessions,
+        export: Some(exporter),
     }
 }
 
@@ -165,10 +176,12 @@ fn not_begun<W: World>(alloc: Global, status: u8) -> Run<W>
     ensures status { result.status ≡ status }
     ensures catalog { result.catalog ≡ None }
     ensures sessions { result.sessions ≡ [] }
+    ensures export { result.export ≡ None }
 {
     Run {
         status,
         catalog: None,
         sessions: Vec::new(alloc),
+        export: None,
     }
 }

@@ -1,11 +1,12 @@
 // Workers beside the sessions.
-ghost use Rattle.std.specs.Prelude.{◌≡◌, ◌<◌, ◌≤◌, ◌+◌, ◌∷◌, [], length, vec_capacity};
-ghost use Rattle.kq_program.specs.Together.{Passed, RestsOrWorks, ServedAll};
+ghost use Rattle.std.specs.Prelude.{◌≡◌, ◌<◌, ◌≤◌, ◌+◌, ◌∷◌, [], length, true, vec_capacity};
+ghost use Rattle.kq_program.specs.Together.{IsUnasked, Passed, RestsOrWorks, ServedAll};
 ghost use Rattle.kq_workers.specs.Rounds.{is_upkeep};
 
 use crate::ended::EndedSession;
 use crate::opened::OpenedSession;
 use crate::together::{Together, serve_all};
+use kq_session::Exporter;
 use kq_workers::{Pass, Shared, work};
 use kq_world::{Clock, Gate, Sink, Source};
 use std::alloc::Global;
@@ -33,6 +34,7 @@ pub(crate) fn serve_beside_workers<
     K: Sink + Send,
     C: Clock + Send,
     G: Gate + Sync,
+    E: Exporter,
 >(
     rt: &R,
     alloc: Global,
@@ -41,20 +43,24 @@ pub(crate) fn serve_beside_workers<
     workers: u32,
     stop: &AtomicBool,
     first: OpenedSession<S, K, C>,
+    exporter: E,
     feeds: Vec<OpenedSession<S, K, C>>,
     sessions: Vec<EndedSession<S, K, C>>,
     gate: &G,
-) -> Together<S, K, C>
+) -> Together<S, K, C, E>
     requires of { pass.of ≡ shared.now.turn }
+    requires exporter { IsUnasked true (E.told exporter) }
     requires worth { length feeds.items + workers < pass.worth }
     requires few { length feeds.items ≤ 7 }
     requires few_workers { workers ≤ 8 }
     requires empty { sessions.items ≡ [] }
     requires room { length feeds.items < vec_capacity sessions }
-    ensures served { ServedAll shared.now.limits workers pass result.pass (first ∷ feeds.items) result.sessions.items }
+    ensures served { ServedAll shared.now.limits workers pass result.pass (E.told result.exporter) (first ∷ feeds.items) result.sessions.items }
 {
     if workers == 0 {
-        let together = serve_all(rt, alloc, shared, pass, first, feeds, sessions, gate);
+        let together = serve_all(
+            rt, alloc, shared, pass, first, exporter, feeds, sessions, gate,
+        );
         stop.store(true, Ordering::SeqCst);
         return together;
     }
@@ -68,26 +74,29 @@ pub(crate) fn serve_beside_workers<
             ensures passed { Passed (is_upkeep actor) mine result [] }
             ensures worked { RestsOrWorks shared.entry.now.limits actor mine result }
         { work_until(rt, shared, mine, actor, gate, stop) },
-        move || -> Together<S, K, C>
+        move || -> Together<S, K, C, E>
             requires of { rest.of ≡ shared.now.turn }
+            requires exporter { IsUnasked true (E.told exporter) }
             requires worth { length feeds.items + others < rest.worth }
             requires few { length feeds.items ≤ 7 }
             requires few_workers { others ≤ 8 }
             requires empty { sessions.items ≡ [] }
             requires room { length feeds.items < vec_capacity sessions }
-            ensures served { ServedAll shared.entry.now.limits others rest result.pass (first ∷ feeds.items) result.sessions.items }
+            ensures served { ServedAll shared.entry.now.limits others rest result.pass (E.told result.exporter) (first ∷ feeds.items) result.sessions.items }
         {
             serve_beside_workers(
-                rt, alloc, shared, rest, others, stop, first, feeds, sessions, gate,
+                rt, alloc, shared, rest, others, stop, first, exporter, feeds, sessions, gate,
             )
         },
     );
     let Together {
         pass: rest,
+        exporter,
         sessions,
     } = together;
     Together {
         pass: shared.join(rest, worked),
+        exporter,
         sessions,
     }
 }

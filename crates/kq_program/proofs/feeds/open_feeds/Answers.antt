@@ -11,6 +11,7 @@ loop-name-init g c = record {
   left = search rules;
   opening = Opening-none _ _ _ _ _ _ _ c.into_iter-name-iterator.ensures.into_iter_gives.0 c.in_ok-feeds.ensures.items;
   begun = search rules;
+  given = search rules;
   count = search rules;
   room = search rules;
 }
@@ -23,6 +24,7 @@ returns-in-Err g c =
       opened = tt;
       first = step.first ∙ at.opening.first_told;
       begun = step.begun ∙ at.begun;
+      given = step.given ∙ at.given;
       asked = Opening-asked (Unit {0}) (Unit {0}) _ _ _ _ _ _ _ _ _ _ _ _ _ _ _ _ _ c.in-Some.ensures.steps.0 c.as_str.ensures at.opening step.asked;
       cause = OpensByCause-from (Unit {0}) (Unit {0}) _ _ _ _ at.opening.counts step.cause;
     }
@@ -46,6 +48,7 @@ loop-name-preserved g c =
       left = omega (arith, short, steps.1, at.left);
       opening = Opening-next _ _ _ _ _ _ _ _ _ _ _ _ _ _ _ _ _ _ _ _ _ c.requires steps.0 c.push_reserved.ensures.items c.as_str.ensures at.opening step.told step.source step.sink step.others step.first step.asked step.cause refl refl;
       begun = step.begun ∙ at.begun;
+      given = step.given ∙ at.given;
       count = omega (arith, c.push_reserved.ensures.len, at.count, length_push c.loop-name.yielded c.in-Some.name);
       room = omega (arith, c.push_reserved.ensures.capacity, at.room);
     }

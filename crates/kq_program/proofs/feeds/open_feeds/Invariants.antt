@@ -22,6 +22,7 @@ invariant-loop-name g l = record {
       (into_iter_items l.name-iterator)
       l.feeds.items;
   begun : g.W.World.begun l.world ≡ g.W.World.begun l.fn.world;
+  given : g.W.World.given l.world ≡ g.W.World.given l.fn.world;
   count : vec_len l.feeds ≡ length l.yielded;
   room : length l.fn.names.items ≤ vec_capacity l.feeds;
 }

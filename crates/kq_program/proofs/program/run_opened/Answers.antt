@@ -11,14 +11,14 @@ returns-clause-run g c = λ told names opened.
     let none = ap (λ (p : PassView). p.made) c.in-Ok.ensures.pass in
     let nothing = ap (λ (p : PassView). p.added) c.in-Ok.ensures.pass in
     let full = subst AreFull (sym c.in-Ok.ensures.limits) c.full.ensures in
-    RanSessions-all c.args.workers _ c.in-Ok.shared.limits _ _ _ _ _ c.args.generate _ told names _ c.in-Ok-Ok.ensures' refl c.first.ensures.told c.first.ensures.source c.first.ensures.sink opened c.serve_beside_workers-pass.ensures.served none nothing c.place-place.ensures.sound full c.close-catalog.ensures.limits c.close-catalog.ensures.seen c.close-catalog.ensures.added c.close-catalog.ensures.made status
+    RanSessions-all c.args.workers _ _ c.in-Ok.shared.limits _ _ _ _ _ c.args.generate _ told names _ c.in-Ok-Ok.ensures' refl c.first.ensures.told c.first.ensures.source c.first.ensures.sink opened c.serve_beside_workers-pass.ensures.served none nothing c.place-place.ensures.sound c.export_count-count.ensures.exported full c.close-catalog.ensures.limits c.close-catalog.ensures.seen c.close-catalog.ensures.added c.close-catalog.ensures.made status
 
 pub returns-clause-status : goal.returns-clause-status
 returns-clause-status g c =
     let status = c.first_status.ensures ∙ ap first_status c.as_slice.ensures.value in
-    (first-of-sessions _ _ _ _ _ _ _ c.serve_beside_workers-pass.ensures.served status).0
+    (first-of-sessions _ _ _ _ _ _ _ _ c.serve_beside_workers-pass.ensures.served status).0
 
 pub returns-clause-opened : goal.returns-clause-opened
 returns-clause-opened g c =
     let status = c.first_status.ensures ∙ ap first_status c.as_slice.ensures.value in
-    (first-of-sessions _ _ _ _ _ _ _ c.serve_beside_workers-pass.ensures.served status).1
+    (first-of-sessions _ _ _ _ _ _ _ _ c.serve_beside_workers-pass.ensures.served status).1

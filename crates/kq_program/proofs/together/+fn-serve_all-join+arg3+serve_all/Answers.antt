@@ -10,9 +10,9 @@ use Rattle.kq_program.proofs.together.+fn-serve_all-join+arg3+serve_all.Goals as
 pub fn::serve_all::join+arg3+FnOnce::call_once-join+arg3-requires :
     goal.fn::serve_all::join+arg3+FnOnce::call_once-join+arg3-requires
 fn::serve_all::join+arg3+FnOnce::call_once-join+arg3-requires g t c κs within =
-    let r = c.requires.1.1.1.1.1 in
-    let sent = r.1.1.1.1.1 in
-    (search rules, (within.0, (within.1.0, (within.1.1.0, (within.1.1.1.0, (within.1.1.1.1, (sent.0, (sent.1, (sent.2, (sent.3, (sent.4, (r.0, (r.1.0, (r.1.1.0, (r.1.1.1.0, r.1.1.1.1.0)))))))))))))))
+    let r = c.requires.1.1.1.1.1.1 in
+    let sent = r.1.1.1.1.1.1 in
+    (search rules, (within.0, (within.1.0, (within.1.1.0, (within.1.1.1.0, (within.1.1.1.1.0, (within.1.1.1.1.1, (sent.0, (sent.1, (sent.2, (sent.3, (sent.4, (r.0, (r.1.0, (r.1.1.0, (r.1.1.1.0, (r.1.1.1.1.0, r.1.1.1.1.1.0)))))))))))))))))
 
 pub join-one-requires-send-F : goal.join-one-requires-send-F
 join-one-requires-send-F g t c κs within =
@@ -36,7 +36,7 @@ pub push_reserved-requires-2 : goal.push_reserved-requires-2
 push_reserved-requires-2 g t c =
     let others = c.join-one.ensures.second in
     let all = c.join-one.result.1.sessions in
-    let count = served_count _ _ _ _ _ c.pop.new.self.items all.items others.1 in
+    let count = served_count _ _ _ _ _ _ c.pop.new.self.items all.items others.1 in
     let whole : length c.args.feeds.items ≡ length c.pop.new.self.items + 1 = ap length c.in-Some.ensures.items ∙ length_push c.pop.new.self.items c.in-Some.last in
     omega (arith, count, whole, all.ok.0, others.0, c.requires.room)
 
@@ -47,11 +47,11 @@ returns-clause-served g t c =
     let feeds = c.pop.new.self.items in
     let whole : length c.args.feeds.items ≡ length feeds + 1 = ap length c.in-Some.ensures.items ∙ length_push feeds c.in-Some.last in
     let some : 2 ≤ c.args.pass.worth = omega (arith, whole, c.requires.worth) in
-    ServedAll-more c.args.shared.now.limits 0 c.args.shared.now.turn c.args.pass _ _ _ _ c.join.result _ c.in-Some.last c.args.feeds.items feeds _ _ _ _ c.in-Some.ensures.items c.push_reserved-2.ensures.items c.requires.of some c.split-rest.ensures.first c.split-rest.ensures.second others.1 one (omega (arith, c.len.ensures, c.pop.new.self.ok.0, c.requires.few, whole)) c.join.ensures.of c.join.ensures.first_seen c.join.ensures.second_seen c.join.ensures.worth c.join.ensures.added c.join.ensures.made
+    ServedAll-more c.args.shared.now.limits 0 c.args.shared.now.turn c.args.pass _ _ _ _ c.join.result _ _ c.in-Some.last c.args.feeds.items feeds _ _ _ _ c.in-Some.ensures.items c.push_reserved-2.ensures.items c.requires.of some c.split-rest.ensures.first c.split-rest.ensures.second others.1 one (omega (arith, c.len.ensures, c.pop.new.self.ok.0, c.requires.few, whole)) c.join.ensures.of c.join.ensures.first_seen c.join.ensures.second_seen c.join.ensures.worth c.join.ensures.added c.join.ensures.made
 
 pub returns-in_default-clause-served : goal.returns-in_default-clause-served
 returns-in_default-clause-served g t c =
     let one = c.serve_one-pass.result in
     let sessions : c.push_reserved.new.self.items ≡ one.session ∷ [] = c.push_reserved.ensures.items ∙ ap (λ l. l ++ one.session ∷ []) c.requires.empty in
     let none : c.args.feeds.items ≡ [] = empty_of c.args.feeds.items (omega (arith, c.in_default.ensures.cases.0, c.args.feeds.ok.0)) in
-    rw (sessions, none) (ServedAll-first c.args.shared.now.limits c.args.pass one.pass c.args.first one.session c.serve_one-pass.ensures)
+    rw (sessions, none) (ServedAll-first c.args.shared.now.limits c.args.pass one.pass _ c.args.first one.session c.serve_one-pass.ensures)

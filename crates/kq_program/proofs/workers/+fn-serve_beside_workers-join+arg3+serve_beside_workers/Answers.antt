@@ -9,9 +9,9 @@ use Rattle.kq_program.proofs.workers.+fn-serve_beside_workers-join+arg3+serve_be
 pub fn::serve_beside_workers::join+arg3+FnOnce::call_once-join+arg3-requires :
     goal.fn::serve_beside_workers::join+arg3+FnOnce::call_once-join+arg3-requires
 fn::serve_beside_workers::join+arg3+FnOnce::call_once-join+arg3-requires g t c κs within =
-    let r = c.requires.1.1.1.1.1 in
-    let sent = r.1.1.1.1.1.1 in
-    (search rules, (within.0, (within.1.0, (within.1.1.0, (within.1.1.1.0, (within.1.1.1.1, (sent.0, (sent.1, (sent.2, (sent.3, (sent.4, (r.0, (r.1.0, (r.1.1.0, (r.1.1.1.0, (r.1.1.1.1.0, r.1.1.1.1.1.0))))))))))))))))
+    let r = c.requires.1.1.1.1.1.1 in
+    let sent = r.1.1.1.1.1.1.1 in
+    (search rules, (within.0, (within.1.0, (within.1.1.0, (within.1.1.1.0, (within.1.1.1.1.0, (within.1.1.1.1.1, (sent.0, (sent.1, (sent.2, (sent.3, (sent.4, (r.0, (r.1.0, (r.1.1.0, (r.1.1.1.0, (r.1.1.1.1.0, (r.1.1.1.1.1.0, r.1.1.1.1.1.1.0))))))))))))))))))
 
 pub join-worked-requires-send-F : goal.join-worked-requires-send-F
 join-worked-requires-send-F g t c κs within =
@@ -27,5 +27,5 @@ returns g t c =
     let some : 2 ≤ c.args.pass.worth = omega (arith, c.requires.worth) in
     let one_more : c.args.workers ≡ c.args.workers - 1 + 1 = omega arith in
     record {
-      served = ServedAll-worker c.args.shared.now.limits c.args.workers (c.args.workers - 1) c.actor_of-actor.result c.args.shared.now.turn c.args.pass _ _ _ _ c.join.result _ _ c.requires.of some c.split-rest.ensures.first c.split-rest.ensures.second one_more c.actor_of-actor.ensures c.join-worked.ensures.second c.join-worked.ensures.first.0 c.join.ensures.of c.join.ensures.first_seen c.join.ensures.worth c.join.ensures.added c.join.ensures.made;
+      served = ServedAll-worker c.args.shared.now.limits c.args.workers (c.args.workers - 1) c.actor_of-actor.result c.args.shared.now.turn c.args.pass _ _ _ _ c.join.result _ _ _ c.requires.of some c.split-rest.ensures.first c.split-rest.ensures.second one_more c.actor_of-actor.ensures c.join-worked.ensures.second c.join-worked.ensures.first.0 c.join.ensures.of c.join.ensures.first_seen c.join.ensures.worth c.join.ensures.added c.join.ensures.made;
     }
