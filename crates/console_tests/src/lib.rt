@@ -1,4 +1,4 @@
-//! Tests of the whole program over a world in memory: rows of scripts, feeds, workers, faults and steps.
+//! Tests of the whole program over a world in memory: rows of scripts, feeds, workers, exports, faults and steps.
 #![tactic(auto)]
 
 #[cfg(test)]

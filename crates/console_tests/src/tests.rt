@@ -1,6 +1,7 @@
-mod devices;
+mod exports;
 mod faults;
 mod feeds;
+mod query;
 mod scripts;
 mod steps;
 mod views;

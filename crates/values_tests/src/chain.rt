@@ -1,46 +1,10 @@
-// Walks over chains and slot lists.
-ghost use Rattle.std.specs.Prelude.{◌≡◌, ◌<◌, IfOk, Contains};
+// Slot lists, which the program doesn't use.
+ghost use Rattle.std.specs.Prelude.{IfOk, Contains};
 ghost use Rattle.kq_chain.specs.SlotList.{slots_of};
 
-use kq_chain::{Chain, Memory, SlotList};
+use kq_chain::{Memory, SlotList};
 use std::alloc::Global;
 use std::test::Fail;
-
-// A chain with links to its heads 1, 0, 1 and 1, and the last of these links.
-fn linked(alloc: Global) -> Result<(Chain, usize), Memory>
-    ensures { IfOk result (λ p. p.0.heads ≡ 3) }
-{
-    let mut chain = Chain::new(alloc, 3)?;
-    chain.add(1)?;
-    chain.add(0)?;
-    chain.add(1)?;
-    let last = chain.add(1)?;
-    Ok((chain, last))
-}
-
-fn walk(alloc: Global, chain: &Chain, head: usize) -> Result<Vec<usize>, Memory>
-    requires { head < chain.now.heads }
-{
-    let mut visited = Vec::new(alloc);
-    let mut at = chain.first(head);
-    while let Some(link) = at {
-        visited.push(link)?;
-        at = chain.next(link);
-    }
-    Ok(visited)
-}
-
-#[test]
-fn a_walk_visits_the_links_of_its_head_newest_first(rt: HostRuntime) -> Result<(), Fail> {
-    let (chain, last) = linked(rt.alloc())?;
-    assert_eq!(rt; last, 3);
-    for (head, links) in [(0, &[1][..]), (1, &[3, 2, 0][..]), (2, &[][..])] {
-        assert!(rt; head < 3);
-        let visited = walk(rt.alloc(), &chain, head)?;
-        assert_eq!(rt; visited.as_slice(), links, "{head}");
-    }
-    Ok(())
-}
 
 // A list of 10, 20 and 30, and the slot of 20.
 fn listed(alloc: Global) -> Result<(SlotList<u64>, usize), Fail>

@@ -1,13 +1,7 @@
-//! Tests of values, of cells that are read, and of what is kept of them, over the public calls of their crates.
+//! Tests of how hashes spread and how large a value is, and of calls of the crates of values that the program doesn't make. Scripts show the others.
 #![tactic(auto)]
 
 #[cfg(test)]
 mod chain;
-#[cfg(test)]
-mod extent;
-#[cfg(test)]
-mod ingest;
-#[cfg(test)]
-mod rows;
 #[cfg(test)]
 mod value;

@@ -1,4 +1,4 @@
-mod answers;
+mod artefacts;
 mod feeds;
 mod hold;
 mod objects;

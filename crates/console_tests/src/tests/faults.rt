@@ -7,7 +7,7 @@ use super::worlds::{cursor_of, feed, parts, words};
 use kq_program::{Run, run};
 use kq_script::{Item, ScriptReader};
 use kq_value::{Bytes, Memory};
-use kq_world::{Feed, MemorySource, MemoryWorld, OpenGate};
+use kq_world::{Feed, MemoryArtefacts, MemorySource, MemoryWorld, OpenGate};
 use std::alloc::Global;
 use std::fmt::Write;
 use std::str;
@@ -59,11 +59,12 @@ fn world_of(
     feeds: Vec<Feed>,
 ) -> Result<MemoryWorld, Memory>
     requires { All (λ f. IsFresh f.parts) feeds.items }
-    ensures { IfOk result (λ w. is_none w.first ≡ false) }
+    ensures { IfOk result (λ w. (is_none w.first ≡ false) × (is_none w.artefacts ≡ false)) }
 {
     let opens = opens.to_vec(alloc)?;
     let first = parts(alloc, main.as_bytes(), 4096, main_reads, &[])?;
-    Ok(MemoryWorld::new(alloc, first, feeds, opens))
+    let artefacts = MemoryArtefacts::new(alloc, Vec::new(alloc));
+    Ok(MemoryWorld::new(alloc, first, feeds, opens, artefacts))
 }
 
 // The status of the run, the status of each session with its number of receipts and its output, and the rows of E,

@@ -3,7 +3,7 @@ ghost use Rattle.std.specs.Prelude.{◌<◌, All, IfOk};
 ghost use Rattle.kq_world.specs.World.{IsFresh};
 
 use super::steps::work;
-use super::worlds::{cursor_of, ended, feed, parts, served};
+use super::worlds::{cursor_of, feed, parts, served};
 use kq_catalog::Catalog;
 use kq_engine::{Prepared, Ready, begin};
 use kq_program::Run;
@@ -48,7 +48,7 @@ fn equal_sessions<R: Threads + Wait + Sync>(
 }
 
 // How many of the sessions' receipts made a commit.
-pub(super) fn commits_of(run: &Run<MemoryWorld>) -> u64 {
+fn commits_of(run: &Run<MemoryWorld>) -> u64 {
     let mut commits = 0u64;
     for session in &run.sessions {
         for receipt in session.receipts.as_slice() {

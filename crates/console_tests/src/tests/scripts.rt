@@ -1,4 +1,4 @@
-// What no script on standard input can show of one session: reads by few bytes, faults, and the greatest sizes.
+// What no script on standard input can show of one session: reads by few bytes, and faults.
 ghost use Rattle.kq_world.specs.World.{IsFresh};
 
 use super::worlds::{cursor_of, ended, parts, served};
@@ -61,58 +61,6 @@ fn scripts_are_read_by_any_steps(rt: HostRuntime) -> Result<(), Fail> {
             let holds = prints(&rt, rt.alloc(), first, 0, output)?;
             assert!(rt; holds, "by {step} bytes");
         }
-    }
-    Ok(())
-}
-
-// A table and an ingestion of so many rows, and then their number.
-fn many(alloc: Global, rows: usize) -> Result<Vec<u8>, Memory> {
-    let mut script = Vec::new(alloc);
-    script.extend_from_slice(b".create table E (k:long)\n\n.ingest inline into table E <|\n")?;
-    for _ in 0..rows {
-        script.extend_from_slice(b"1\n")?;
-    }
-    script.extend_from_slice(b"\nE | count\n")?;
-    Ok(script)
-}
-
-#[test]
-fn a_batch_has_at_most_1048576_rows(rt: HostRuntime) -> Result<(), Fail> {
-    for (rows, output) in [
-        (
-            1_048_576,
-            b"done 1\n\ningested 2 rows 1048576\n\nrows 1\nCount:long\n1048576\n\n".as_slice(),
-        ),
-        (
-            1_048_577,
-            b"done 1\n\nrefused Full limit 1048576\n\nrows 1\nCount:long\n0\n\n".as_slice(),
-        ),
-    ] {
-        let script = many(rt.alloc(), rows)?;
-        let first = parts(rt.alloc(), script.as_slice(), 4096, &[], &[])?;
-        let holds = prints(&rt, rt.alloc(), first, 0, output)?;
-        assert!(rt; holds, "{rows} rows");
-    }
-    Ok(())
-}
-
-// A block of that many bytes: a command and spaces.
-fn long_block(alloc: Global, bytes: usize) -> Result<Vec<u8>, Memory> {
-    let mut script = b".create table A (k:long)".to_vec(alloc)?;
-    script.resize(bytes, b' ')?;
-    Ok(script)
-}
-
-#[test]
-fn a_command_has_at_most_16777216_bytes(rt: HostRuntime) -> Result<(), Fail> {
-    for (bytes, output) in [
-        (16_777_216, b"done 1\n\n".as_slice()),
-        (16_777_217, b"refused TooLong bytes 16777217\n\n".as_slice()),
-    ] {
-        let script = long_block(rt.alloc(), bytes)?;
-        let first = parts(rt.alloc(), script.as_slice(), 4096, &[], &[])?;
-        let holds = prints(&rt, rt.alloc(), first, 0, output)?;
-        assert!(rt; holds, "{bytes} bytes");
     }
     Ok(())
 }

@@ -1,5 +1,5 @@
 // Interleavings of steps.
-use kq_command::read_command;
+use kq_command::{Asked, Command, read_command};
 use kq_engine::{Step, Trace, Work, run_steps};
 use kq_model::{By, Limits};
 use kq_reply::{Refusal, Reply};
@@ -11,8 +11,15 @@ pub(super) fn first_of(actor: u32) -> By {
     By { actor, number: 1 }
 }
 
+fn for_the_engine(asked: Asked) -> Option<Command> {
+    match asked {
+        Asked::Engine(command) => Some(command),
+        Asked::Exporter(_) => None,
+    }
+}
+
 pub(super) fn work(alloc: Global, actor: u32, text: &[u8]) -> Result<Work, Fail> {
-    let command = read_command(alloc, text)?;
+    let command = for_the_engine(read_command(alloc, text)?).ok_or("an export")?;
     Ok(Work {
         by: first_of(actor),
         command,

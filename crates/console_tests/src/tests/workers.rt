@@ -2,6 +2,7 @@
 use super::feeds::equal_feeds;
 use super::worlds::{ended, parts, served};
 use kq_engine::Shared;
+use kq_exporter::NoExporter;
 use kq_model::Limits;
 use kq_session::{Served, serve};
 use kq_workers::{Worked, work};
@@ -49,10 +50,28 @@ fn one_round_brings_a_view_forward_and_merges_a_table(rt: HostRuntime) -> Result
     let (shared, pass) = Shared::start(rt.alloc(), Limits::full(), 1)?;
     let behind = parts(rt.alloc(), BEHIND, 4096, &[], &[])?;
     let shown = parts(rt.alloc(), SHOWN, 4096, &[], &[])?;
-    let Served { pass, .. } = serve(&rt, rt.alloc(), &shared, pass, 0, behind, &OpenGate);
+    let Served { pass, .. } = serve(
+        &rt,
+        rt.alloc(),
+        &shared,
+        pass,
+        1,
+        behind,
+        NoExporter,
+        &OpenGate,
+    );
     let stop = AtomicBool::new(true);
     let Worked { pass, short } = work(&rt, &shared, pass, 8, &OpenGate, &stop);
-    let Served { pass: _, parts, .. } = serve(&rt, rt.alloc(), &shared, pass, 1, shown, &OpenGate);
+    let Served { pass: _, parts, .. } = serve(
+        &rt,
+        rt.alloc(),
+        &shared,
+        pass,
+        2,
+        shown,
+        NoExporter,
+        &OpenGate,
+    );
     assert!(rt; !short && parts.sink.bytes() == SHOWN_OUT);
     Ok(())
 }

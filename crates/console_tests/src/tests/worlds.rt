@@ -4,7 +4,9 @@ ghost use Rattle.kq_world.specs.World.{IsFresh};
 
 use kq_program::{Run, run};
 use kq_value::{Bytes, Memory, Text};
-use kq_world::{Feed, Gate, ListClock, MemorySink, MemorySource, MemoryWorld, Parts};
+use kq_world::{
+    Feed, Gate, ListClock, MemoryArtefacts, MemorySink, MemorySource, MemoryWorld, Parts,
+};
 use std::alloc::Global;
 use std::sync::Wait;
 use std::thread::Threads;
@@ -68,7 +70,7 @@ pub fn words(alloc: Global, said: &[&str]) -> Result<Vec<String>, Memory> {
     Ok(words)
 }
 
-/// A run with these words.
+/// A run with these words, whose artefacts don't fail.
 pub fn served<R: Threads + Wait + Sync, G: Gate + Sync>(
     rt: &R,
     alloc: Global,
@@ -81,7 +83,8 @@ pub fn served<R: Threads + Wait + Sync, G: Gate + Sync>(
     requires feeds { All (λ f. IsFresh f.parts) feeds.items }
 {
     let words = words(alloc, said)?;
-    let mut world = MemoryWorld::new(alloc, first, feeds, Vec::new(alloc));
+    let artefacts = MemoryArtefacts::new(alloc, Vec::new(alloc));
+    let mut world = MemoryWorld::new(alloc, first, feeds, Vec::new(alloc), artefacts);
     Ok(run(rt, alloc, words.as_slice(), &mut world, gate))
 }
 

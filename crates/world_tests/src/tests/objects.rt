@@ -3,8 +3,9 @@ ghost use Rattle.std.specs.Prelude.{◌≡◌, ◌<◌, false, IfOk};
 
 use kq_value::{Bytes, Memory};
 use kq_world::{
-    Clock, Failed, Gate, ListClock, MemorySink, MemorySource, MemoryWorld, OpenGate, Parts, Point,
-    RealWorld, Sink, Source, StdinSource, StdoutSink, SystemClock, World, put_all,
+    Clock, Failed, Gate, ListClock, MemoryArtefacts, MemorySink, MemorySource, MemoryWorld,
+    OpenGate, Parts, Point, RealWorld, Sink, Source, StdinSource, StdoutSink, SystemClock, World,
+    put_all,
 };
 use std::alloc::Global;
 use std::cell::Cell;
@@ -87,7 +88,8 @@ fn memory_world(alloc: Global) -> Result<MemoryWorld, Memory>
         sink,
         clock,
     };
-    Ok(MemoryWorld::new(alloc, parts, Vec::new(alloc), Vec::new(alloc)))
+    let artefacts = MemoryArtefacts::new(alloc, Vec::new(alloc));
+    Ok(MemoryWorld::new(alloc, parts, Vec::new(alloc), Vec::new(alloc), artefacts))
 }
 
 #[test]
@@ -120,7 +122,7 @@ fn standard_input_is_read(rt: HostRuntime) {
 
 #[test]
 fn standard_output_is_written(rt: HostRuntime) {
-    assert_eq!(rt; put_all(&mut StdoutSink::new(rt), b"\n"), Ok(()));
+    assert!(rt; put_all(&mut StdoutSink::new(rt), b"\n") == Ok(()));
 }
 
 // It answers one reading, and fails from then on.
