@@ -1,8 +1,9 @@
-// Stands between a program and the C library (LD_PRELOAD), counts its allocations, reads and writes, and lets one of them fail.
+// Stands between a program and the C library (LD_PRELOAD), counts its calls of a kind, and lets one of them fail, or ends the program in its place.
 //
 //   FAULTS       the file, of one `struct told`, into which it counts; with none it does nothing
-//   FAULTS_KIND  allocation, read or write
+//   FAULTS_KIND  allocation, read, write, create (an open that may make a file), sync or rename
 //   FAULTS_AT    the number, from 1, of the call of that kind that fails
+//   FAULTS_END   the status with which the program ends at that call; with none the call fails
 //   FAULTS_STEP  the most bytes that a read or a write moves; 0: as many as the program asks for
 #define _GNU_SOURCE
 #include <dlfcn.h>
@@ -12,16 +13,22 @@
 #include <stdio.h>
 #include <stdlib.h>
 #include <string.h>
+#include <stdarg.h>
 #include <sys/mman.h>
+#include <sys/stat.h>
+#include <sys/syscall.h>
 #include <sys/uio.h>
 #include <unistd.h>
 
-enum kind { ALLOCATION, READ, WRITE, KINDS };
+enum kind { ALLOCATION, READ, WRITE, CREATE, SYNC, RENAME, KINDS };
 
-// The path is that of the file whose read or write failed.
+static const char *const names[KINDS] = {"allocation", "read", "write", "create", "sync", "rename"};
+
+// The path is that of the file whose call failed, or that was to be renamed. A rename is unsynced where the file was written after its last sync.
 struct told {
   _Atomic unsigned long calls[KINDS];
   _Atomic unsigned long failed;
+  _Atomic unsigned long unsynced;
   char path[256];
 };
 
@@ -29,6 +36,7 @@ static struct told *told;
 static enum kind kind = KINDS;
 static unsigned long at;
 static size_t step;
+static const char *ends;
 
 // What dlsym allocates before the real calls are known.
 static char early[65536];
@@ -69,9 +77,9 @@ __attribute__((constructor)) static void begin(void) {
   if (place == MAP_FAILED) return;
   at = number ? strtoul(number, NULL, 10) : 0;
   step = most ? strtoul(most, NULL, 10) : 0;
-  if (name && !strcmp(name, "allocation")) kind = ALLOCATION;
-  if (name && !strcmp(name, "read")) kind = READ;
-  if (name && !strcmp(name, "write")) kind = WRITE;
+  ends = getenv("FAULTS_END");
+  for (int of = 0; name && of < KINDS; of++)
+    if (!strcmp(name, names[of])) kind = of;
   told = place;
 }
 
@@ -80,6 +88,7 @@ static int fails(enum kind of) {
   unsigned long number = atomic_fetch_add(&told->calls[of], 1) + 1;
   if (of != kind || number != at) return 0;
   atomic_fetch_add(&told->failed, 1);
+  if (ends) _exit(atoi(ends));
   return 1;
 }
 
@@ -127,6 +136,13 @@ void free(void *place) {
 }
 
 // Whether the call fails; notes of which file.
+static int fault_at(enum kind of, const char *path) {
+  if (!fails(of)) return 0;
+  snprintf(told->path, sizeof told->path, "%s", path);
+  errno = EIO;
+  return 1;
+}
+
 static int fault(enum kind of, int file) {
   if (!fails(of)) return 0;
   char link[64];
@@ -140,9 +156,41 @@ static int fault(enum kind of, int file) {
 
 static size_t within(size_t bytes) { return step && bytes > step ? step : bytes; }
 
+// The files that were written and not synced since, by their numbers; 0 where there is none.
+enum { MOST = 64 };
+static _Atomic unsigned long written[MOST];
+
+static int place_of(unsigned long number) {
+  for (int i = 0; i < MOST; i++)
+    if (written[i] == number) return i;
+  return -1;
+}
+
+static void note_written(int file) {
+  struct stat found;
+  if (!told || fstat(file, &found) || !S_ISREG(found.st_mode) || place_of(found.st_ino) >= 0) return;
+  int place = place_of(0);
+  if (place >= 0) written[place] = found.st_ino;
+}
+
+static void note_synced(int file) {
+  struct stat found;
+  int place = !told || fstat(file, &found) ? -1 : place_of(found.st_ino);
+  if (place >= 0) written[place] = 0;
+}
+
+static int is_unsynced(const char *path) {
+  struct stat found;
+  return !stat(path, &found) && place_of(found.st_ino) >= 0;
+}
+
 ssize_t read(int file, void *to, size_t bytes) { return fault(READ, file) ? -1 : real_read(file, to, within(bytes)); }
 
-ssize_t write(int file, const void *from, size_t bytes) { return fault(WRITE, file) ? -1 : real_write(file, from, within(bytes)); }
+ssize_t write(int file, const void *from, size_t bytes) {
+  if (fault(WRITE, file)) return -1;
+  note_written(file);
+  return real_write(file, from, within(bytes));
+}
 
 // Of several pieces only the first is moved where there is a most.
 ssize_t readv(int file, const struct iovec *pieces, int count) {
@@ -152,5 +200,67 @@ ssize_t readv(int file, const struct iovec *pieces, int count) {
 
 ssize_t writev(int file, const struct iovec *pieces, int count) {
   if (fault(WRITE, file)) return -1;
+  note_written(file);
   return step && count > 0 ? real_write(file, pieces->iov_base, within(pieces->iov_len)) : real_writev(file, pieces, count);
+}
+
+static int opened(int folder, const char *path, int flags, mode_t mode) {
+  if (flags & O_CREAT && fault_at(CREATE, path)) return -1;
+  return syscall(SYS_openat, folder, path, flags, mode);
+}
+
+// The mode of an open, which is the last argument where there may be one.
+#define MODE(flags, last, mode)             \
+  mode_t mode = 0;                          \
+  if ((flags) & (O_CREAT | __O_TMPFILE)) {  \
+    va_list rest;                           \
+    va_start(rest, last);                   \
+    mode = va_arg(rest, mode_t);            \
+    va_end(rest);                           \
+  }
+
+int open(const char *path, int flags, ...) {
+  MODE(flags, flags, mode)
+  return opened(AT_FDCWD, path, flags, mode);
+}
+
+int open64(const char *path, int flags, ...) {
+  MODE(flags, flags, mode)
+  return opened(AT_FDCWD, path, flags, mode);
+}
+
+int openat(int folder, const char *path, int flags, ...) {
+  MODE(flags, flags, mode)
+  return opened(folder, path, flags, mode);
+}
+
+int openat64(int folder, const char *path, int flags, ...) {
+  MODE(flags, flags, mode)
+  return opened(folder, path, flags, mode);
+}
+
+int creat(const char *path, mode_t mode) { return opened(AT_FDCWD, path, O_CREAT | O_WRONLY | O_TRUNC, mode); }
+
+static int synced(int file, long call) {
+  if (fault(SYNC, file)) return -1;
+  note_synced(file);
+  return syscall(call, file);
+}
+
+int fsync(int file) { return synced(file, SYS_fsync); }
+
+int fdatasync(int file) { return synced(file, SYS_fdatasync); }
+
+static int renamed(int from_folder, const char *from, int to_folder, const char *to, unsigned flags) {
+  if (told && from_folder == AT_FDCWD && is_unsynced(from)) atomic_fetch_add(&told->unsynced, 1);
+  if (fault_at(RENAME, from)) return -1;
+  return syscall(SYS_renameat2, from_folder, from, to_folder, to, flags);
+}
+
+int rename(const char *from, const char *to) { return renamed(AT_FDCWD, from, AT_FDCWD, to, 0); }
+
+int renameat(int from_folder, const char *from, int to_folder, const char *to) { return renamed(from_folder, from, to_folder, to, 0); }
+
+int renameat2(int from_folder, const char *from, int to_folder, const char *to, unsigned flags) {
+  return renamed(from_folder, from, to_folder, to, flags);
 }

@@ -1,5 +1,9 @@
 # faults.py PROGRAM SHIM LOG FEED ROUNDS: what tools/faults.sh does, which says it at its head.
-import concurrent.futures, ctypes, dataclasses, os, re, shutil, subprocess, sys, tempfile, time
+import concurrent.futures, dataclasses, os, re, shutil, subprocess, sys, tempfile, time
+
+sys.path.insert(0, os.path.join(os.path.dirname(os.path.realpath(__file__)), "lib"))
+
+import shim  # noqa: E402
 
 PROGRAM, SHIM, LOG, FEED = (os.path.realpath(path) for path in sys.argv[1:5])
 ROUNDS = int(sys.argv[5])
@@ -25,13 +29,6 @@ HEADER = "Place:long\tKind:string\tCursor:long\tActor:long\tNumber:long\tEntity:
 STEP = 40
 
 
-class Told(ctypes.Structure):
-    _fields_ = [("calls", ctypes.c_ulong * 3), ("failed", ctypes.c_ulong), ("path", ctypes.c_char * 256)]
-
-
-KINDS = ["allocation", "read", "write"]
-
-
 def commands(path):
     with open(path) as script:
         blocks = [block.strip("\n") for block in re.split(r"\n[ \t\r]*\n", script.read()) if block.strip()]
@@ -52,7 +49,7 @@ class Run:
     outputs: list  # of the main script, of the feed, and of the session that looks at the journal
     reached: bool
     path: str
-    calls: list
+    told: shim.Told
 
 
 def run(kind, at, step):
@@ -67,14 +64,13 @@ def run_in(folder, kind, at, step):
     shutil.copy(FEED, f"{folder}/feed.kql")
     with open(LOG) as log, open(f"{folder}/main", "w") as main:
         main.write(log.read().rstrip("\n") + f"\n\n{SHOW}\n")
-    with open(f"{folder}/told", "wb") as told:
-        told.write(bytes(ctypes.sizeof(Told)))
+    shim.put_empty(f"{folder}/told")
     # The third session waits for its first byte until the others have ended.
     os.mkfifo(f"{folder}/journal")
     last = os.open(f"{folder}/journal", os.O_RDWR)
     outputs = [f"{folder}/printed", f"{folder}/feed.kql.out", f"{folder}/journal.out"]
     wanted = [len(commands(f"{folder}/main")), len(commands(FEED))]
-    env = {"LD_PRELOAD": SHIM, "FAULTS": f"{folder}/told", "FAULTS_KIND": kind, "FAULTS_AT": str(at), "FAULTS_STEP": str(step)}
+    env = shim.environment(SHIM, f"{folder}/told", kind, at, step)
     with open(f"{folder}/main") as main, open(outputs[0], "wb") as printed, open(f"{folder}/errors", "wb") as errors:
         child = subprocess.Popen(
             [PROGRAM, "--workers", "2", "feed.kql", "journal"], stdin=main, stdout=printed, stderr=errors, cwd=folder, env=env
@@ -88,10 +84,9 @@ def run_in(folder, kind, at, step):
             child.kill()
             child.wait()
             status = -1
-    with open(f"{folder}/told", "rb") as told:
-        told = Told.from_buffer_copy(told.read())
+    told = shim.read(f"{folder}/told")
     path = os.path.basename(told.path.decode())
-    return Run(kind, at, status, [content(output) for output in outputs], told.failed > 0, path, list(told.calls))
+    return Run(kind, at, status, [content(output) for output in outputs], told.failed > 0, path, told)
 
 
 def content(path):
@@ -330,7 +325,7 @@ def main():
     counts, bad = {}, 0
     with concurrent.futures.ThreadPoolExecutor(os.cpu_count()) as pool:
         for kind, step in (("allocation", 0), ("read", STEP), ("write", STEP)):
-            most = max(told.calls[KINDS.index(kind)] for told, _, _ in whole[step])
+            most = max(run.told.calls_of(kind) for run, _, _ in whole[step])
             numbers = [at for at in range(1, most + 1) for _ in range(ROUNDS)]
             ends = {}
             for told, end, wrong in pool.map(lambda at: tried(kind, at, step, scripts), numbers):

@@ -8,7 +8,13 @@
 #   - the status is that of the first session that has one, as docs/RUNNING.md says: 3 or 4 of the session whose read or write failed, 1 where a reply is
 #     `refused Memory` or a session ended for want of room, or where there is no catalogue, and then nothing was printed.
 # The journal is shown to a third session, which waits for the others; where that one is refused it is what the main script was shown at its end.
-# The last line counts the runs. It needs a C compiler and python3, and the proved program, which .ci/run builds; KQ_PROGRAM names another one.
+# Before that it runs a script with exports, once for each call that makes, writes, syncs or renames a file, and for each allocation: the call fails, and in
+# another run the program ends there. After each run it looks whether
+#   - each reply is the one that is due, or one reply tells the fault: `refused ArtefactFault` where it befell the file of that command, or `refused Memory`;
+#   - the files that replies name are there, with just the bytes that their ranges give, so that each record up to an export's last range is in one of them;
+#   - nothing else is left but the beginning of a file, under its name with `.part`, and the whole file of the one command that has no reply;
+#   - each file was synced before it got its name.
+# The last line of each of the two counts its runs. It needs a C compiler and python3, and the proved program, which .ci/run builds; KQ_PROGRAM names another one.
 set -eu
 top=$(cd "$(dirname "$0")/.." && pwd)
 program=${KQ_PROGRAM:-$top/crates/kq_console/out/kq_console}
@@ -26,4 +32,7 @@ print "feed"
 
 Seen | count
 FEED
-python3 "$top/tools/faults.py" "$program" "$folder/faults.so" "$top/scripts/workers/device_log.kql" "$folder/feed.kql" "${1:-3}"
+status=0
+python3 "$top/tools/faults_exports.py" "$program" "$folder/faults.so" || status=1
+python3 "$top/tools/faults.py" "$program" "$folder/faults.so" "$top/scripts/workers/device_log.kql" "$folder/feed.kql" "${1:-3}" || status=1
+exit $status

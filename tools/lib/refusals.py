@@ -17,6 +17,8 @@ HEADINGS = [
     (r"\.\s*alter\b", ".alter table policy update"),
     (r"\.\s*create\b", ".create materialized-view"),
     (r"#\s*fold\b", "#fold"),
+    (r"#\s*export\s+\w+\s+over\b", "#export NAME over TABLE"),
+    (r"#\s*export\b", "#export NAME"),
     (r"[.#]", "#merge and .show"),
     (r"", "a query"),
 ]

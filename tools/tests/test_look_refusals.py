@@ -16,7 +16,6 @@ EACH = [
     ("refused Syntax at 3", "T"),
     ("refused Deep at 3", "T"),
     ("refused Unsupported at 3", "T"),
-    ("refused Unbuilt", "#export X"),
     ("refused Exists at 3", ".create table T (a:long)"),
     ("refused Full limit 1000", ".create table T (a:long)"),
     ("refused Type at 3", ".alter-merge table T (a:long)"),
@@ -29,6 +28,13 @@ EACH = [
     ("refused BadView at 3", ".create async materialized-view V on table T { T }"),
     ("refused Exists at 3", ".create ifnotexists materialized-view V on table T { T }"),
     ("refused Overflow stage 2", "#fold V"),
+    ("refused NoExporter", "#export X over T { T }"),
+    ("refused BadExport at 3", "#export X over T { T }"),
+    ("refused Exists at 3", "# export X\nover T { T }"),
+    ("refused Full limit 64", "#export X over T { T }"),
+    ("refused NoExporter", "#export X"),
+    ("refused Unknown at 8", "#export over"),
+    ("refused ArtefactFault", "#export X"),
     ("refused Unknown at 3", "#merge T"),
     ("refused Unknown at 3", ".show table T extents"),
     ("refused Overflow stage 2", "T"),
@@ -52,6 +58,12 @@ class Sentences(unittest.TestCase):
         self.assertEqual(exists, ["Exists at N: the name at N is that of a table with other columns, or of a view"])
         self.assertGreater(len(refusals.sentences("refused Type at 3")), 3)
         self.assertEqual(refusals.sentences("refused Exists at 3", "T"), [])
+
+    def test_a_definition_and_a_run_of_an_export_have_their_own(self):
+        self.assertEqual(refusals.sentences("refused Unknown at 8", "#export over"), ["Unknown at N: there is no export of the name at N"])
+        defined = refusals.sentences("refused Unknown at 17", "#export over over T { T }")
+        self.assertEqual(defined, ["Unknown at N: there is no table, column or function of the name at N"])
+        self.assertEqual(refusals.sentences("refused ArtefactFault", "#export X over T { T }"), [])
 
     def test_the_word_of_a_bad_policy_is_explained(self):
         found = refusals.sentences("refused BadPolicy entry 3 Schema", ".alter table T policy update ''")
