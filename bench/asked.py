@@ -3,9 +3,9 @@ import subprocess, sys, time
 
 
 class Asked:
-    def __init__(self, words, ended):
+    def __init__(self, words, ended, folder=None):
         """`ended` is asked behind each text; its answer ends with 424242, by which the end of the text's own is known."""
-        self.child = subprocess.Popen(words, stdin=subprocess.PIPE, stdout=subprocess.PIPE)
+        self.child = subprocess.Popen(words, stdin=subprocess.PIPE, stdout=subprocess.PIPE, cwd=folder)
         self.ended = ended
 
     def ask(self, text):
@@ -27,8 +27,8 @@ class Asked:
         self.child.wait()
 
 
-def engine(program):
-    return Asked([program], "\n\nprint end = 424242\n\n")
+def engine(program, folder=None):
+    return Asked([program], "\n\nprint end = 424242\n\n", folder)
 
 
 def sqlite():
