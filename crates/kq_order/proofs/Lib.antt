@@ -6,3 +6,5 @@ pub mod Lower
 pub mod Ranked
 pub mod Numbered
 pub mod Picked
+pub mod Crowd
+pub mod Leading

@@ -3,4 +3,5 @@ pub mod Dealt
 pub mod Entries
 pub mod Firsts
 pub mod Keyed
+pub mod Leading
 pub mod Orders

@@ -2,8 +2,10 @@
 #![tactic(auto)]
 
 mod first;
+mod leaders;
 mod placed;
 mod radix;
 mod sort;
 
+pub use leaders::Leaders;
 pub use sort::{sort_rows, top_rows};
