@@ -12,6 +12,7 @@ mod sinks;
 mod step;
 mod stretch;
 mod terms;
+mod top;
 
 pub use kq_lent::Held;
 pub use leaves::Leaves;
