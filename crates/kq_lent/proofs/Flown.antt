@@ -1,12 +1,16 @@
 -- What comes through row operators of rows that are read in parts.
-use Rattle.std.proofs.Common.{◌≡◌, ◌<◌, ℕ, min, List, [], length, take, sym, ap, ◌∙◌, arith, length-append}
+use Rattle.std.proofs.Common.{◌≡◌, ◌<◌, ◌≤◌, ℕ, min, List, [], length, take, refl, sym, subst, ap, ◌∙◌, arith, length-append}
+use Rattle.std.specs.List.{All}
 use Rattle.std.proofs.lemmas.List.{length-take}
 use Rattle.kq_stretch.specs.kq_piecewise.Operators.{Row}
 use Rattle.kq_stretch.specs.kq_scalar.Val.{Surroundings}
 use Rattle.kq_stretch.specs.Operators.{Rowwise}
 use Rattle.kq_stretch.specs.Ran.{Ran, came, failed, joined, ran, width_in_end}
-use Rattle.kq_stretch.proofs.Laws.{joined_assoc, ran_append, ran_failed, ran_none, ran_take, ran_wide}
+use Rattle.kq_stretch.proofs.Laws.{joined_assoc, joined_first, ran_append, ran_failed, ran_none, ran_take, ran_wide}
+use Rattle.kq_rows.specs.Chunks.{HasWidth}
 use Rattle.kq_lent.specs.Flowing.{Flows, flowing}
+use Rattle.kq_lent.specs.Opened.{IsOpen}
+use Rattle.kq_lent.specs.Ruled.{LeavesNothing}
 use Rattle.kq_lent.specs.Unread.{UnreadView, IsRead}
 
 module _ (os : List Rowwise) (s : Surroundings) where
@@ -17,17 +21,17 @@ module _ (os : List Rowwise) (s : Surroundings) where
   in_parts old new part read = ap (ran os s) read.rows ∙ ran_append os s part new.rows
 
   -- what came of a part
-  pub part_came : (old new : UnreadView) (part out : List Row) → IsRead old part new → came out ≡ ran os s part → Flows (flowing os s old) out (flowing os s new)
+  pub part_came : (old new : UnreadView) (part out : List Row) → IsOpen os old part new → came out ≡ ran os s part → Flows (flowing os s old) out (flowing os s new)
   part_came old new part out read is = record {
-    to_come = in_parts old new part read ∙ ap (λ (r : Ran). joined r (ran os s new.rows)) (sym is);
-    fewer = let n = ap length read.rows in omega (arith, n, length-append part new.rows, read.some);
+    to_come = read.comes s ∙ ap (λ (r : Ran). joined r (ran os s new.rows)) (sym is);
+    fewer = read.fewer;
     wide = ran_wide os s old.width part out read.wide (sym is);
     width = ap (width_in_end os) read.width;
   }
 
   -- an operator fails on a part
-  pub part_failed : (old new : UnreadView) (part : List Row) (n m : ℕ) → IsRead old part new → failed n ≡ ran os s part → joined (failed n) (ran os s new.rows) ≡ failed m → ran os s old.rows ≡ failed m
-  part_failed old new part n m read is rest = in_parts old new part read ∙ ap (λ (r : Ran). joined r (ran os s new.rows)) (sym is) ∙ rest
+  pub part_failed : (old new : UnreadView) (part : List Row) (n m : ℕ) → IsOpen os old part new → failed n ≡ ran os s part → joined (failed n) (ran os s new.rows) ≡ failed m → ran os s old.rows ≡ failed m
+  part_failed old new part n m read is rest = read.comes s ∙ ap (λ (r : Ran). joined r (ran os s new.rows)) (sym is) ∙ rest
 
   -- the least number behind one part more
   pub least_next : (old new : UnreadView) (part : List Row) (n m : ℕ) → IsRead old part new → joined (failed n) (ran os s part) ≡ failed m → joined (failed n) (ran os s old.rows) ≡ joined (failed m) (ran os s new.rows)
@@ -45,3 +49,35 @@ module _ (os : List Rowwise) (s : Surroundings) where
       let b = less first part n is in
       let least : min first n ≡ n = omega (arith, b) in
       ran_take os s first part ∙ ap (λ (r : Ran). joined (failed first) r) (sym is) ∙ ap failed least
+
+-- ---- parts that are passed over
+
+abbrev Same : List Rowwise → UnreadView → UnreadView → Type 0
+Same os old new = (s : Surroundings) → ran os s old.rows ≡ ran os s new.rows
+
+-- nothing comes of what has been passed over
+pub record IsPassed (os : List Rowwise) (old new : UnreadView) : Type 0 where
+  pub same : Same os old new
+  pub fewer : length new.rows ≤ length old.rows
+  pub width : new.width ≡ old.width
+
+pub passed_first : (os : List Rowwise) (all : UnreadView) → IsPassed os all all
+passed_first os all = record { same = λ s. refl; fewer = omega arith; width = refl }
+
+pub passed_more : (os : List Rowwise) (old between new : UnreadView) (part : List Row) → IsPassed os old between → IsRead between part new → LeavesNothing os part → IsPassed os old new
+passed_more os old between new part passed read nothing = record {
+  same = λ s. passed.same s ∙ in_parts os s between new part read ∙ ap (λ (r : Ran). joined r (ran os s new.rows)) (nothing s) ∙ joined_first (ran os s new.rows);
+  fewer = let n = ap length read.rows in omega (arith, n, length-append part new.rows, passed.fewer);
+  width = read.width ∙ passed.width;
+}
+
+pub passed_all : (os : List Rowwise) (old between : UnreadView) → IsPassed os old between → between.rows ≡ [] → LeavesNothing os old.rows
+passed_all os old between passed none s = passed.same s ∙ none_left os s between.rows none
+
+pub opened : (os : List Rowwise) (old between new : UnreadView) (part : List Row) → IsPassed os old between → IsRead between part new → IsOpen os old part new
+opened os old between new part passed read = record {
+  comes = λ s. passed.same s ∙ in_parts os s between new part read;
+  fewer = let n = ap length read.rows in omega (arith, n, length-append part new.rows, read.some, passed.fewer);
+  wide = subst (λ (w : ℕ). All (HasWidth w) part) passed.width read.wide;
+  width = read.width ∙ passed.width;
+}

@@ -1,5 +1,7 @@
+mod Bounded
 mod Firsts
 mod Flown
+mod LeftOut
 mod Picked
 mod Sought
 mod Walks

@@ -2,7 +2,9 @@ pub mod Flowing
 pub mod Gathered
 pub mod Held
 pub mod Lent
+pub mod Opened
 pub mod ReadParts
+pub mod Ruled
 pub mod Sources
 pub mod Unread
 pub mod Yielded

@@ -7,10 +7,12 @@ ghost use Rattle.kq_stretch.specs.Pieces.{rows_in as piece_rows};
 ghost use Rattle.kq_stretch.specs.Ran.{failure_of, ran};
 ghost use Rattle.kq_lent.specs.Flowing.{IsLeastToFail};
 ghost use Rattle.kq_lent.specs.Held.{IsReadable, rows_in};
+ghost use Rattle.kq_lent.specs.Opened.{ReadsOpen};
 ghost use Rattle.kq_lent.specs.Sources.{source_rows};
 ghost use Rattle.kq_lent.specs.Yielded.{Yields};
 
 use crate::place::Place;
+use crate::ruled::is_ruled_out;
 use crate::source::Source;
 use crate::unread::Unread;
 use kq_stretch::{Operator, Passed, Piece, pass};
@@ -71,11 +73,12 @@ impl<'a> Flow<'a> {
         }
     }
 
-    /// The next piece, of a few thousand rows at most before operators.
+    /// The next piece, of a few thousand rows at most before operators. Records that the first operator leaves out, as the least and
+    /// the greatest cell of their extent tell, aren't looked at.
     pub fn next(&mut self) -> Result<Next<'a>, Memory>
         ensures { IfOk result (Yields self.old self.new) }
     {
-        match self.unread.next_part() {
+        match next_open(self.operators, &mut self.unread) {
             Some(part) => match pass(self.alloc, self.operators, part, self.lets, self.now)? {
                 Passed::Rows(piece) => Ok(Next::Piece(piece)),
                 Passed::Failed(n) => {
@@ -107,6 +110,18 @@ impl<'a> Flow<'a> {
             }
         }
     }
+}
+
+// The next part of which something may come.
+fn next_open<'a>(operators: &[Operator], unread: &mut Unread<'a>) -> Option<Piece<Source<'a>>>
+    ensures { ReadsOpen (map rowwise_of operators.now) unread.old unread.new result }
+{
+    while let Some(part) = unread.next_part() {
+        if !is_ruled_out(operators, &part) {
+            return Some(part);
+        }
+    }
+    None
 }
 
 // The least number of an operator that fails on rows, where the one with this number fails on a row before those that are left.

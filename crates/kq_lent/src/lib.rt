@@ -9,6 +9,7 @@ mod held;
 mod lending;
 mod place;
 mod records;
+mod ruled;
 mod source;
 mod unread;
 

@@ -1,0 +1,160 @@
+// Parts of which the first operator keeps no row, by the least and the greatest cell of a column.
+ghost use Rattle.std.specs.Prelude.{◌≡◌, ◌∷◌, [], IfSome, false, map, true};
+ghost use Rattle.kq_expr.specs.Terms.{column as plain, literal, term_of};
+ghost use Rattle.kq_stretch.specs.Operators.{rowwise_of};
+ghost use Rattle.kq_stretch.specs.Pieces.{rows_in as piece_rows};
+ghost use Rattle.kq_lent.specs.Lent.{extent_of, rows_of};
+ghost use Rattle.kq_lent.specs.Ruled.{Answers, Compares, FirstKeeps, IsPlain, KeepsNone, LeavesNothing, LiesOutside, MeetNone, MeetsNoneBetween, MissingIsNull};
+ghost use Rattle.kq_lent.specs.Sources.{source_rows};
+
+use crate::records::Records;
+use crate::source::Source;
+use kq_expr::Expr;
+use kq_fn::Function;
+use kq_stretch::{Operator, Piece};
+use kq_value::{Field, Ty, Value, ZoneOp};
+
+// A comparison of the cells of a column with a value.
+#[derive(Clone, Copy)]
+pub(crate) struct Comparison<'a> {
+    pub column: usize,
+    pub op: ZoneOp,
+    pub value: &'a Value,
+}
+
+// Whether nothing comes of the rows of a part. Only the first operator is asked: an operator before the one that drops a row may
+// overflow on it.
+pub(crate) fn is_ruled_out(operators: &[Operator], part: &Piece<Source>) -> bool
+    ensures { result ≡ true → LeavesNothing (map rowwise_of operators.now) (piece_rows source_rows part.now) }
+{
+    match part {
+        Piece::Part(source, _, _) => keep_none(operators, source),
+        Piece::Chosen(..) | Piece::Own(..) => false,
+    }
+}
+
+fn keep_none(operators: &[Operator], source: &Source) -> bool
+    ensures { result ≡ true → FirstKeeps (map rowwise_of operators.now) (λ e. KeepsNone e (source_rows source.now)) }
+{
+    match source {
+        Source::Extent(records) => match first_condition(operators) {
+            Some(condition) => keeps_none(condition, records),
+            None => false,
+        },
+        Source::Rows(_) => false,
+    }
+}
+
+fn first_condition<'a>(operators: &[Operator<'a>]) -> Option<&'a Expr>
+    ensures { IfSome result (λ e. FirstKeeps (map rowwise_of operators.now) (λ t. t ≡ term_of e.now)) }
+{
+    if operators.is_empty() {
+        return None;
+    }
+    match operators[0] {
+        Operator::Keep(condition) => Some(condition),
+        Operator::Make(_) | Operator::Spread(..) => None,
+    }
+}
+
+// Whether the condition is true for no record, and overflows on none.
+fn keeps_none(condition: &Expr, records: &Records) -> bool
+    ensures { result ≡ true → KeepsNone (term_of condition.now) (rows_of (extent_of records.now)) }
+{
+    match comparison_in(condition) {
+        Some(comparison) => meet_none(records, comparison),
+        None => false,
+    }
+}
+
+fn comparison_in(condition: &Expr) -> Option<Comparison<'_>>
+    ensures { IfSome result (λ c. Compares (term_of condition.now) c) }
+{
+    match condition {
+        Expr::Call(function, args) => match op_of(*function) {
+            Some(op) => compared(op, args.as_slice()),
+            None => None,
+        },
+        _ => None,
+    }
+}
+
+fn op_of(function: Function) -> Option<ZoneOp>
+    ensures { IfSome result (λ op. Answers function op) }
+{
+    match function {
+        Function::Equal => Some(ZoneOp::Equal),
+        Function::Less => Some(ZoneOp::Below),
+        Function::AtMost => Some(ZoneOp::AtMost),
+        Function::Greater => Some(ZoneOp::Above),
+        Function::AtLeast => Some(ZoneOp::AtLeast),
+        _ => None,
+    }
+}
+
+// The comparison of a column and a literal.
+fn compared(op: ZoneOp, args: &[Expr]) -> Option<Comparison<'_>>
+    ensures { IfSome result (λ c. (c.op ≡ op) × (map term_of args.now ≡ plain c.column ∷ literal c.value.now ∷ [])) }
+{
+    match args {
+        [Expr::Column(column), Expr::Literal(value)] => Some(Comparison {
+            column: *column,
+            op,
+            value,
+        }),
+        _ => None,
+    }
+}
+
+// Whether no record has a cell that stands so to the value.
+fn meet_none(records: &Records, comparison: Comparison) -> bool
+    ensures { result ≡ true → MeetNone comparison.entry (rows_of (extent_of records.now)) }
+{
+    if holds_texts(records.fields, comparison.column) {
+        return false;
+    }
+    match records.extent.zone(comparison.column) {
+        Some((least, greatest)) => meets_none_between(comparison, least, greatest),
+        None => true,
+    }
+}
+
+// Whether the column is one of texts, so that a record that lacks it has an empty one, and not a null.
+fn holds_texts(fields: &[Field], column: usize) -> bool
+    ensures { result ≡ false → MissingIsNull fields.now column }
+{
+    match fields.get(column) {
+        Some(field) => field.ty.same(Ty::Text),
+        None => false,
+    }
+}
+
+// Whether no cell between these two stands so to the value.
+fn meets_none_between(comparison: Comparison, least: &Value, greatest: &Value) -> bool
+    ensures { result ≡ true → MeetsNoneBetween comparison.entry least.now greatest.now }
+{
+    let value = comparison.value;
+    match comparison.op {
+        ZoneOp::Equal => lies_outside(value, least, greatest),
+        ZoneOp::Below => !least.cmp(value).is_lt(),
+        ZoneOp::AtMost => !least.cmp(value).is_le(),
+        ZoneOp::Above => !greatest.cmp(value).is_gt(),
+        ZoneOp::AtLeast => !greatest.cmp(value).is_ge(),
+    }
+}
+
+// Whether the value is none of those between, also where a dynamic holds it: dynamics stand behind all others.
+fn lies_outside(value: &Value, least: &Value, greatest: &Value) -> bool
+    ensures { result ≡ true → LiesOutside value.now least.now greatest.now }
+{
+    if is_dynamic(value) || is_dynamic(greatest) {
+        return false;
+    }
+    value.cmp(least).is_lt() || greatest.cmp(value).is_lt()
+}
+
+fn is_dynamic(value: &Value) -> bool
+    ensures { result ≡ false → IsPlain value.now }
+{
+    matches!(value, Value::Dynamic(_))
+}
