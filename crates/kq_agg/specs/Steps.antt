@@ -117,6 +117,12 @@ pub record TakesInUpTo (k : Kind) (groups : List ℕ) (rows : List (List Value))
   pub before : TakesIn k (take row groups) (take row rows) olds news
   pub refused : MayRefuse (kept_at news (get_or groups row 0))
 
+-- each group has those of its rows that come before one of the rows
+pub record TakesSome (k : Kind) (groups : List ℕ) (rows : List (List Value)) (olds news : List Kept) : Type 0 where
+  pub row : ℕ
+  pub within : row < length groups
+  pub before : TakesIn k (take row groups) (take row rows) olds news
+
 -- the cells of what is kept come after those that are there, or it ends in an overflow
 abbrev pub PutsFinished : List Ty → Kept → List Value → List Value → Result (Unit {0}) EvalFault → Type 0
 PutsFinished types kept before after = AnswersAs (λ done. after) (and_then (finished types kept) (λ cells. Is (before ++ cells)))

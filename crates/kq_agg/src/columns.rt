@@ -45,7 +45,8 @@ pub(crate) fn sum_each(
 ) -> Result<(), Memory>
     requires along { length groups.now ≡ length numbers.now }
     requires known { All (λ g. g < length sums.old.items) groups.now }
-    ensures { OnOk result (TakesIn kind.Sum groups.now (each_alone (map (cell_as reading) numbers.now)) (map summed sums.old.items) (map summed sums.new.items)) }
+    ensures ok { OnOk result (TakesIn kind.Sum groups.now (each_alone (map (cell_as reading) numbers.now)) (map summed sums.old.items) (map summed sums.new.items)) }
+    ensures err { OnErr result (TakesInUpTo kind.Sum groups.now (each_alone (map (cell_as reading) numbers.now)) (map summed sums.old.items) (map summed sums.new.items)) }
 {
     for (i, group) in groups.iter().enumerate() {
         sum_at(sums, *group as usize, reading, numbers[i])?;
@@ -57,6 +58,7 @@ fn sum_at(sums: &mut Vec<Sum>, group: usize, reading: Reading, number: i64) -> R
     requires { group < length sums.old.items }
     ensures long { length sums.new.items ≡ length sums.old.items }
     ensures ok { OnOk result (ChangesAt group (Steps kind.Sum (alone (cell_as reading number))) (map summed sums.old.items) (map summed sums.new.items)) }
+    ensures err { OnErr result ((map summed sums.new.items ≡ map summed sums.old.items) × MayRefuse (kept_at (map summed sums.old.items) group)) }
 {
     sums[group].step_number(number)
 }

@@ -2,7 +2,7 @@
 ghost use Rattle.std.specs.Prelude.{◌≡◌, ◌↔◌, ◌<◌, List, [], IsTrue, OnOk, OnErr, length, replicate};
 ghost use Rattle.std.specs.List.{All};
 ghost use Rattle.kq_vector.specs.Vectors.{cells_of};
-ghost use Rattle.kq_agg.specs.Steps.{ChangesAt, PutsFinished, Grows, Joins, MayRefuse, MayRefuseBoth, Steps, TakesIn, TakesInUpTo, kept_at};
+ghost use Rattle.kq_agg.specs.Steps.{ChangesAt, PutsFinished, Grows, Joins, MayRefuse, MayRefuseBoth, Steps, TakesIn, TakesInUpTo, TakesSome, kept_at};
 ghost use Rattle.kq_agg.specs.Tables.{SameShape};
 ghost use Rattle.kq_agg.specs.Alone.{each_alone};
 
@@ -103,7 +103,7 @@ impl States {
         self.table.step_bare(alloc, groups)
     }
 
-    /// Rows more of one cell each, those of a column, each of the group whose number stands beside it. After a refusal some of them may be taken in.
+    /// Rows more of one cell each, those of a column, each of the group whose number stands beside it. After a refusal those before the row that was refused are taken in.
     pub fn step_column(
         &mut self,
         alloc: Global,
@@ -114,6 +114,7 @@ impl States {
         requires known { All (λ g. g < length self.old.kept) groups.now }
         ensures shape { SameShape self.old self.new }
         ensures ok { OnOk result (TakesIn self.old.kind groups.now (each_alone (cells_of column.now)) self.old.kept self.new.kept) }
+        ensures err { OnErr result (TakesSome self.old.kind groups.now (each_alone (cells_of column.now)) self.old.kept self.new.kept) }
     {
         self.table.step_column(alloc, groups, column)
     }

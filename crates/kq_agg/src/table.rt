@@ -4,7 +4,7 @@ ghost use Rattle.std.specs.List.{All};
 ghost use Rattle.kq_vector.specs.Vectors.{cell_of, cells_of};
 ghost use Rattle.kq_agg.specs.Alone.{alone, cell_as, each_alone};
 ghost use Rattle.kq_agg.specs.Ranks.{first_of};
-ghost use Rattle.kq_agg.specs.Steps.{ChangesAt, PutsFinished, Joins, MayRefuse, MayRefuseBoth, Steps, TakesIn, TakesInUpTo, kept_at, none_kept};
+ghost use Rattle.kq_agg.specs.Steps.{ChangesAt, PutsFinished, Joins, MayRefuse, MayRefuseBoth, Steps, TakesIn, TakesInUpTo, TakesSome, kept_at, none_kept};
 ghost use Rattle.kq_agg.specs.Tables.{kind_of, kept_of};
 
 use crate::columns::{count_each, offer_each, sum_each};
@@ -154,6 +154,7 @@ impl Table {
         requires known { All (λ g. g < length (kept_of self.old)) groups.now }
         ensures kind { kind_of self.new ≡ kind_of self.old }
         ensures ok { OnOk result (TakesIn (kind_of self.old) groups.now (each_alone (cells_of column.now)) (kept_of self.old) (kept_of self.new)) }
+        ensures err { OnErr result (TakesSome (kind_of self.old) groups.now (each_alone (cells_of column.now)) (kept_of self.old) (kept_of self.new)) }
     {
         match numbers_in(column) {
             Some((reading, numbers)) => self.step_numbers(alloc, groups, reading, numbers),
@@ -173,6 +174,7 @@ impl Table {
         requires known { All (λ g. g < length (kept_of self.old)) groups.now }
         ensures kind { kind_of self.new ≡ kind_of self.old }
         ensures ok { OnOk result (TakesIn (kind_of self.old) groups.now (each_alone (map (cell_as reading) numbers.now)) (kept_of self.old) (kept_of self.new)) }
+        ensures err { OnErr result (TakesInUpTo (kind_of self.old) groups.now (each_alone (map (cell_as reading) numbers.now)) (kept_of self.old) (kept_of self.new)) }
     {
         match self {
             Table::Sums(sums) => sum_each(sums, groups, reading, numbers),
@@ -195,6 +197,7 @@ impl Table {
         requires known { All (λ g. g < length (kept_of self.old)) groups.now }
         ensures kind { kind_of self.new ≡ kind_of self.old }
         ensures ok { OnOk result (TakesIn (kind_of self.old) groups.now (each_alone (map (cell_as reading) numbers.now)) (kept_of self.old) (kept_of self.new)) }
+        ensures err { OnErr result (TakesInUpTo (kind_of self.old) groups.now (each_alone (map (cell_as reading) numbers.now)) (kept_of self.old) (kept_of self.new)) }
     {
         for (i, group) in groups.iter().enumerate() {
             self.step_number(alloc, *group as usize, reading, numbers[i])?;
@@ -212,6 +215,7 @@ impl Table {
         requires { group < length (kept_of self.old) }
         ensures kind { kind_of self.new ≡ kind_of self.old }
         ensures ok { OnOk result (ChangesAt group (Steps (kind_of self.old) (alone (cell_as reading number))) (kept_of self.old) (kept_of self.new)) }
+        ensures err { OnErr result ((kept_of self.new ≡ kept_of self.old) × MayRefuse (kept_at (kept_of self.old) group)) }
     {
         let cell = reading.cell(number);
         self.step(alloc, group, from_ref(&cell))
@@ -227,6 +231,7 @@ impl Table {
         requires known { All (λ g. g < length (kept_of self.old)) groups.now }
         ensures kind { kind_of self.new ≡ kind_of self.old }
         ensures ok { OnOk result (TakesIn (kind_of self.old) groups.now (each_alone (cells_of column.now)) (kept_of self.old) (kept_of self.new)) }
+        ensures err { OnErr result (TakesSome (kind_of self.old) groups.now (each_alone (cells_of column.now)) (kept_of self.old) (kept_of self.new)) }
     {
         for (i, group) in groups.iter().enumerate() {
             self.step_cell(alloc, *group as usize, column, i)?;
@@ -244,6 +249,7 @@ impl Table {
         requires { group < length (kept_of self.old) }
         ensures kind { kind_of self.new ≡ kind_of self.old }
         ensures ok { OnOk result (ChangesAt group (Steps (kind_of self.old) (alone (cell_of (cells_of column.now) i))) (kept_of self.old) (kept_of self.new)) }
+        ensures err { OnErr result (kept_of self.new ≡ kept_of self.old) }
     {
         let cell = column.cell(i)?;
         self.step(alloc, group, from_ref(&cell))
