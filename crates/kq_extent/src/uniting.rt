@@ -1,5 +1,5 @@
 // One extent of the records of several.
-ghost use Rattle.std.specs.Prelude.{◌≡◌, ◌<◌, ◌^◌, IfOk, length, map};
+ghost use Rattle.std.specs.Prelude.{◌≡◌, ◌<◌, ◌≤◌, ◌^◌, IfErr, IfOk, length, map};
 ghost use Rattle.std.specs.List.{All, range_with_len};
 ghost use Rattle.std.specs.Arc.{arc_value};
 ghost use Rattle.kq_value.specs.Typed.{HasTypes};
@@ -53,6 +53,7 @@ fn joined(
 fn count_of(extents: &[Arc<Extent, Global>]) -> Result<usize, Memory>
     ensures count { IfOk result (λ n. n ≡ length (records_in (map arc_value extents.now))) }
     ensures small { IfOk result (λ n. n < 2 ^ 63) }
+    ensures err { IfErr result (λ e. 2 ^ 63 ≤ length (records_in (map arc_value extents.now))) }
 {
     let mut count: usize = 0;
     for extent in extents {
