@@ -17,8 +17,8 @@ pub use flow::{Flow, Next};
 pub use gathered::Gathered;
 pub use held::Held;
 pub use kq_stretch::{
-    Operator, RangeFault, Relation, Vector, append_arm, distinct_rows, eval_row, map_rows,
-    range_rows, vector_over,
+    Operator, RangeFault, Relation, Vector, append_arm, copy_row, distinct_rows, eval_row,
+    map_rows, range_rows, vector_over,
 };
 pub use records::Records;
 pub use source::Source;

@@ -14,11 +14,10 @@ ghost use Rattle.kq_order.specs.Leading.{Lead, TakesIn};
 ghost use Rattle.kq_order.specs.Orders.{Topped, keys_at};
 
 use kq_computed::EvalFault;
-use kq_lent::{Flow, Held, Next, Relation, Vector, vector_over};
+use kq_lent::{Flow, Held, Next, Relation, Vector, copy_row, vector_over};
 use kq_order::{Leaders, top_rows};
 use kq_plan::SortKey;
 use kq_rows::Rows;
-use kq_stretch::copy_row;
 use kq_value::{Memory, Value};
 use std::alloc::Global;
 

@@ -8,11 +8,11 @@ use kq_value::Memory;
 use std::alloc::AllocFailed;
 
 /// The outside failed.
-#[derive(Clone, Copy, PartialEq, Eq)]
+#[derive(Clone, Copy, Debug, PartialEq, Eq)]
 pub struct Failed;
 
 /// Why a feed wasn't opened.
-#[derive(Clone, Copy, PartialEq, Eq)]
+#[derive(Clone, Copy, Debug, PartialEq, Eq)]
 pub enum OpenFault {
     /// The outside failed.
     Failed,
