@@ -1,4 +1,5 @@
 mod Bounded
+mod Conjunct
 mod Firsts
 mod Flown
 mod LeftOut

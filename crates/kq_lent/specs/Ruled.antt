@@ -1,5 +1,5 @@
 -- Rows of which a first condition keeps none.
-use Rattle.std.specs.Prelude.{◌≡◌, ◌<◌, ℕ, false, true, List, [], ◌∷◌, Some}
+use Rattle.std.specs.Prelude.{◌≡◌, ◌<◌, ℕ, Bool, false, true, List, [], ◌∷◌, Some}
 use Rattle.std.specs.List.{All}
 use Rattle.kq_value.specs.declared.schema.Field.{Field}
 use Rattle.kq_value.specs.declared.value.Value.{Value}
@@ -11,6 +11,9 @@ use Rattle.kq_arithmetic.specs.Comparing.{are_same, at_least, at_most, equal, gr
 use Rattle.kq_arithmetic.specs.Logic.{is_yes}
 use Rattle.kq_column.specs.Cells.{IsAtMost}
 use Rattle.kq_computed.specs.Computed.{Is}
+use Rattle.kq_expr.specs.declared.expr.Link.{Link}
+use Rattle.kq_expr.specs.declared.expr.Link.TheVariants as link
+use Rattle.kq_expr.specs.declared.operation.Operation.TheVariants as operation
 use Rattle.kq_expr.specs.Terms.{Term, Terms, and_term, call, column, literal, no_term}
 use Rattle.kq_fn.specs.declared.function.Function.{Function}
 use Rattle.kq_widened.specs.Widened.{missing_at}
@@ -67,6 +70,17 @@ Drops e s row = (v : Value) × (meaning e s row ≡ Is v) × (is_yes v ≡ false
 -- for none of the rows is the condition true, and it overflows on none
 abbrev pub KeepsNone : Term → List Row → Type 0
 KeepsNone e rows = (s : Surroundings) → All (Drops e s) rows
+
+-- the condition comes to a value for each of the rows, and where this is so, to none that is true
+pub record IsJudged (e : Term) (rows : List Row) (so : Bool) : Type 0 where
+  pub comes : (s : Surroundings) → All (λ r. (v : Value) × (meaning e s r ≡ Is v)) rows
+  pub none : so ≡ true → KeepsNone e rows
+
+-- the link is an `and` with such a condition
+pub record IsConjunct (l : Link Term) (rows : List Row) (so : Bool) : Type 0 where
+  pub operand : Term
+  pub is : l ≡ link.With operation.And operand
+  pub judged : IsJudged operand rows so
 
 -- the first operator keeps the rows for which a condition is true that is so
 abbrev pub FirstKeeps : List Rowwise → (Term → Type 0) → Type 0

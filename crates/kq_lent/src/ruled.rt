@@ -1,15 +1,15 @@
 // Parts of which the first operator keeps no row, by the least and the greatest cell of a column.
 ghost use Rattle.std.specs.Prelude.{◌≡◌, ◌∷◌, [], IfSome, false, map, true};
-ghost use Rattle.kq_expr.specs.Terms.{column as plain, literal, term_of};
+ghost use Rattle.kq_expr.specs.Terms.{chained, column as plain, link_of, literal, term_of};
 ghost use Rattle.kq_stretch.specs.Operators.{rowwise_of};
 ghost use Rattle.kq_stretch.specs.Pieces.{rows_in as piece_rows};
 ghost use Rattle.kq_lent.specs.Lent.{extent_of, rows_of};
-ghost use Rattle.kq_lent.specs.Ruled.{Answers, Compares, FirstKeeps, IsPlain, KeepsNone, LeavesNothing, LiesOutside, MeetNone, MeetsNoneBetween, MissingIsNull};
+ghost use Rattle.kq_lent.specs.Ruled.{Answers, Compares, FirstKeeps, IsConjunct, IsJudged, IsPlain, KeepsNone, LeavesNothing, LiesOutside, MeetNone, MeetsNoneBetween, MissingIsNull};
 ghost use Rattle.kq_lent.specs.Sources.{source_rows};
 
 use crate::records::Records;
 use crate::source::Source;
-use kq_expr::Expr;
+use kq_expr::{Expr, Link, Operation};
 use kq_fn::Function;
 use kq_stretch::{Operator, Piece};
 use kq_value::{Field, Ty, Value, ZoneOp};
@@ -57,13 +57,50 @@ fn first_condition<'a>(operators: &[Operator<'a>]) -> Option<&'a Expr>
     }
 }
 
-// Whether the condition is true for no record, and overflows on none.
+// Whether the condition is true for no record, and overflows on none: a comparison, or an `and` of some of which one is false or null.
 fn keeps_none(condition: &Expr, records: &Records) -> bool
     ensures { result ≡ true → KeepsNone (term_of condition.now) (rows_of (extent_of records.now)) }
 {
+    match condition {
+        Expr::Chain(first, links) => all_keep_none(first, links.as_slice(), records),
+        _ => match judged(condition, records) {
+            Some(none) => none,
+            None => false,
+        },
+    }
+}
+
+fn all_keep_none(first: &Expr, links: &[Link<Expr>], records: &Records) -> bool
+    ensures { result ≡ true → KeepsNone (chained (term_of first.now) (map link_of links.now)) (rows_of (extent_of records.now)) }
+{
+    let Some(mut none) = judged(first, records) else {
+        return false;
+    };
+    for link in links {
+        match link_judged(link, records) {
+            Some(more) => none = none || more,
+            None => return false,
+        }
+    }
+    none
+}
+
+fn link_judged(link: &Link<Expr>, records: &Records) -> Option<bool>
+    ensures { IfSome result (IsConjunct (link_of link.now) (rows_of (extent_of records.now))) }
+{
+    match link {
+        Link::With(Operation::And, operand) => judged(operand, records),
+        _ => None,
+    }
+}
+
+// Whether the condition is true for no record, where it is one that never overflows.
+fn judged(condition: &Expr, records: &Records) -> Option<bool>
+    ensures { IfSome result (IsJudged (term_of condition.now) (rows_of (extent_of records.now))) }
+{
     match comparison_in(condition) {
-        Some(comparison) => meet_none(records, comparison),
-        None => false,
+        Some(comparison) => Some(meet_none(records, comparison)),
+        None => None,
     }
 }
 
