@@ -1,5 +1,5 @@
 -- The printed form of an answer.
-use Rattle.std.specs.Prelude.{◌≡◌, ℕ, zero, suc, Bool, List, [], ◌∷◌, ◌++◌, length, map, codes, Option, Some, None}
+use Rattle.std.specs.Prelude.{◌≡◌, ℕ, zero, suc, Bool, List, [], ◌∷◌, ◌++◌, length, map, codes, decimal, Option, Some, None}
 use Rattle.std.specs.List.{flat_map, join_with_byte}
 use Rattle.kq_value.specs.declared.ty.Ty.{Ty}
 use Rattle.kq_value.specs.declared.ty.Ty.TheVariants.{Long, Int, Text, Bool as Truth, Moment, Span, Dynamic}
@@ -8,7 +8,10 @@ use Rattle.kq_value.specs.declared.value.Value.{Value}
 use Rattle.kq_written.specs.Cells.{escaped, reply_text_of}
 use Rattle.kq_answer.specs.declared.answer.Answer.{Answer}
 pub use Rattle.kq_lines.specs.Lines.{AreArranged, ended}
-use Rattle.kq_reply.specs.Text.{counted}
+
+-- words and a number
+abbrev pub counted : List ℕ → ℕ → List ℕ
+counted words n = words ++ decimal n
 
 abbrev pub type_name : Ty → List ℕ
 type_name Long = codes "long"

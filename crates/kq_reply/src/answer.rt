@@ -3,8 +3,7 @@ ghost use Rattle.std.specs.Prelude.{◌≡◌, ◌++◌, IfOk, OnOk, All, codes,
 ghost use Rattle.std.specs.List.{flat_map};
 ghost use Rattle.kq_written.specs.Cells.{escaped, escaped_byte, reply_text_of};
 ghost use Rattle.kq_value.specs.Typed.{HasTypes, IsProper};
-ghost use Rattle.kq_reply.specs.Text.{counted};
-ghost use Rattle.kq_reply.specs.Answer.{Prints, PutsRows, column_text, ended, header_text, row_text, tab_before, type_name as name_of};
+ghost use Rattle.kq_reply.specs.Answer.{Prints, PutsRows, column_text, counted, ended, header_text, row_text, tab_before, type_name as name_of};
 ghost use Rattle.kq_lines.specs.Lines.{AreLines};
 
 use crate::escape::escape_sign;

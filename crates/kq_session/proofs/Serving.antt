@@ -17,7 +17,7 @@ use Rattle.kq_model.specs.declared.event.Operation.{Operation}
 use Rattle.kq_model.specs.History.{History}
 use Rattle.kq_reply.specs.declared.reply.Reply.{Reply}
 use Rattle.kq_reply.specs.Number.{kind_of}
-use Rattle.kq_reply.specs.Text.{text_of}
+use Rattle.kq_printed.specs.Text.{text_of}
 use Rattle.kq_script.specs.Script.{Block, script_blocks}
 use Rattle.kq_script.specs.Reading.{IsReading, IsPrefix as Begins}
 use Rattle.kq_script.specs.declared.reader.ScriptReader.{ScriptReader}

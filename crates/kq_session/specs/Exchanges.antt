@@ -6,7 +6,7 @@ use Rattle.kq_world.specs.declared.outside.Failed.{Failed}
 use Rattle.kq_model.specs.declared.event.By.{By}
 use Rattle.kq_model.specs.declared.limits.Limits.{Limits}
 use Rattle.kq_reply.specs.Number.{kind_of}
-use Rattle.kq_reply.specs.Text.{text_of}
+use Rattle.kq_printed.specs.Text.{text_of}
 use Rattle.kq_script.specs.Item.{IsItemOf}
 use Rattle.kq_script.specs.Script.{Block}
 use Rattle.kq_script.specs.declared.item.Item.{Item}

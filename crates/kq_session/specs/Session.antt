@@ -10,7 +10,7 @@ use Rattle.kq_model.specs.History.{History, CommitAt}
 use Rattle.kq_reply.specs.declared.reply.Reply.{Reply}
 use Rattle.kq_reply.specs.Number.{kind_of, number_of}
 use Rattle.kq_reply.specs.declared.refusal.Refusal.TheVariants.{ArtefactFault}
-use Rattle.kq_reply.specs.Text.{text_of}
+use Rattle.kq_printed.specs.Text.{text_of}
 use Rattle.kq_script.specs.Script.{Block, script_blocks}
 use Rattle.kq_script.specs.Reading.{IsPrefix as Begins}
 use Rattle.kq_script.specs.State.{IsAtEnd}

@@ -18,7 +18,7 @@ use crate::service::Service;
 use kq_engine::{Pass, Shared};
 use kq_exporter::Exporter;
 use kq_model::By;
-use kq_reply::write_reply;
+use kq_printed::write_reply;
 use kq_script::{Item, ScriptFault, ScriptReader};
 use kq_world::{Clock, Failed, Gate, Parts, Point, Sink, Source};
 use std::alloc::Global;

@@ -2,7 +2,8 @@
 ghost use Rattle.std.specs.Prelude.{◌<◌};
 
 use kq_answer::{Cause, Why};
-use kq_reply::{Refusal, Reply, write_reply};
+use kq_printed::write_reply;
+use kq_reply::{Refusal, Reply};
 use kq_value::{Bytes, Memory, Text};
 use kq_world::{Failed, MemorySink, put_all};
 use std::alloc::Global;
