@@ -1,12 +1,11 @@
 -- Conditions that are joined by `and`.
 use Rattle.std.proofs.Common.{◌≡◌, ◌<◌, ◌+◌, ◌||◌, ◌&&◌, ℕ, Bool, true, false, cond, List, [], ◌∷◌, ◌++◌, length, map, get_or, take, refl, sym, ap, ◌∙◌, subst}
-use Rattle.std.specs.List.{All}
 use Rattle.std.proofs.lemmas.List.{map-append, take_more}
 use Rattle.kq_value.specs.declared.ty.Ty.TheVariants as ty
 use Rattle.kq_value.specs.declared.value.Value.{Value}
 use Rattle.kq_value.specs.declared.value.Value.TheVariants as value
 use Rattle.kq_arithmetic.specs.Logic.{conjunction, is_no, is_yes}
-use Rattle.kq_computed.specs.Computed.{Is, and_then}
+use Rattle.kq_computed.specs.Computed.{Is}
 use Rattle.kq_expr.specs.declared.expr.Link.{Link}
 use Rattle.kq_expr.specs.declared.expr.Link.TheVariants as link
 use Rattle.kq_expr.specs.declared.operation.Operation.TheVariants as operation
@@ -70,7 +69,7 @@ both_judged e a rows none more first second = record {
           both_come e a s (get_or rows k d) p.0 q.0 p.1 q.1,
           not_yes (is_no p.0 || is_no q.0) (is_yes p.0 && is_yes q.0) (first_no (is_yes p.0) (is_yes q.0) p.2),
         )
-    by false is told = by_second told
+    by false is told s k d within = by_second told s k d within
 
 pub link_more : (e : Term) (l : Link Term) (rows : List Row) (none more : Bool) → IsJudged e rows none → IsConjunct l rows more → IsJudged (linked e l) rows (none || more)
 link_more e l rows none more first conjunct =

@@ -1,12 +1,11 @@
 -- What the least and the greatest cell of an extent tell of all its rows.
-use Rattle.std.proofs.Common.{◌≡◌, ◌<◌, ◌&&◌, ◌||◌, ℕ, Bool, true, false, not, cond, Option, Some, None, List, [], ◌∷◌, map, get_or, take, drop, refl, sym, ap, ◌∙◌, subst, arith}
-use Rattle.std.specs.List.{All, slice_get, cons_option, filter_map}
+use Rattle.std.proofs.Common.{◌≡◌, ◌&&◌, ◌||◌, ℕ, Bool, true, false, not, cond, Option, Some, None, List, [], ◌∷◌, map, get_or, drop, refl, sym, ap, ◌∙◌, subst, arith}
+use Rattle.std.specs.List.{All, slice_get, cons_option}
 use Rattle.std.specs.Option.{option_map, option_or}
 use Rattle.std.specs.Ordering.{is_ge, is_gt, is_le, is_lt}
 use Rattle.std.specs.Prelude.{IfSome, Vec, unwrap_or, option_and_then, ◌-◌}
 use Rattle.std.specs.declared.cmp.Ordering.{Ordering}
-use Rattle.std.proofs.lemmas.List.Elements.{All-cons, All-drop, All-head, All-map, All-nil, All-tail, All-take}
-use Rattle.kq_value.specs.declared.record.Record.{Record}
+use Rattle.std.proofs.lemmas.List.Elements.{All-cons, All-drop, All-head, All-nil, All-tail, All-take}
 use Rattle.kq_value.specs.declared.schema.Field.{Field}
 use Rattle.kq_value.specs.declared.ty.Ty.{Ty}
 use Rattle.kq_value.specs.declared.ty.Ty.TheVariants as ty
@@ -15,7 +14,7 @@ use Rattle.kq_value.specs.declared.value.Value.TheVariants as value
 use Rattle.kq_value.specs.declared.zone.ZoneOp.{ZoneOp}
 use Rattle.kq_value.specs.declared.zone.ZoneOp.TheVariants as op
 use Rattle.kq_value.specs.Typed.{is_null, missing_of}
-use Rattle.kq_value.specs.Values.{is_same, value_cmp, value_kind}
+use Rattle.kq_value.specs.Values.{is_same, value_cmp}
 use Rattle.kq_arithmetic.specs.Comparing.{are_same, compared, equal, held}
 use Rattle.kq_arithmetic.specs.Logic.{is_yes}
 use Rattle.kq_column.specs.Bounds.{AreBounds}
@@ -37,7 +36,7 @@ use Rattle.kq_stretch.specs.kq_piecewise.Operators.{Row, filtered}
 use Rattle.kq_stretch.specs.kq_piecewise.Pieces.{piece_of}
 use Rattle.kq_stretch.specs.kq_scalar.Val.{Surroundings, cell_of, meaning}
 use Rattle.kq_stretch.specs.Operators.{Rowwise, keeping, making, spreading}
-use Rattle.kq_stretch.specs.Ran.{came, later, ran, staged}
+use Rattle.kq_stretch.specs.Ran.{later, ran, staged}
 use Rattle.kq_stretch.proofs.Laws.{ran_none}
 use Rattle.kq_lent.specs.Lent.{rows_of}
 use Rattle.kq_lent.specs.Ruled.{Answers, Compares, Drops, FirstKeeps, IsNotMet, IsPlain, KeepsNone, LeavesNothing, LiesOutside, MeetNone, MeetsNoneBetween, MissingIsNull, answered}

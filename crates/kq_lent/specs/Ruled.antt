@@ -14,7 +14,7 @@ use Rattle.kq_computed.specs.Computed.{Is}
 use Rattle.kq_expr.specs.declared.expr.Link.{Link}
 use Rattle.kq_expr.specs.declared.expr.Link.TheVariants as link
 use Rattle.kq_expr.specs.declared.operation.Operation.TheVariants as operation
-use Rattle.kq_expr.specs.Terms.{Term, Terms, and_term, call, column, literal, no_term}
+use Rattle.kq_expr.specs.Terms.{Term, and_term, call, no_term}
 use Rattle.kq_fn.specs.declared.function.Function.{Function}
 use Rattle.kq_widened.specs.Widened.{missing_at}
 use Rattle.kq_stretch.specs.kq_piecewise.Operators.{Row}

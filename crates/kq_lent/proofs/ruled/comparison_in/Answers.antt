@@ -1,5 +1,5 @@
-use Rattle.std.proofs.Common.{◌≡◌, ◌∷◌, [], List, map, ap, sym, ◌∙◌}
-use Rattle.kq_expr.specs.Terms.{Term, column, literal, term_of}
+use Rattle.std.proofs.Common.{◌≡◌, ◌∷◌, [], map, ap, sym, ◌∙◌}
+use Rattle.kq_expr.specs.Terms.{column, literal, term_of}
 use Rattle.kq_lent.specs.Ruled.{Compares}
 use Rattle.kq_lent.specs.declared.ruled.Comparison.{Comparison}
 use Rattle.kq_lent.proofs.LeftOut.{IfSome-then, compares}
