@@ -1,0 +1,5 @@
+mod Bodies
+mod First
+mod Foreign
+mod Found
+mod Supported
