@@ -1,0 +1,3 @@
+mod Arrays
+mod Dates
+mod Splits

@@ -1,0 +1,3 @@
+pub mod Arrays
+pub mod Dates
+pub mod Splits

@@ -1,0 +1,9 @@
+//! Laws of definitions that are written near the code: for each a reader's own words, and that the two say the same. It has no work, and no crate uses it.
+#![tactic(auto)]
+
+mod laws;
+
+pub use laws::{
+    dates_are_counted_by_years_and_months, same_rows_are_permuted, sorted_arrays_are_in_order,
+    splits_are_leftmost,
+};
