@@ -1,3 +1,4 @@
 mod Arrays
 mod Dates
+mod Objects
 mod Splits

@@ -1,3 +1,4 @@
 pub mod Arrays
 pub mod Dates
+pub mod Objects
 pub mod Splits

@@ -4,6 +4,6 @@
 mod laws;
 
 pub use laws::{
-    dates_are_counted_by_years_and_months, same_rows_are_permuted, sorted_arrays_are_in_order,
-    splits_are_leftmost,
+    dates_are_counted_by_years_and_months, objects_keep_their_last_members, same_rows_are_permuted,
+    sorted_arrays_are_in_order, splits_are_leftmost,
 };
