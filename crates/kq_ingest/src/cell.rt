@@ -4,10 +4,11 @@ ghost use Rattle.kq_written.specs.Cells.{cell_of};
 ghost use Rattle.kq_value.specs.declared.ty.Ty.TheVariants as types;
 ghost use Rattle.kq_ingest.specs.Ingestion.{cell_in};
 
-use kq_dynamic::read_dyn;
+use crate::dynamic::read_shared;
+use crate::shared::Texts;
 use kq_numerals::{read_bool, read_int, read_long, trim};
 use kq_time::{read_datetime, read_timespan};
-use kq_value::{Dyn, Memory, Text, Ty, Value};
+use kq_value::{Dyn, Memory, Ty, Value};
 use std::alloc::Global;
 
 fn long_cell(text: &str) -> Value
@@ -55,40 +56,45 @@ fn span_cell(text: &str) -> Value
     }
 }
 
-fn dynamic_cell(alloc: Global, text: &str) -> Result<Value, Memory>
+fn dynamic_cell(alloc: Global, texts: &mut Texts, text: &str) -> Result<Value, Memory>
     ensures { IfOk result (λ cell. cell ≡ cell_of types.Dynamic text.now) }
 {
     if text.is_empty() {
         return Value::dynamic(alloc, Dyn::Null);
     }
-    match read_dyn(alloc, text)? {
+    match read_shared(alloc, texts, text)? {
         Some(dynamic) => Value::dynamic(alloc, dynamic),
-        None => Value::dynamic(alloc, Dyn::Text(Text::from_str(alloc, text)?)),
+        None => Value::dynamic(alloc, Dyn::Text(texts.text(alloc, text)?)),
     }
 }
 
-fn cell_from(alloc: Global, ty: Ty, text: &str) -> Result<Value, Memory>
+fn cell_from(alloc: Global, texts: &mut Texts, ty: Ty, text: &str) -> Result<Value, Memory>
     ensures value { IfOk result (λ cell. cell ≡ cell_of ty text.now) }
     ensures numbers { ty ≢ types.Text → ty ≢ types.Dynamic → IsOk result }
 {
     match ty {
         Ty::Long => Ok(long_cell(text)),
         Ty::Int => Ok(int_cell(text)),
-        Ty::Text => Ok(Value::Text(Text::from_str(alloc, text)?)),
+        Ty::Text => Ok(Value::Text(texts.text(alloc, text)?)),
         Ty::Bool => Ok(bool_cell(text)),
         Ty::Moment => Ok(moment_cell(text)),
         Ty::Span => Ok(span_cell(text)),
-        Ty::Dynamic => dynamic_cell(alloc, text),
+        Ty::Dynamic => dynamic_cell(alloc, texts, text),
     }
 }
 
 // The cell of a column of this type, from the text in its place, if there is one. Only a string and a dynamic take memory.
-pub(crate) fn read_cell(alloc: Global, ty: Ty, text: Option<&str>) -> Result<Value, Memory>
+pub(crate) fn read_cell(
+    alloc: Global,
+    texts: &mut Texts,
+    ty: Ty,
+    text: Option<&str>,
+) -> Result<Value, Memory>
     ensures value { IfOk result (λ cell. cell ≡ cell_in ty (option_map (λ t. t.now) text.entry)) }
     ensures numbers { ty ≢ types.Text → ty ≢ types.Dynamic → IsOk result }
 {
     match text {
-        Some(text) => cell_from(alloc, ty, text),
+        Some(text) => cell_from(alloc, texts, ty, text),
         None => Value::missing(alloc, ty),
     }
 }

@@ -2,8 +2,10 @@
 #![tactic(auto)]
 
 mod cell;
+mod dynamic;
 mod fault;
 mod rows;
+mod shared;
 mod tags;
 
 pub use fault::IngestFault;

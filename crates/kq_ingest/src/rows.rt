@@ -9,6 +9,7 @@ ghost use Rattle.kq_ingest.specs.Ingestion.{IsFaultAt, first_fault, is_wide, row
 
 use crate::cell::read_cell;
 use crate::fault::IngestFault;
+use crate::shared::Texts;
 use csv::{Error, ErrorKind, Reader, ReaderBuilder, StringRecord};
 use kq_rows::Rows;
 use kq_value::{Memory, Schema, Value};
@@ -17,6 +18,7 @@ use std::alloc::Global;
 // Fills a row that has no cells yet with those of a record.
 fn fill_row(
     alloc: Global,
+    texts: &mut Texts,
     row: &mut Vec<Value>,
     cells: &StringRecord,
     schema: &Schema,
@@ -26,7 +28,7 @@ fn fill_row(
 {
     let fields = schema.as_slice();
     for i in 0..fields.len() {
-        row.push(read_cell(alloc, fields[i].ty, cells.get(i))?)?;
+        row.push(read_cell(alloc, texts, fields[i].ty, cells.get(i))?)?;
     }
     Ok(())
 }
@@ -34,6 +36,7 @@ fn fill_row(
 // Adds the record's row, unless it is too wide or one row too many. The row is read into `row` and moves on from there.
 fn add_row(
     alloc: Global,
+    texts: &mut Texts,
     rows: &mut Rows,
     row: &mut Vec<Value>,
     cells: &StringRecord,
@@ -58,7 +61,7 @@ fn add_row(
     if before >= limit {
         return Err(IngestFault::Full { limit });
     }
-    fill_row(alloc, row, cells, schema)?;
+    fill_row(alloc, texts, row, cells, schema)?;
     rows.push_from(row)?;
     Ok(())
 }
@@ -110,6 +113,7 @@ pub fn read_rows(
         .flexible(true)
         .from_reader(alloc, body.as_bytes());
     let mut cells = StringRecord::new(alloc);
+    let mut texts = Texts::new(alloc)?;
     let mut rows = Rows::new(alloc);
     let mut row = Vec::new(alloc);
     let mut skip = skip_first;
@@ -118,7 +122,7 @@ pub fn read_rows(
             skip = false;
         } else {
             add_row(
-                alloc, &mut rows, &mut row, &cells, schema, skip_first, limit,
+                alloc, &mut texts, &mut rows, &mut row, &cells, schema, skip_first, limit,
             )?;
         }
     }

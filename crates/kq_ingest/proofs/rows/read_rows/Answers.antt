@@ -76,7 +76,7 @@ add_row-requires-clause-empty c = c.loop-row.invariant.0
 
 pub returns-in_err-read_record-clause-fault : goal.returns-in_err-read_record-clause-fault
 returns-in_err-read_record-clause-fault c =
-    let p = err_from_is_err_and c.from_residual.result c.from_residual.ensures.1 in
+    let p = err_from_is_err_and c.from_residual-in_err-read_record.result c.from_residual-in_err-read_record.ensures.1 in
     rw (p.1, p.2) (λ free. absurd (free c.in_err-read_record.ensures.fault))
 
 pub returns-in_err-add_row-clause-fault : goal.returns-in_err-add_row-clause-fault
