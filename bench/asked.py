@@ -4,7 +4,7 @@ import subprocess, sys, time
 
 class Asked:
     def __init__(self, words, ended, folder=None):
-        """`ended` is asked behind each text; its answer ends with 424242, by which the end of the text's own is known."""
+        """`ended` is asked behind each text; its answer is the line 424242, by which the end of the text's own is known."""
         self.child = subprocess.Popen(words, stdin=subprocess.PIPE, stdout=subprocess.PIPE, cwd=folder)
         self.ended = ended
 
@@ -14,7 +14,7 @@ class Asked:
         self.child.stdin.write((text + self.ended).encode())
         self.child.stdin.flush()
         for said in self.child.stdout:
-            if b"424242\n" in said:
+            if said == b"424242\n":
                 return time.perf_counter() - begin
         sys.exit("the other side ended")
 
