@@ -16,6 +16,8 @@ class Asked:
         for said in self.child.stdout:
             if said == b"424242\n":
                 return time.perf_counter() - begin
+            if said.startswith(b"refused "):
+                sys.exit(f"{said.decode().strip()}: {text[:200]}")
         sys.exit("the other side ended")
 
     def best(self, text, times):

@@ -51,7 +51,7 @@ queries = {
         "A | summarize arg_max(Timestamp, Path, Status) by Address | count",
         "select count(*) from (select Address, max(Timestamp), Path, Status from a group by 1) x;"),
     "a join with 20 hosts and a sum": (
-        "A | join kind=inner H on Host | summarize s = sum(Bytes) by Zone",
+        "A | join kind=inner (H) on Host | summarize s = sum(Bytes) by Zone",
         "select Zone, sum(Bytes) from a join h on a.Host = h.Host group by 1;"),
     "count by the first part of the path": (
         'A | summarize n = count() by p = tostring(split(Path, "/")[1])',
