@@ -8,3 +8,5 @@ pub mod Numbered
 pub mod Picked
 pub mod Crowd
 pub mod Leading
+pub mod Spots
+pub mod Columned

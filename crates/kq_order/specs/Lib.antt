@@ -5,3 +5,4 @@ pub mod Firsts
 pub mod Keyed
 pub mod Leading
 pub mod Orders
+pub mod Parts

@@ -3,9 +3,11 @@
 
 mod first;
 mod leaders;
+mod parts;
 mod placed;
 mod radix;
 mod sort;
 
 pub use leaders::Leaders;
+pub use parts::{Part, sort_parts};
 pub use sort::{sort_rows, top_rows};

@@ -9,6 +9,7 @@ mod run;
 mod shared;
 mod single;
 mod sinks;
+mod sorted;
 mod step;
 mod stretch;
 mod terms;
