@@ -1,19 +1,18 @@
 -- The numbers of keys of one cell, and what is known of words.
-use Rattle.std.proofs.Common.{◌≡◌, ◌<◌, ◌⊎◌, ◌+◌, inl, inr, ℕ, zero, suc, ℤ, pos, List, [], ◌∷◌, ◌++◌, Option, Some, None, length, map, replicate, take, get_or, set, refl, sym, ap, ◌∙◌, subst, arith, length-append}
+use Rattle.std.proofs.Common.{◌≡◌, ◌<◌, ◌≤◌, ◌⊎◌, ◌+◌, inl, inr, ℕ, zero, suc, ℤ, pos, List, [], ◌∷◌, ◌++◌, Option, Some, None, length, map, replicate, take, get_or, set, refl, sym, ap, ◌∙◌, subst, arith, add-one, append-nil, length-append}
 use Rattle.std.proofs.lemmas.Bool.{cases_eq}
-use Rattle.std.proofs.lemmas.List.{get_or_append_left, get_or-map, get_or-set_same, get_or-set_other, length-map}
+use Rattle.std.proofs.lemmas.List.{get_or_append_left, get_or-map, get_or-set_same, get_or-set_other, length-map, replicate_more}
 use Rattle.std.proofs.lemmas.Option.{unwrap_or-slice_get}
 use Rattle.kq_agg.specs.Alone.{alone, cell_as, each_alone}
 use Rattle.kq_agg.specs.declared.reading.Reading.{Reading}
-use Rattle.std.specs.List.{All}
-use Rattle.kq_rows.specs.Chunks.{HasWidth, row_at}
+use Rattle.kq_rows.specs.Chunks.{row_at}
 use Rattle.kq_value.specs.Same.{times}
 use Rattle.kq_value.specs.declared.ty.Ty.TheVariants as ty
 use Rattle.kq_value.specs.declared.value.Value.{Value}
 use Rattle.kq_value.specs.declared.value.Value.TheVariants.{Null}
 use Rattle.kq_vector.specs.Vectors.{cell_of}
-use Rattle.kq_group.specs.Keys.{AreKnown}
-use Rattle.kq_group.proofs.Tables.{take_mapped}
+use Rattle.kq_group.specs.Keys.{AreKnown, Numbers}
+use Rattle.kq_group.proofs.Tables.{Numbers-known, Numbers-step, stands_at, take_mapped}
 
 abbrev Key : Type 0
 Key = List Value
@@ -70,12 +69,24 @@ known_noted keys words known at n within there is are c m e = elim (cases_eq c a
   | inr other ↦ are c m (sym (get_or-set_other known at c (Some n) None other) ∙ e)
 ]
 
--- ---- no cells
+-- ---- the same key again
 
-empty : (key : Key) → length key ≡ 0 → key ≡ []
-empty [] e = refl
-empty (v ∷ key) e = absurd (omega (arith, e))
+-- so many rows of one key, which got its number once
+pub Numbers-same : (old new : List Key) (n : ℕ) (r : Key) (count : ℕ) → Numbers old new (n ∷ []) (r ∷ []) → n < length new → row_at new n ≡ r → Numbers old new (replicate (suc count) n) (replicate (suc count) r)
+Numbers-same old new n r zero g h e = g
+Numbers-same old new n r (suc count) g h e =
+    let before = Numbers-same old new n r count g h e in
+    let after : Numbers old new (replicate (suc count) n ++ n ∷ []) (replicate (suc count) r ++ r ∷ []) = Numbers-known old new (replicate (suc count) n) (replicate (suc count) r) n r before h e (stands_at new r n h e) in
+    subst (λ (ns : List ℕ). Numbers old new ns (replicate (suc (suc count)) r)) (again n count)
+    (subst (λ (rows : List Key). Numbers old new (replicate (suc count) n ++ n ∷ []) rows) (again r count) after)
+  where
+    again : {A : Type 0} (x : A) (m : ℕ) → replicate (suc m) x ++ x ∷ [] ≡ replicate (suc (suc m)) x
+    again x m = replicate_more (suc m) x ∙ ap (λ (k : ℕ). replicate k x) (add-one (suc m))
 
--- the first key of no cells
-pub first_empty : (keys : List Key) → All (HasWidth 0) keys → 0 < length keys → row_at keys 0 ≡ []
-first_empty keys wide some = empty (row_at keys 0) (wide 0 [] some)
+pub Numbers-none : (keys : List Key) → ((k : Key) → times k keys ≤ 1) → Numbers keys keys [] []
+Numbers-none keys once = record { are = tt; added = []; whole = sym (append-nil keys); counts = λ k. let h = once k in omega (arith, h) }
+
+pub Numbers-all : (old new : List Key) (n : ℕ) (r : Key) (count : ℕ) → 0 < count → Numbers old old [] [] → (new ≡ old) ⊎ ((times r old ≡ 0) × (new ≡ old ++ r ∷ [])) → n < length new → row_at new n ≡ r
+    → Numbers old new (replicate count n) (replicate count r)
+Numbers-all old new n r zero some g more h e = absurd (omega arith)
+Numbers-all old new n r (suc count) some g more h e = Numbers-same old new n r count (Numbers-step old old new [] [] n r g more h e) h e

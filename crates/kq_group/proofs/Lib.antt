@@ -1,4 +1,5 @@
 pub mod ColumnKeys
+pub mod Columns
 pub mod Finishing
 pub mod Gathering
 pub mod Groupings

@@ -1,4 +1,5 @@
 pub mod Arguments
+pub mod Columns
 pub mod Grouped
 pub mod Groups
 pub mod Keys

@@ -1,5 +1,5 @@
 // The numbers of the keys that stand in a column.
-ghost use Rattle.std.specs.Prelude.{◌≡◌, ◌<◌, ◌≤◌, ◌⊎◌, ◌++◌, ◌∷◌, [], IfOk, None, Some, OnOk, true, get_or, length, map, set};
+ghost use Rattle.std.specs.Prelude.{◌≡◌, ◌<◌, ◌≤◌, ◌⊎◌, ◌++◌, ◌∷◌, [], IfOk, None, Some, OnOk, true, get_or, length, map, replicate, set};
 ghost use Rattle.kq_rows.specs.Chunks.{row_at};
 ghost use Rattle.kq_agg.specs.Alone.{alone, cell_as, each_alone};
 ghost use Rattle.kq_value.specs.Same.{times};
@@ -15,6 +15,26 @@ use std::alloc::Global;
 use std::slice::from_ref;
 
 impl KeyTable {
+    // The numbers of so many keys of no cells, which are all the same.
+    pub(crate) fn numbers_without_cells(
+        &mut self,
+        alloc: Global,
+        count: usize,
+    ) -> Result<Vec<u32>, Memory>
+        requires table { IsTable self.old }
+        requires wide { self.old.width ≡ 0 }
+        ensures table { IsTable self.new }
+        ensures numbers { IfOk result (λ v. Numbers self.old.keys self.new.keys v.items (replicate count [])) }
+        ensures width { self.new.width ≡ self.old.width }
+    {
+        if count == 0 {
+            return Ok(Vec::new(alloc));
+        }
+        let number = self.number(alloc, &[])?;
+        let numbers = vec![in alloc; number; count]?;
+        Ok(numbers)
+    }
+
     // The numbers of keys of one cell each, those of a column, in order. Those that are new come last.
     pub(crate) fn numbers_of_column(
         &mut self,
@@ -158,7 +178,11 @@ impl KeyTable {
         }
     }
 
-    fn numbers_of_cells(&mut self, alloc: Global, column: &Vector<'_>) -> Result<Vec<u32>, Memory>
+    pub(crate) fn numbers_of_cells(
+        &mut self,
+        alloc: Global,
+        column: &Vector<'_>,
+    ) -> Result<Vec<u32>, Memory>
         requires table { IsTable self.old }
         requires wide { self.old.width ≡ 1 }
         ensures table { IsTable self.new }

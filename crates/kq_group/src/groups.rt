@@ -1,11 +1,12 @@
 // Groups of rows by their keys.
-ghost use Rattle.std.specs.Prelude.{◌≡◌, ◌<◌, ◌≤◌, ◌++◌, List, [], IfNone, IfOk, IfSome, IsTrue, OnOk, ◌↔◌, ◌^◌, length, map};
+ghost use Rattle.std.specs.Prelude.{◌≡◌, ◌<◌, ◌≤◌, ◌++◌, List, [], IfNone, IfOk, IfSome, IsTrue, OnOk, ◌↔◌, ◌^◌, length, map, replicate};
 ghost use Rattle.std.specs.List.{All};
 ghost use Rattle.kq_computed.specs.Computed.{Answers, AnswersAs, Is, and_then};
 ghost use Rattle.kq_rows.specs.Chunks.{HasWidth, row_at};
 ghost use Rattle.kq_agg.specs.Alone.{each_alone};
 ghost use Rattle.kq_agg.specs.Tables.{Numbered};
 ghost use Rattle.kq_group.specs.Arguments.{rows_given};
+ghost use Rattle.kq_group.specs.Columns.{HaveLength, rows_of};
 ghost use Rattle.kq_vector.specs.Vectors.{cells_of};
 ghost use Rattle.kq_group.specs.Grouped.{AreKeys, FitArgs, IsGrouped};
 ghost use Rattle.kq_value.specs.Same.{times};
@@ -150,6 +151,60 @@ impl Groups {
             alloc,
             self.states.as_mut_slice(),
             count,
+            numbers.as_slice(),
+            args,
+        )?;
+        Ok(())
+    }
+
+    /// The same of so many rows, all of the one key of no cells.
+    pub fn add_without_keys(
+        &mut self,
+        alloc: Global,
+        count: usize,
+        args: &[Argument<'_>],
+    ) -> Result<(), Memory>
+        requires whole { HasAllGroups self.old }
+        requires wide { self.old.width ≡ 0 }
+        requires each { length args.now ≡ length self.old.states }
+        requires along { All (λ rows. length rows ≡ count) (rows_given count args.now) }
+        ensures { OnOk result (AddsRows (replicate count []) (rows_given count args.now) self.old self.new) }
+    {
+        let numbers = self.keys.numbers_without_cells(alloc, count)?;
+        let groups = self.keys.keys.len();
+        gather_all(
+            alloc,
+            self.states.as_mut_slice(),
+            groups,
+            numbers.as_slice(),
+            args,
+        )?;
+        Ok(())
+    }
+
+    /// The same of so many rows with keys of several cells, those that stand in these columns.
+    pub fn add_columns(
+        &mut self,
+        alloc: Global,
+        columns: &[Vector<'_>],
+        count: usize,
+        args: &[Argument<'_>],
+    ) -> Result<(), Memory>
+        requires whole { HasAllGroups self.old }
+        requires wide { self.old.width ≡ length columns.now }
+        requires beside { HaveLength count (map cells_of columns.now) }
+        requires each { length args.now ≡ length self.old.states }
+        requires along { All (λ rows. length rows ≡ count) (rows_given count args.now) }
+        ensures { OnOk result (AddsRows (rows_of count (map cells_of columns.now)) (rows_given count args.now) self.old self.new) }
+    {
+        let numbers = self
+            .keys
+            .numbers_of_columns(alloc, columns, count, &mut self.hint)?;
+        let groups = self.keys.keys.len();
+        gather_all(
+            alloc,
+            self.states.as_mut_slice(),
+            groups,
             numbers.as_slice(),
             args,
         )?;

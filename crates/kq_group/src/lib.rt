@@ -4,12 +4,14 @@
 mod aggregated;
 mod argument;
 mod cells;
+mod codes;
 mod column_keys;
 mod gathered;
 mod groups;
 mod hint;
 mod key_table;
 mod merged;
+mod several_keys;
 
 pub use aggregated::Aggregated;
 pub use argument::Argument;

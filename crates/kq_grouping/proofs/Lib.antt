@@ -1,5 +1,7 @@
+pub mod AnyOrder
 pub mod Arguments
 pub mod Columns
+pub mod KeyColumns
 pub mod Pieces
 pub mod Regrouped
 pub mod Stepped

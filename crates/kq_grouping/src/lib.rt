@@ -4,10 +4,12 @@
 
 mod arriving;
 mod grouping;
+mod laws;
 mod steps;
 
 pub use arriving::{Arrived, gather_groups};
 pub use grouping::{add_piece, typed};
 pub use kq_group::Groups;
 pub use kq_lent::{Held, Relation, eval_row};
+pub use laws::groups_have_no_order;
 pub use steps::{operators, stage_in};

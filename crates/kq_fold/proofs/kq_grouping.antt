@@ -1,0 +1,2 @@
+-- What callers of this crate name of `kq_grouping`.
+pub use Rattle.kq_grouping.proofs.AnyOrder
