@@ -5,7 +5,6 @@ use Rattle.std.specs.List.{AllZip, slice_get}
 use Rattle.std.specs.Option.{IfSome, is_some, option_map}
 use Rattle.std.proofs.lemmas.Bool.{eq-eqb, ne_eqb}
 use Rattle.std.proofs.lemmas.List.{length-map, map_push}
-use Rattle.std.proofs.lemmas.List.Sorted.{IsPermutation-refl}
 use Rattle.std.proofs.lemmas.Option.{slice_get-map, slice_get_within}
 use Rattle.kq_group.specs.Groups.{Grouping}
 use Rattle.kq_names.specs.Places.{place_from, place_of}
@@ -20,6 +19,7 @@ use Rattle.kq_model.specs.declared.limits.Limits.{Limits}
 use Rattle.kq_model.specs.Edits.{changed}
 use Rattle.kq_model.specs.History.{History, Log, log, commits_of, cursor as cursor_of, Viewed, views, views_by, view_count, view_cursor, view_cursor_after, names_of_views}
 use Rattle.kq_model.specs.Lawful.{AreLawful, IsFold, LawfulCommit}
+use Rattle.kq_model.specs.kq_grouping.Bodies.{StandsFor}
 use Rattle.kq_model.specs.kq_repeats.Names.{is_among}
 use Rattle.kq_model.specs.Policies.{noted, policies}
 use Rattle.kq_model.specs.Tables.{TableState}
@@ -37,7 +37,7 @@ use Rattle.kq_catalog.specs.Held.{IsHeld}
 use Rattle.kq_catalog.specs.Intents.{BeginsEmpty, commit_of, view_by}
 use Rattle.kq_catalog.specs.Seen.{CatalogView, HoldsHistory, hist}
 use Rattle.kq_catalog.specs.Tagged.{TellsTags}
-use Rattle.kq_catalog.specs.Views.{AreHeldViews, HeldView, IsHeldView, IsPart, WasFolded, fold_event, folded_view, names_held, new_view, viewed_of, with_new}
+use Rattle.kq_catalog.specs.Views.{AreHeldViews, HeldView, IsHeldView, WasFolded, fold_event, folded_view, names_held, new_view, viewed_of, with_new}
 use Rattle.kq_catalog.proofs.Keeping.{map-changed}
 
 -- ---- the views that are held
@@ -72,7 +72,7 @@ still_held limits h e n x lawful at same is =
     ap (λ (l : Log). covered l v v.base m) (log-push h e) ∙ covered-go_on (log h) (commits_of e.operation) v v.base m (over limits h lawful n (viewed_of x) at) within in
     record {
       cursor = is.cursor ∙ sym same;
-      part = subst (λ (k : ℕ). IsPart (planned_of v.body) (covered (log (h ++ e ∷ [])) v v.base k) x.part) (sym same) (subst (λ (rows : List (List Value)). IsPart (planned_of v.body) rows x.part) (sym stays) is.part);
+      part = subst (λ (k : ℕ). StandsFor (planned_of v.body) (covered (log (h ++ e ∷ [])) v v.base k) x.part) (sym same) (subst (λ (rows : List (List Value)). StandsFor (planned_of v.body) rows x.part) (sym stays) is.part);
     }
 
 -- a commit leaves the cursor of a view that stands
@@ -99,7 +99,7 @@ held_new limits h e (CreateView view part) x lawful is new begins =
     let same : new_view made v part ≡ x = cc in
     let none = covered-none (log (h ++ e ∷ [])) v v.base (view_cursor (h ++ e ∷ []) (view_count (log h))) (omega (arith, at)) in
     subst (IsHeldView (h ++ e ∷ []) (view_count (log h))) same
-    (record { cursor = sym at; part = subst (λ (rows : List (List Value)). IsPart (planned_of v.body) rows part) (sym none) (record { order = []; same = IsPermutation-refl []; stands = begins }) })
+    (record { cursor = sym at; part = subst (λ (rows : List (List Value)). StandsFor (planned_of v.body) rows part) (sym none) begins })
 held_new limits h e (SetPolicy table entries) x lawful is new begins = cc
 held_new limits h e (AlterMerge table columns) x lawful is new begins = cc
 held_new limits h e (Ingest parts failures) x lawful is new begins = cc
@@ -149,7 +149,7 @@ some_same h = cc
 
 -- what the part stood for is what the view covers now up to the same cursor
 folded_now : (limits : Limits) (h : History) (e : Event) (view to : ℕ) (part : Grouping) (x : HeldView) → AreLawful limits h → (folded : WasFolded h view to part) → slice_get (views (log h)) view ≡ Some (viewed_of x)
-    → IsPart (planned_of x.view.body) (covered (log (h ++ e ∷ [])) x.view x.view.base to) part
+    → StandsFor (planned_of x.view.body) (covered (log (h ++ e ∷ [])) x.view x.view.base to) part
 folded_now limits h e view to part x lawful folded at =
     let g = take folded.place h in
     let rest = drop folded.place h in
@@ -163,8 +163,8 @@ folded_now limits h e view to part x lawful folded at =
     let v = folded.viewed.view in
     let now : covered (log (h ++ e ∷ [])) v v.base to ≡ covered (log g) v v.base to =
     ap (λ (l : Log). covered l v v.base to) later ∙ covered-go_on (log g) (log rest ++ commits_of e.operation) v v.base to (over limits g parts.0 view folded.viewed folded.stands) folded.within in
-    subst (λ (y : Viewed). IsPart (planned_of y.view.body) (covered (log (h ++ e ∷ [])) y.view y.view.base to) part) same
-    (subst (λ (rows : List (List Value)). IsPart (planned_of v.body) rows part) (sym now) folded.part)
+    subst (λ (y : Viewed). StandsFor (planned_of y.view.body) (covered (log (h ++ e ∷ [])) y.view y.view.base to) part) same
+    (subst (λ (rows : List (List Value)). StandsFor (planned_of v.body) rows part) (sym now) folded.part)
 
 pub views-fold : (limits : Limits) (h : History) (e : Event) (view to : ℕ) (part : Grouping) (held : List HeldView) → AreLawful limits h → AreHeldViews h held → e.operation ≡ operation.Fold view to → WasFolded h view to part
     → AreHeldViews (h ++ e ∷ []) (changed (folded_view to part) view held)
@@ -181,7 +181,7 @@ views-fold limits h e view to part held lawful are is folded = record {
         let there : slice_get (views (log h)) view ≡ Some (viewed_of x) = ap (slice_get (views (log h))) (sym same) ∙ here in
         record {
           cursor = sym next;
-          part = subst (λ (k : ℕ). IsPart (planned_of x.view.body) (covered (log (h ++ e ∷ [])) x.view x.view.base k) part) (sym next) (folded_now limits h e view to part x lawful folded there);
+          part = subst (λ (k : ℕ). StandsFor (planned_of x.view.body) (covered (log (h ++ e ∷ [])) x.view x.view.base k) part) (sym next) (folded_now limits h e view to part x lawful folded there);
         }
 
     other : (n : ℕ) (x : HeldView) → n ≢ view → slice_get held n ≡ Some x → IsHeldView (h ++ e ∷ []) n x

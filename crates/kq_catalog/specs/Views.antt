@@ -2,13 +2,11 @@
 use Rattle.std.specs.Prelude.{◌≡◌, ◌≤◌, ◌<◌, ℕ, List, [], ◌∷◌, ◌++◌, map, take, Option, MatchOption, None, Some}
 use Rattle.std.specs.Borrow.{Bor}
 use Rattle.std.specs.List.{slice_get}
-use Rattle.std.specs.List.Sorted.{IsPermutation}
 use Rattle.std.specs.Option.{option_map}
 use Rattle.kq_group.specs.Groups.{Grouping}
 use Rattle.kq_model.specs.kq_grouping.Bodies.{StandsFor}
 use Rattle.kq_names.specs.Places.{place_of}
-use Rattle.kq_plan.specs.Plans.{Planned, planned_of}
-use Rattle.kq_value.specs.declared.value.Value.{Value}
+use Rattle.kq_plan.specs.Plans.{planned_of}
 use Rattle.kq_model.specs.declared.event.By.{By}
 use Rattle.kq_model.specs.declared.event.Event.{Event}
 use Rattle.kq_model.specs.declared.event.Operation.TheVariants as operation
@@ -33,15 +31,9 @@ names_held = map (λ (h : HeldView). h.view.name)
 
 -- ---- parts
 
--- groups stand for a body over rows in some order
-pub record IsPart (p : Planned) (rows : List (List Value)) (g : Grouping) : Type 0 where
-  pub order : List (List Value)
-  pub same : IsPermutation rows order
-  pub stands : StandsFor p order g
-
 -- groups stand for what a view, by its number, covers up to its cursor
 abbrev pub HoldsPart : History → ℕ → View → Grouping → Type 0
-HoldsPart h n v g = IsPart (planned_of v.body) (covered (log h) v v.base (view_cursor h n)) g
+HoldsPart h n v g = StandsFor (planned_of v.body) (covered (log h) v v.base (view_cursor h n)) g
 
 -- of a view is held what the history says of it: it is materialized up to its cursor, and its part stands for what it covers up to there
 pub record IsHeldView (h : History) (n : ℕ) (held : HeldView) : Type 0 where
@@ -74,7 +66,7 @@ pub record WasFolded (h : History) (view to : ℕ) (g : Grouping) : Type 0 where
   pub viewed : Viewed
   pub stands : slice_get (views (log (take place h))) view ≡ Some viewed
   pub within : to ≤ cursor_of (take place h)
-  pub part : IsPart (planned_of viewed.view.body) (covered (log (take place h)) viewed.view viewed.view.base to) g
+  pub part : StandsFor (planned_of viewed.view.body) (covered (log (take place h)) viewed.view viewed.view.base to) g
 
 -- why a fold isn't staged: the view is materialized as far, or it isn't and memory was wanting
 abbrev pub Trails : History → ℕ → ℕ → FoldFault → Type 0

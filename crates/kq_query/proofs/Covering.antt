@@ -23,7 +23,7 @@ use Rattle.kq_value.specs.declared.value.Value.{Value}
 use Rattle.kq_value.specs.Same.{Same, times}
 use Rattle.kq_value.specs.Typed.{HasTypes, missing_of}
 use Rattle.kq_value.specs.Values.{is_same_row}
-use Rattle.kq_value.proofs.SameLemmas.{Row, Same-append, Same-from_permutation, Same-sym, Same-trans, times-append}
+use Rattle.kq_value.proofs.SameLemmas.{Row, Same-append, Same-refl, Same-sym, Same-trans, times-append}
 use Rattle.kq_widened.specs.Widened.{widened, widened_record, widened_records}
 
 -- ---- rows of the records that pass a test
@@ -143,14 +143,15 @@ module _ (v : View) where
         ∙ ap (λ (rs : List Record). map (row_for v) (filter (is_between above to) rs)) (sym (held_records-wide schema held)) in
         subst (λ (rows : List Row). Same rows (covered l v above to)) (sym is) (kept_same (row_for v) (is_between above to) (held_records (wide_held schema held)) (records l v.source) same)
 
-    -- in some order what is covered up to a cursor, and behind it what is read above that
-    pub all_covered : (held : HeldExtents) (base mark to : ℕ) (order : List Row) → base ≤ mark → mark ≤ to → IsPermutation (covered l v base mark) order
+    -- what is covered up to a cursor, and behind it what is read above that
+    pub all_covered : (held : HeldExtents) (base mark to : ℕ) → base ≤ mark → mark ≤ to
         → IsPermutation (held_records (wide_held (schema_of l v.source) held)) (records l v.source)
-        → Same (order ++ rows_between mark to columns (held_records held)) (covered l v base to)
-    all_covered held base mark to order low high had same =
+        → Same (covered l v base mark ++ rows_between mark to columns (held_records held)) (covered l v base to)
+    all_covered held base mark to low high same =
+        let had = covered l v base mark in
         let delta = rows_between mark to columns (held_records held) in
-        Same-trans (order ++ delta) (covered l v base mark ++ covered l v mark to) (covered l v base to)
-        (Same-append order (covered l v base mark) delta (covered l v mark to) (Same-sym (covered l v base mark) order (Same-from_permutation (covered l v base mark) order had)) (read_covered held mark to same))
+        Same-trans (had ++ delta) (had ++ covered l v mark to) (covered l v base to)
+        (Same-append had had delta (covered l v mark to) (Same-refl had) (read_covered held mark to same))
         (Same-sym (covered l v base to) (covered l v base mark ++ covered l v mark to) (split_same (row_for v) base mark to low high (records l v.source)))
 
 -- ---- an empty range

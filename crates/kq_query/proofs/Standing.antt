@@ -118,8 +118,8 @@ module _ (h : History) (n : ℕ) (v : View) (k : LeafKind) (held : HeldExtents) 
   pub gives_rows : (r : Result (List Row) EvalFault) → v.base ≤ view_cursor h n → view_cursor h n ≤ read_to h k n → HoldsPart h n v part → All (HasTypes (schema_of (log h) v.source)) (rows_in h v.source)
       → ((had : List Row) → StandsFor (planned_of v.body) had part → AnswersMade (planned_of v.body) (had ++ delta) r) → AnswersOne (ViewGives h k n v) r
   gives_rows r low high holds typed made =
-      answers_gives over_table.name columns (planned_of v.body) over_table.body (covered (log h) v v.base (read_to h k n)) (covered_typed v (log h) over_table.columns v.base (read_to h k n) typed) (holds.order ++ delta)
-      (all_covered v (log h) over_table.columns held v.base (view_cursor h n) (read_to h k n) holds.order low high holds.same same) r (made holds.order holds.stands)
+      answers_gives over_table.name columns (planned_of v.body) over_table.body (covered (log h) v v.base (read_to h k n)) (covered_typed v (log h) over_table.columns v.base (read_to h k n) typed) (covered (log h) v v.base (view_cursor h n) ++ delta)
+      (all_covered v (log h) over_table.columns held v.base (view_cursor h n) (read_to h k n) low high same) r (made (covered (log h) v v.base (view_cursor h n)) holds)
 
 -- ---- its columns
 

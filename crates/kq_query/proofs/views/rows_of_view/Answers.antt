@@ -33,7 +33,7 @@ view_rows-requires-clause-body c =
 pub view_rows-requires-clause-part : goal.view_rows-requires-clause-part
 view_rows-requires-clause-part c =
     let holds = view_part c.args.snapshot.now.history c.args.number c.args.view.now c.part.result.now c.requires.stands c.part.ensures in
-    record { had = holds.order; stands = holds.stands }
+    record { had = _; stands = holds }
 
 pub returns-clause-rows : goal.returns-clause-rows
 returns-clause-rows c =
