@@ -1,20 +1,21 @@
 -- Conditions that are joined by `and`.
-use Rattle.std.proofs.Common.{◌≡◌, ◌<◌, ◌+◌, ◌||◌, ◌&&◌, ℕ, Bool, true, false, cond, List, [], ◌∷◌, ◌++◌, length, map, get_or, take, refl, sym, ap, ◌∙◌, subst}
+use Rattle.std.proofs.Common.{◌≡◌, ◌<◌, ◌+◌, ◌||◌, ◌&&◌, ℕ, Bool, true, false, cond, List, [], ◌∷◌, ◌++◌, length, map, get_or, take, refl, sym, ap, ◌∙◌, subst, arith}
 use Rattle.std.proofs.lemmas.List.{map-append, take_more}
 use Rattle.kq_value.specs.declared.ty.Ty.TheVariants as ty
 use Rattle.kq_value.specs.declared.value.Value.{Value}
 use Rattle.kq_value.specs.declared.value.Value.TheVariants as value
+use Rattle.kq_value.specs.declared.zone.ZoneOp.{ZoneOp}
 use Rattle.kq_arithmetic.specs.Logic.{conjunction, is_no, is_yes}
 use Rattle.kq_computed.specs.Computed.{Is}
 use Rattle.kq_expr.specs.declared.expr.Link.{Link}
 use Rattle.kq_expr.specs.declared.expr.Link.TheVariants as link
 use Rattle.kq_expr.specs.declared.operation.Operation.TheVariants as operation
 use Rattle.kq_expr.specs.declared.expr.Expr.{Expr}
-use Rattle.kq_expr.specs.Terms.{Term, chained, link_of, linked}
+use Rattle.kq_expr.specs.Terms.{Term, and_term, call, chained, column, link_of, linked, literal, no_term, terms_of}
 use Rattle.kq_fn.specs.declared.function.Function.TheVariants as f
 use Rattle.kq_stretch.specs.kq_piecewise.Operators.{Row}
 use Rattle.kq_stretch.specs.kq_scalar.Val.{Surroundings, called, cell_of, meaning}
-use Rattle.kq_lent.specs.Ruled.{Compares, IsConjunct, IsJudged, KeepsNone, MeetNone, answered}
+use Rattle.kq_lent.specs.Ruled.{AreEnds, Compares, IsConjunct, IsJudged, KeepsNone, MeetNone, answered}
 use Rattle.kq_lent.specs.declared.ruled.Comparison.{Comparison}
 use Rattle.kq_lent.proofs.LeftOut.{compares_none}
 
@@ -40,7 +41,7 @@ judged_one e c rows none compares met = record {
 both_come : (e a : Term) (s : Surroundings) (row : Row) (v w : Value) → meaning e s row ≡ Is v → meaning a s row ≡ Is w → meaning (linked e (link.With operation.And a)) s row ≡ Is (conjunction v w)
 both_come e a s row v w p q = (λ i. called f.And ((λ (t : Surroundings) (r : List Value). p i) ∷ (λ (t : Surroundings) (r : List Value). q i) ∷ []) s row)
 
-both_judged : (e a : Term) (rows : List Row) (none more : Bool) → IsJudged e rows none → IsJudged a rows more → IsJudged (linked e (link.With operation.And a)) rows (none || more)
+pub both_judged : (e a : Term) (rows : List Row) (none more : Bool) → IsJudged e rows none → IsJudged a rows more → IsJudged (linked e (link.With operation.And a)) rows (none || more)
 both_judged e a rows none more first second = record {
   comes = λ s k d within.
       let p = first.comes s k d within in
@@ -84,3 +85,43 @@ pub chain_more : (e : Term) (ls : List (Link Expr)) (i : ℕ) (l : Link Expr) �
 chain_more e ls i l within is =
     ap (λ (ks : List (Link Expr)). chained e (map link_of ks)) (take_more ls i l within ∙ ap (λ (k : Link Expr). take i ls ++ k ∷ []) (sym is))
     ∙ ap (chained e) (map-append link_of (take i ls) (l ∷ [])) ∙ linked_last e (map link_of (take i ls)) (link_of l)
+
+-- what is judged of a term is judged of one that comes to the same for each row
+judged_as : (e a : Term) (rows : List Row) (none : Bool) → ((s : Surroundings) (row : Row) → meaning a s row ≡ meaning e s row) → IsJudged e rows none → IsJudged a rows none
+judged_as e a rows none same judged = record {
+  comes = λ s k d within. let p = judged.comes s k d within in (p.0, same s (get_or rows k d) ∙ p.1);
+  none = λ told s k d within. let p = judged.none told s k d within in (p.0, same s (get_or rows k d) ∙ p.1, p.2);
+}
+
+low_end : (args : List Term) (low high : Comparison) → AreEnds args low high → Compares (call f.AtLeast (and_term (column low.column) (and_term (literal low.value.now) no_term))) low
+low_end args low high ends = record { is = λ s row. ap (λ (o : ZoneOp). Is (answered o (cell_of row low.column) low.value.now)) (sym ends.at_least) }
+
+high_end : (args : List Term) (low high : Comparison) → AreEnds args low high → Compares (call f.AtMost (and_term (column low.column) (and_term (literal high.value.now) no_term))) high
+high_end args low high ends = record {
+  is = λ s row. ap (λ (o : ZoneOp). Is (answered o (cell_of row low.column) high.value.now)) (sym ends.at_most)
+      ∙ ap (λ (j : ℕ). Is (answered high.op (cell_of row j) high.value.now)) (sym ends.same);
+}
+
+pub ends_judged : (args : List Term) (low high : Comparison) (rows : List Row) (none more : Bool) → AreEnds args low high → (none ≡ true → MeetNone low rows) → (more ≡ true → MeetNone high rows) → IsJudged (call f.Between (terms_of args)) rows (none || more)
+ends_judged args low high rows none more ends first second =
+    let e = call f.AtLeast (and_term (column low.column) (and_term (literal low.value.now) no_term)) in
+    let a = call f.AtMost (and_term (column low.column) (and_term (literal high.value.now) no_term)) in
+    let joined = both_judged e a rows none more (judged_one e low rows none (low_end args low high ends) first) (judged_one a high rows more (high_end args low high ends) second) in
+    subst (λ (ts : List Term). IsJudged (call f.Between (terms_of ts)) rows (none || more)) (sym ends.args_are)
+    (judged_as (linked e (link.With operation.And a)) (call f.Between (and_term (column low.column) (and_term (literal low.value.now) (and_term (literal high.value.now) no_term)))) rows (none || more) (λ s row. refl) joined)
+
+-- a list of two
+pub two_items : {A : Type 0} (xs : List A) (a b : A) → length xs ≡ 2 → a ≡ get_or xs 0 a → b ≡ get_or xs 1 b → xs ≡ a ∷ b ∷ []
+two_items [] a b long first second = absurd (cc)
+two_items (x ∷ []) a b long first second = absurd (cc)
+two_items (x ∷ y ∷ []) a b long first second = (λ i. sym first i ∷ sym second i ∷ [])
+two_items (x ∷ y ∷ z ∷ xs) a b long first second = absurd (omega (arith, long))
+
+-- whether the first of two holds says which of them tells whether one does
+pub first_of : (a b : Bool) → a ≡ true → (a || b) ≡ a
+first_of true b h = refl
+first_of false b h = cc
+
+pub second_of : (a b : Bool) → a ≡ false → (a || b) ≡ b
+second_of true b h = cc
+second_of false b h = refl

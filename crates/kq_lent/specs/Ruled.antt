@@ -14,7 +14,7 @@ use Rattle.kq_computed.specs.Computed.{Is}
 use Rattle.kq_expr.specs.declared.expr.Link.{Link}
 use Rattle.kq_expr.specs.declared.expr.Link.TheVariants as link
 use Rattle.kq_expr.specs.declared.operation.Operation.TheVariants as operation
-use Rattle.kq_expr.specs.Terms.{Term, and_term, call, no_term}
+use Rattle.kq_expr.specs.Terms.{Term, and_term, call, column, literal, no_term}
 use Rattle.kq_fn.specs.declared.function.Function.{Function}
 use Rattle.kq_widened.specs.Widened.{missing_at}
 use Rattle.kq_stretch.specs.kq_piecewise.Operators.{Row}
@@ -38,6 +38,13 @@ pub record Answers (function : Function) (o : ZoneOp) : Type 0 where
 -- the term answers of each row as this comparison of its cell
 pub record Compares (e : Term) (c : Comparison) : Type 0 where
   pub is : (s : Surroundings) (row : Row) → meaning e s row ≡ Is (answered c.op (cell_of row c.column) c.value.now)
+
+-- the two comparisons that stand for a `between`: of the same column's cell with the least and with the greatest
+pub record AreEnds (args : List Term) (low high : Comparison) : Type 0 where
+  pub at_least : low.op ≡ op.AtLeast
+  pub at_most : high.op ≡ op.AtMost
+  pub same : high.column ≡ low.column
+  pub args_are : args ≡ column low.column ∷ literal low.value.now ∷ literal high.value.now ∷ []
 
 -- the comparison is false or null for a cell
 abbrev pub IsNotMet : Comparison → Value → Type 0

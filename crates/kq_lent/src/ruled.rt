@@ -1,10 +1,11 @@
 // Parts of which the first operator keeps no row, by the least and the greatest cell of a column.
 ghost use Rattle.std.specs.Prelude.{◌≡◌, ◌∷◌, [], IfSome, false, map, true};
-ghost use Rattle.kq_expr.specs.Terms.{chained, column as plain, link_of, literal, term_of};
+ghost use Rattle.kq_expr.specs.Terms.{call, chained, column as plain, link_of, literal, term_of, terms_of};
+ghost use Rattle.kq_fn.specs.declared.function.Function.TheVariants as f;
 ghost use Rattle.kq_stretch.specs.Operators.{rowwise_of};
 ghost use Rattle.kq_stretch.specs.Pieces.{rows_in as piece_rows};
 ghost use Rattle.kq_lent.specs.Lent.{extent_of, rows_of};
-ghost use Rattle.kq_lent.specs.Ruled.{Answers, Compares, FirstKeeps, IsConjunct, IsJudged, IsPlain, KeepsNone, LeavesNothing, LiesOutside, MeetNone, MeetsNoneBetween, MissingIsNull};
+ghost use Rattle.kq_lent.specs.Ruled.{Answers, AreEnds, Compares, FirstKeeps, IsConjunct, IsJudged, IsPlain, KeepsNone, LeavesNothing, LiesOutside, MeetNone, MeetsNoneBetween, MissingIsNull};
 ghost use Rattle.kq_lent.specs.Sources.{source_rows};
 
 use crate::records::Records;
@@ -94,8 +95,74 @@ fn link_judged(link: &Link<Expr>, records: &Records) -> Option<bool>
     }
 }
 
-// Whether the condition is true for no record, where it is one that never overflows.
+// Whether the condition is true for no record, where it is one that never overflows: two that are joined by `and`, or one.
 fn judged(condition: &Expr, records: &Records) -> Option<bool>
+    ensures { IfSome result (IsJudged (term_of condition.now) (rows_of (extent_of records.now))) }
+{
+    match condition {
+        Expr::Call(Function::And, operands) => both_judged(operands.as_slice(), records),
+        _ => one_judged(condition, records),
+    }
+}
+
+fn both_judged(operands: &[Expr], records: &Records) -> Option<bool>
+    ensures { IfSome result (IsJudged (call f.And (terms_of (map term_of operands.now))) (rows_of (extent_of records.now))) }
+{
+    match operands {
+        [first, second] => {
+            let none = one_judged(first, records)?;
+            let more = one_judged(second, records)?;
+            Some(none || more)
+        }
+        _ => None,
+    }
+}
+
+fn one_judged(condition: &Expr, records: &Records) -> Option<bool>
+    ensures { IfSome result (IsJudged (term_of condition.now) (rows_of (extent_of records.now))) }
+{
+    match condition {
+        Expr::Call(Function::Between, args) => between_judged(args.as_slice(), records),
+        _ => comparison_judged(condition, records),
+    }
+}
+
+// Of a column's cell between two literals.
+fn between_judged(args: &[Expr], records: &Records) -> Option<bool>
+    ensures { IfSome result (IsJudged (call f.Between (terms_of (map term_of args.now))) (rows_of (extent_of records.now))) }
+{
+    let (low, high) = ends_in(args)?;
+    let none = meet_none(records, low);
+    let more = meet_none(records, high);
+    Some(none || more)
+}
+
+// The two comparisons that a `between` joins.
+fn ends_in(args: &[Expr]) -> Option<(Comparison<'_>, Comparison<'_>)>
+    ensures { IfSome result (λ c. AreEnds (map term_of args.now) c.0 c.1) }
+{
+    match args {
+        [
+            Expr::Column(column),
+            Expr::Literal(low),
+            Expr::Literal(high),
+        ] => Some((
+            Comparison {
+                column: *column,
+                op: ZoneOp::AtLeast,
+                value: low,
+            },
+            Comparison {
+                column: *column,
+                op: ZoneOp::AtMost,
+                value: high,
+            },
+        )),
+        _ => None,
+    }
+}
+
+fn comparison_judged(condition: &Expr, records: &Records) -> Option<bool>
     ensures { IfSome result (IsJudged (term_of condition.now) (rows_of (extent_of records.now))) }
 {
     match comparison_in(condition) {
