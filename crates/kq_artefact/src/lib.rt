@@ -3,6 +3,7 @@
 #![tactic(auto)]
 
 mod fields;
+mod recorder;
 mod rows;
 
 pub use rows::artefact_of;
