@@ -6,3 +6,4 @@ mod Stops
 pub mod TagLemmas
 pub mod Taking
 pub mod Texts
+pub mod TokenLemmas

@@ -1,3 +1,4 @@
 pub mod Ingestion
 pub mod Reading
 pub mod TagTexts
+pub mod Tokens

@@ -5,7 +5,7 @@ ghost use Rattle.kq_value.specs.declared.ty.Ty.TheVariants as types;
 ghost use Rattle.kq_ingest.specs.Ingestion.{cell_in};
 
 use crate::dynamic::read_shared;
-use crate::shared::Texts;
+use crate::shared::Kept;
 use kq_numerals::{read_bool, read_int, read_long, trim};
 use kq_time::{read_datetime, read_timespan};
 use kq_value::{Dyn, Memory, Ty, Value};
@@ -56,37 +56,37 @@ fn span_cell(text: &str) -> Value
     }
 }
 
-fn dynamic_cell(alloc: Global, texts: &mut Texts, text: &str) -> Result<Value, Memory>
+fn dynamic_cell(alloc: Global, kept: &mut Kept, text: &str) -> Result<Value, Memory>
     ensures { IfOk result (λ cell. cell ≡ cell_of types.Dynamic text.now) }
 {
     if text.is_empty() {
         return Value::dynamic(alloc, Dyn::Null);
     }
-    match read_shared(alloc, texts, text)? {
+    match read_shared(alloc, kept, text)? {
         Some(dynamic) => Value::dynamic(alloc, dynamic),
-        None => Value::dynamic(alloc, Dyn::Text(texts.text(alloc, text)?)),
+        None => Value::dynamic(alloc, Dyn::Text(kept.texts.text(alloc, text)?)),
     }
 }
 
-fn cell_from(alloc: Global, texts: &mut Texts, ty: Ty, text: &str) -> Result<Value, Memory>
+fn cell_from(alloc: Global, kept: &mut Kept, ty: Ty, text: &str) -> Result<Value, Memory>
     ensures value { IfOk result (λ cell. cell ≡ cell_of ty text.now) }
     ensures numbers { ty ≢ types.Text → ty ≢ types.Dynamic → IsOk result }
 {
     match ty {
         Ty::Long => Ok(long_cell(text)),
         Ty::Int => Ok(int_cell(text)),
-        Ty::Text => Ok(Value::Text(texts.text(alloc, text)?)),
+        Ty::Text => Ok(Value::Text(kept.texts.text(alloc, text)?)),
         Ty::Bool => Ok(bool_cell(text)),
         Ty::Moment => Ok(moment_cell(text)),
         Ty::Span => Ok(span_cell(text)),
-        Ty::Dynamic => dynamic_cell(alloc, texts, text),
+        Ty::Dynamic => dynamic_cell(alloc, kept, text),
     }
 }
 
 // The cell of a column of this type, from the text in its place, if there is one. Only a string and a dynamic take memory.
 pub(crate) fn read_cell(
     alloc: Global,
-    texts: &mut Texts,
+    kept: &mut Kept,
     ty: Ty,
     text: Option<&str>,
 ) -> Result<Value, Memory>
@@ -94,7 +94,7 @@ pub(crate) fn read_cell(
     ensures numbers { ty ≢ types.Text → ty ≢ types.Dynamic → IsOk result }
 {
     match text {
-        Some(text) => cell_from(alloc, texts, ty, text),
+        Some(text) => cell_from(alloc, kept, ty, text),
         None => Value::missing(alloc, ty),
     }
 }

@@ -9,8 +9,9 @@ ghost use Rattle.kq_ingest.specs.Ingestion.{IsFaultAt, first_fault, is_wide, row
 
 use crate::cell::read_cell;
 use crate::fault::IngestFault;
-use crate::shared::Texts;
+use crate::shared::{Kept, Texts};
 use csv::{Error, ErrorKind, Reader, ReaderBuilder, StringRecord};
+use json::Scratch;
 use kq_rows::Rows;
 use kq_value::{Memory, Schema, Value};
 use std::alloc::Global;
@@ -18,7 +19,7 @@ use std::alloc::Global;
 // Fills a row that has no cells yet with those of a record.
 fn fill_row(
     alloc: Global,
-    texts: &mut Texts,
+    kept: &mut Kept,
     row: &mut Vec<Value>,
     cells: &StringRecord,
     schema: &Schema,
@@ -28,7 +29,7 @@ fn fill_row(
 {
     let fields = schema.as_slice();
     for i in 0..fields.len() {
-        row.push(read_cell(alloc, texts, fields[i].ty, cells.get(i))?)?;
+        row.push(read_cell(alloc, kept, fields[i].ty, cells.get(i))?)?;
     }
     Ok(())
 }
@@ -36,7 +37,7 @@ fn fill_row(
 // Adds the record's row, unless it is too wide or one row too many. The row is read into `row` and moves on from there.
 fn add_row(
     alloc: Global,
-    texts: &mut Texts,
+    kept: &mut Kept,
     rows: &mut Rows,
     row: &mut Vec<Value>,
     cells: &StringRecord,
@@ -61,7 +62,7 @@ fn add_row(
     if before >= limit {
         return Err(IngestFault::Full { limit });
     }
-    fill_row(alloc, texts, row, cells, schema)?;
+    fill_row(alloc, kept, row, cells, schema)?;
     rows.push_from(row)?;
     Ok(())
 }
@@ -113,7 +114,11 @@ pub fn read_rows(
         .flexible(true)
         .from_reader(alloc, body.as_bytes());
     let mut cells = StringRecord::new(alloc);
-    let mut texts = Texts::new(alloc)?;
+    let mut kept = Kept {
+        texts: Texts::new(alloc)?,
+        scratch: Scratch::new(alloc),
+        entries: 0,
+    };
     let mut rows = Rows::new(alloc);
     let mut row = Vec::new(alloc);
     let mut skip = skip_first;
@@ -122,7 +127,7 @@ pub fn read_rows(
             skip = false;
         } else {
             add_row(
-                alloc, &mut texts, &mut rows, &mut row, &cells, schema, skip_first, limit,
+                alloc, &mut kept, &mut rows, &mut row, &cells, schema, skip_first, limit,
             )?;
         }
     }

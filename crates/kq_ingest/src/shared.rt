@@ -1,6 +1,7 @@
-// Short texts that come again and again, which their copies share.
+// What is kept from cell to cell, so that a cell takes no memory but what stays of it.
 ghost use Rattle.std.specs.Prelude.{◌≡◌, ◌<◌, IfOk};
 
+use json::Scratch;
 use kq_value::{Memory, Text};
 use std::alloc::Global;
 
@@ -9,7 +10,16 @@ const KEPT: usize = 256;
 
 const LONGEST: usize = 32;
 
-// The last text of each place. A place is found by the bytes, and what stands there is compared.
+#[derive(Drop)]
+pub(crate) struct Kept {
+    pub(crate) texts: Texts,
+    // Where JSON is read.
+    pub(crate) scratch: Scratch,
+    // How many entries the last bag had, as the next is likely to have.
+    pub(crate) entries: usize,
+}
+
+// Short texts that come again and again, which their copies share: the last text of each place. A place is found by the bytes, and what stands there is compared.
 #[derive(Drop)]
 pub(crate) struct Texts {
     kept: Vec<Text>,

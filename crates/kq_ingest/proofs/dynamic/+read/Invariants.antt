@@ -1,21 +1,24 @@
-use Rattle.std.proofs.Common.{◌≡◌, ◌+◌, ◌*◌, List, ◌++◌, take}
-use Rattle.serde_json.specs.Data.{depth, items_depth, members_depth}
-use Rattle.serde_json.specs.View.{view, items_view, members_view}
-use Rattle.serde_json.proofs.Views.{Entry}
-use Rattle.kq_dynamic.proofs.Collected.{AreItems, AreMembers}
+use Rattle.std.proofs.Common.{◌+◌, ◌*◌, length}
+use Rattle.kq_ingest.proofs.TokenLemmas.{ItemsRead, EntriesRead}
 use Rattle.kq_ingest.proofs.dynamic.+read.Given as goal
 
-abbrev pub decreases-dyn_from : goal.decreases-dyn_from
-decreases-dyn_from l = 2 * depth (view l.value.now)
+abbrev pub decreases-read_value : goal.decreases-read_value
+decreases-read_value l = 2 * l.depth
 
-abbrev pub decreases-list_from : goal.decreases-list_from
-decreases-list_from l = 2 * items_depth (items_view l.items.now.items) + 1
+abbrev pub decreases-read_items : goal.decreases-read_items
+decreases-read_items l = 2 * l.depth + 1
 
-abbrev pub decreases-bag_from : goal.decreases-bag_from
-decreases-bag_from l = 2 * members_depth (members_view l.members.now.entries) + 1
+abbrev pub decreases-read_members : goal.decreases-read_members
+decreases-read_members l = 2 * l.depth + 1
 
-abbrev pub invariant-list_from-loop-item : goal.invariant-list_from-loop-item
-invariant-list_from-loop-item l = AreItems (take l.item-index l.item-items) l.list.items
+abbrev pub invariant-read_items-items : goal.invariant-read_items-items
+invariant-read_items-items l = ItemsRead l.depth l.initial.reader l.reader l.list.items
 
-abbrev pub invariant-bag_from-loop-key : goal.invariant-bag_from-loop-key
-invariant-bag_from-loop-key l = (done : List Entry) × (l.members.entries ≡ done ++ l.key-iterator) × AreMembers done l.bag.items
+abbrev pub decreases-read_items-items : goal.decreases-read_items-items
+decreases-read_items-items l = length l.reader
+
+abbrev pub invariant-read_members-members : goal.invariant-read_members-members
+invariant-read_members-members l = EntriesRead l.depth l.initial.reader l.reader l.bag.items
+
+abbrev pub decreases-read_members-members : goal.decreases-read_members-members
+decreases-read_members-members l = length l.reader
