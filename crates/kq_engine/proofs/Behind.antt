@@ -2,14 +2,14 @@
 use Rattle.std.proofs.Common.{◌≡◌, ◌≤◌, ℕ, List, ◌++◌, Some, Result, Ok, Err, IfOk, ap, sym, ◌∙◌, subst}
 use Rattle.std.specs.List.{slice_get}
 use Rattle.std.specs.List.Sorted.{IsPermutation}
-use Rattle.std.proofs.lemmas.List.Sorted.{IsPermutation-append, IsPermutation-trans}
 use Rattle.kq_catalog.specs.Seen.{CatalogView, Sound, hist}
-use Rattle.kq_catalog.specs.Views.{HoldsPart, IsPart}
+use Rattle.kq_catalog.specs.Views.{HoldsPart}
 use Rattle.kq_extent.specs.Seen.{HeldExtents, held_records}
 use Rattle.kq_extent.specs.Wide.{wide_held}
 use Rattle.kq_fold.specs.Folds.{IsPartOf}
 use Rattle.kq_catalog.specs.kq_group.Groups.{Grouping}
 use Rattle.kq_bind_body.specs.kq_grouping.Bodies.{IsViewBody, OverflowsAt, StandsFor, columns_read}
+use Rattle.kq_fold.proofs.kq_grouping.AnyOrder.{StandsFor-any_order}
 use Rattle.kq_model.specs.declared.view.View.{View}
 use Rattle.kq_model.specs.History.{Log, Viewed, cursor, log, view_cursor, views}
 use Rattle.kq_model.specs.Records.{records, schema_of}
@@ -22,7 +22,8 @@ use Rattle.kq_query.proofs.Standing.{IsNumbered, numbered, view_from, view_part,
 use Rattle.kq_query.specs.Views.{view_numbered}
 use Rattle.kq_scan.specs.Delta.{rows_between}
 use Rattle.kq_value.specs.declared.schema.Field.{Field}
-use Rattle.kq_value.proofs.SameLemmas.{IsPermutation-from_Same, Row, Same-sym}
+use Rattle.kq_value.proofs.SameLemmas.{IsPermutation-from_Same, Row, Same-append, Same-from_permutation, Same-refl, Same-sym, Same-trans}
+use Rattle.kq_value.specs.Same.{Same}
 use Rattle.kq_engine.specs.declared.work.Folding.{Folding}
 use Rattle.kq_engine.specs.Folds.{IsFoldingIn, OverflowsBeyond}
 
@@ -44,16 +45,22 @@ reads_since l v held above to fields low high (Ok rows) over same columns from u
 reads_since l v held above to fields low high (Err e) over same columns from up is = is
 
 -- what is covered up to a cursor and what is covered behind it
-both_covered : (l : Log) (v : View) (base at to : ℕ) (order rows : List Row) → base ≤ at → at ≤ to → IsPermutation (covered l v base at) order → IsPermutation (covered l v at to) rows → IsPermutation (covered l v base to) (order ++ rows)
-both_covered l v base at to order rows low high had new =
-    IsPermutation-trans (covered l v base to) (covered l v base at ++ covered l v at to) (order ++ rows)
-    (IsPermutation-from_Same (covered l v base to) (covered l v base at ++ covered l v at to) (split_same (row_for v) base at to low high (records l v.source)))
-    (IsPermutation-append (covered l v base at) order (covered l v at to) rows had new)
+both_covered : (l : Log) (v : View) (base at to : ℕ) (rows : List Row) → base ≤ at → at ≤ to → IsPermutation (covered l v at to) rows → Same (covered l v base at ++ rows) (covered l v base to)
+both_covered l v base at to rows low high new =
+    let had = covered l v base at in
+    let more = covered l v at to in
+    Same-trans (had ++ rows) (had ++ more) (covered l v base to)
+    (Same-append had had rows more (Same-refl had) (Same-sym more rows (Same-from_permutation more rows new)))
+    (Same-sym (covered l v base to) (had ++ more) (split_same (row_for v) base at to low high (records l v.source)))
 
 -- a view that stands, with its part and the rows behind that in some order
 module _ (c : CatalogView) (n : ℕ) (v : View) (part : Grouping) (rows : List Row) (sound : Sound c) (stands : view_numbered (hist c) n ≡ Some v)
     (holds : (w : Viewed) → slice_get (views (log (hist c))) n ≡ Some w → HoldsPart (hist c) n w.view part)
     (new : IsPermutation (covered (log (hist c)) v (view_cursor (hist c) n) (cursor (hist c))) rows) where
+  -- what the part stands for
+  abbrev had : List Row
+  had = covered (log (hist c)) v v.base (view_cursor (hist c) n)
+
   held : HoldsPart (hist c) n v part
   held = view_part (hist c) n v part stands holds
 
@@ -61,11 +68,10 @@ module _ (c : CatalogView) (n : ℕ) (v : View) (part : Grouping) (rows : List R
   one = numbered (hist c) n v stands
 
   pub part_of : IsPartOf (planned_of v.body) part
-  part_of = record { had = held.order; stands = held.stands }
+  part_of = record { had = had; stands = held }
 
-  all_held : IsPermutation (covered (log (hist c)) v v.base (cursor (hist c))) (held.order ++ rows)
-  all_held =
-      both_covered (log (hist c)) v v.base (view_cursor (hist c) n) (cursor (hist c)) held.order rows (view_from c n v sound stands) (view_up c n v kind.View sound stands) held.same new
+  all_held : Same (had ++ rows) (covered (log (hist c)) v v.base (cursor (hist c)))
+  all_held = both_covered (log (hist c)) v v.base (view_cursor (hist c) n) (cursor (hist c)) rows (view_from c n v sound stands) (view_up c n v kind.View sound stands) new
 
   pub folding_in : (f : Folding) → f.view ≡ n → f.to ≡ cursor (hist c) → ((had : List Row) → StandsFor (planned_of v.body) had part → StandsFor (planned_of v.body) (had ++ rows) f.part) → IsFoldingIn (hist c) n f
   folding_in f same to folds = record {
@@ -73,7 +79,7 @@ module _ (c : CatalogView) (n : ℕ) (v : View) (part : Grouping) (rows : List R
     viewed = one.viewed;
     stands = one.at;
     to = to;
-    part = subst (λ (w : View). IsPart (planned_of w.body) (covered (log (hist c)) w w.base (cursor (hist c))) f.part) (sym one.is) (record { order = held.order ++ rows; same = all_held; stands = folds held.order held.stands });
+    part = subst (λ (w : View). StandsFor (planned_of w.body) (covered (log (hist c)) w w.base (cursor (hist c))) f.part) (sym one.is) (StandsFor-any_order (planned_of v.body) (had ++ rows) (covered (log (hist c)) v v.base (cursor (hist c))) f.part all_held (folds had held));
   }
 
   pub overflows_in : (stage : ℕ) → OverflowsAt (planned_of v.body) rows stage → OverflowsBeyond (hist c) n stage

@@ -4,7 +4,8 @@ use Rattle.std.specs.List.{slice_get}
 use Rattle.std.proofs.lemmas.Bool.{eq-eqb}
 use Rattle.std.proofs.lemmas.List.{map-append, take-append-le}
 use Rattle.std.proofs.lemmas.Option.{slice_get_within}
-use Rattle.kq_catalog.specs.Views.{IsPart, WasFolded, fold_event}
+use Rattle.kq_bind_body.specs.kq_grouping.Bodies.{StandsFor}
+use Rattle.kq_catalog.specs.Views.{WasFolded, fold_event}
 use Rattle.kq_command.specs.declared.columns.Identifier.{Identifier}
 use Rattle.kq_command.specs.declared.command.Command.{Command}
 use Rattle.kq_command.specs.declared.command.Command.TheVariants as commands
@@ -50,7 +51,7 @@ folding_made h place command f is =
       viewed = viewed;
       stands = ap (slice_get (views (log (take place h)))) folding.of ∙ folding.stands;
       within = let to = folding.to in omega (arith, to);
-      part = subst (λ (n : ℕ). IsPart (planned_of viewed.view.body) (covered (log (take place h)) viewed.view viewed.view.base n) f.part) (sym folding.to) folding.part;
+      part = subst (λ (n : ℕ). StandsFor (planned_of viewed.view.body) (covered (log (take place h)) viewed.view viewed.view.base n) f.part) (sym folding.to) folding.part;
     }
 
 -- it takes memory to find it, outside the lock

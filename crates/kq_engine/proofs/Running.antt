@@ -23,14 +23,13 @@ use Rattle.kq_engine.specs.Fits.{Fits, FitsNow, Advances, MayMake, event_by, own
 use Rattle.kq_engine.specs.Found.{IsPrepared, IsReady, MayWantMemory, TakesMemory, TakesToFinish, WantsToFinish}
 use Rattle.kq_engine.specs.Merges.{IsStill, NamesAll}
 use Rattle.kq_engine.proofs.Telling.{still_requested, still_names}
-use Rattle.kq_engine.proofs.Wanting.{commit_finds, found_wants, merging_finds, merging_outside}
+use Rattle.kq_engine.proofs.Preparing.{ready_wants}
 use Rattle.kq_catalog.specs.Intents.{commit_of}
 use Rattle.kq_command.specs.declared.command.Command.{Command}
 use Rattle.kq_reply.specs.declared.refusal.Refusal.{Refusal}
 use Rattle.kq_reply.specs.declared.refusal.Refusal.TheVariants as refusals
 use Rattle.kq_reply.specs.declared.reply.Reply.TheVariants as replies
 use Rattle.kq_engine.specs.Steps.{work_of, place_of, is_finished, request_of, opens, tells, commits_told, Moment, start, IsBare, Tells, Accounts, ByStep, Leads, TellsOf, Runs, IsOpen, IsRun, IsAt, one_if_some}
-use Rattle.kq_engine.proofs.Bringing.{folding_finds, folding_outside}
 use Rattle.kq_engine.proofs.Advancing.{Fits-append, Fits-end}
 use Rattle.kq_engine.proofs.Stepping.{same_by-true, same_by-itself, work_of-append, work_of-new, place_of-append, place_of-new, one-begin, one-finish, is_finished-begin, is_finished-finish, is_finished-begun, is_finished-append, is_finished-now}
 
@@ -241,13 +240,6 @@ moved_gone false o o' t k e f (inr (q, one)) = cc
 
 some_given : (t : Told) (made : Option Operation) → t ∷ [] ≡ [] → made ≡ None
 some_given t made e = cc
-
-ready_wants : (limits : Limits) (h : History) (place : ℕ) (later : History) (now : ℤ) (command : Command) (ready : Ready) → IsReady limits h now command ready → TakesToFinish place later command ready → MayWantMemory h later command
-ready_wants limits h place later now command (readies.Answered reply) is takes = absurd takes
-ready_wants limits h place later now command (readies.ToCommit offer) is takes = inl (found_wants h command is.0 (commit_finds limits h command (commit_of offer.intent) is.1.due))
-ready_wants limits h place later now command (readies.ToMerge merging) is takes = inl (found_wants h command (merging_outside h command merging is) (merging_finds h command merging is))
-ready_wants limits h place later now command (readies.ToFold folding) is takes = inl (found_wants h command (folding_outside h command folding is) (folding_finds h command folding is))
-ready_wants limits h place later now command readies.Pending is takes = inr takes
 
 -- open work is finished
 pub finish_open : (limits : Limits) (xs : List Step) (c : By) (old new : CatalogView) (open_ones : List Prepared) (outcomes : List Told) (i : ℕ) (p : Prepared) (outcome : Outcome) → IsAt (opens c) open_ones i → p ≡ slice_index_or open_ones i p → new.limits ≡ old.limits → Advances old.limits old.history new.history p.work p.place outcome → WantsToFinish p.place new.history p.work.command p.ready outcome → IsRun limits xs old open_ones outcomes → IsRun limits (xs ++ Finish c ∷ []) new (remove open_ones i) (outcomes ++ record { by = c; began = p.place; outcome = outcome } ∷ [])

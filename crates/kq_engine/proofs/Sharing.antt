@@ -1,18 +1,20 @@
 -- What one take of the catalogue does to a pass.
-use Rattle.std.proofs.Common.{◌≡◌, ◌≤◌, ◌+◌, ℕ, false, List, [], ◌∷◌, ◌++◌, length, take, refl, ap, sym, ◌∙◌, subst, append-nil, append_assoc, length-append, arith, inr, None, add-zero}
+use Rattle.std.proofs.Common.{◌≡◌, ◌≤◌, ◌+◌, ℕ, false, List, [], ◌∷◌, ◌++◌, length, take, refl, ap, sym, ◌∙◌, subst, append-nil, append_assoc, length-append, arith, inl, inr, None, add-zero}
 use Rattle.std.proofs.lemmas.List.{take_all}
 use mathlib.Core.List.{IsPrefix}
 use Rattle.kq_turn.specs.Histories.{gained}
 use Rattle.kq_turn.specs.Passes.{TurnId}
-use Rattle.kq_turn.proofs.Beginnings.{IsPrefix-refl, IsPrefix-trans, gained-append}
+use Rattle.kq_turn.proofs.Beginnings.{IsPrefix-refl, IsPrefix-trans, gained-append, take-IsPrefix}
 use Rattle.kq_model.specs.declared.limits.Limits.{Limits}
 use Rattle.kq_model.specs.History.{History, commits_at, cursor}
 use Rattle.kq_engine.specs.declared.work.Outcome.{Outcome}
 use Rattle.kq_engine.specs.declared.work.Work.{Work}
 use Rattle.kq_reply.specs.declared.refusal.Refusal.{Refusal}
+use Rattle.kq_reply.specs.declared.refusal.Refusal.TheVariants as refusals
 use Rattle.kq_reply.specs.declared.reply.Reply.TheVariants as replies
-use Rattle.kq_engine.specs.Fits.{Advances, AnswersCommand, event_by}
-use Rattle.kq_engine.specs.Found.{IsReady}
+use Rattle.kq_engine.specs.Fits.{Advances, AnswersCommand, IsDue, event_by}
+use Rattle.kq_engine.specs.Found.{IsReady, MayWantMemory, TakesMemory}
+use Rattle.kq_engine.proofs.Wanting.{due_wants}
 use Rattle.kq_reply.specs.declared.reply.Reply.{Reply}
 use Rattle.kq_engine.specs.declared.work.Ready.TheVariants as readies
 use Rattle.kq_engine.specs.Shared.{PassView, Applies, Finishes, IsJustTaken, Concludes, commit_count}
@@ -26,10 +28,10 @@ pub gained_of : (old new more : History) → new ≡ old ++ more → gained old 
 gained_of old new more is = ap (gained old) is ∙ gained-append old more
 
 -- a step that began on what was seen
-pub Finishes-step : (limits : Limits) (of : TurnId) (seen old new added : History) (worth : ℕ) (taken : List ℕ) (work : Work) (began : ℕ) (outcome : Outcome) → began ≡ length seen → IsPrefix seen old → Advances limits old new work began outcome
+pub Finishes-step : (limits : Limits) (of : TurnId) (seen old new added : History) (worth : ℕ) (taken : List ℕ) (work : Work) (began : ℕ) (outcome : Outcome) → began ≡ length seen → IsPrefix seen old → Advances limits old new work began outcome → (outcome.reply ≡ replies.Refused refusals.Memory → MayWantMemory seen (take outcome.place new) work.command)
     → Finishes limits (record { of = of; seen = seen; worth = worth; added = added; made = cursor added; taken = taken })
     (record { of = of; seen = new; worth = worth; added = added ++ gained old new; made = cursor (added ++ gained old new); taken = taken ++ length old ∷ [] }) work outcome
-Finishes-step limits of seen old new added worth taken work began outcome here begins step =
+Finishes-step limits of seen old new added worth taken work began outcome here begins step takes =
     let goes_on : IsPrefix old new = (event_by work.by step.appends.made, sym step.appends.appended) in
     record {
       of = refl;
@@ -44,6 +46,7 @@ Finishes-step limits of seen old new added worth taken work began outcome here b
       fits = step.fits;
       since = omega (arith, here, step.since);
       names_all = subst (λ (n : ℕ). NamesAll (take outcome.place new) n outcome.reply) here step.names_all;
+      memory = takes;
     }
 
 -- what was answered on a snapshot of what was seen concludes with no take
@@ -61,6 +64,9 @@ Concludes-answered limits pass work reply fresh due = record {
   fits = Fits-end limits pass.seen work.by work.command work.now (length pass.seen) false reply refl (inr due.0) (settled_requested (cursor pass.seen) pass.seen work.by reply due.1);
   since = omega arith;
   names_all = settled_names (cursor pass.seen) (take (length pass.seen) pass.seen) (length pass.seen) reply (below (take_all (length pass.seen) pass.seen (omega arith))) due.1;
+  memory = λ wants.
+      subst (λ (h : History). MayWantMemory pass.seen h work.command) (sym (take_all (length pass.seen) pass.seen (omega arith)))
+      (due_wants limits pass.seen work.now work.command (subst (IsDue limits pass.seen work.now work.command) wants due.0));
 }
   where
     below : take (length pass.seen) pass.seen ≡ pass.seen → cursor (take (length pass.seen) (take (length pass.seen) pass.seen)) ≤ cursor pass.seen
@@ -69,10 +75,14 @@ Concludes-answered limits pass work reply fresh due = record {
 pub longer : (old new : History) → IsPrefix old new → length old ≤ length new
 longer old new begins = let whole = ap length begins.1 in omega (arith, whole, length-append old begins.0)
 
+same_refusal : (r s : Refusal) → replies.Refused r ≡ replies.Refused s → r ≡ s
+same_refusal r s e = cc
+
 -- refused on what one take found
 pub Applies-refused : (limits : Limits) (old new : PassView) (work : Work) (r : Refusal) → IsPrefix old.seen new.seen → new ≡ record old { seen = new.seen; taken = old.taken ++ length new.seen ∷ [] }
-    → AnswersCommand limits new.seen work.now work.command (replies.Refused r) → Applies limits old new work (record { place = length new.seen; own = false; reply = replies.Refused r })
-Applies-refused limits old new work r begins took answers =
+    → AnswersCommand limits new.seen work.now work.command (replies.Refused r) → (r ≡ refusals.Memory → TakesMemory new.seen work.command) → Applies limits old new work (record { place = length new.seen; own = false; reply = replies.Refused r })
+Applies-refused limits old new work r begins took answers takes =
+    let whole : take (length new.seen) new.seen ≡ new.seen = take_all (length new.seen) new.seen (omega arith) in
     let low = longer old.seen new.seen begins in
     record {
       of = ap (λ (p : PassView). p.of) took;
@@ -91,6 +101,7 @@ Applies-refused limits old new work r begins took answers =
       fits = Fits-end limits new.seen work.by work.command work.now (length new.seen) false (replies.Refused r) refl answers (still_requested new.seen work.by (replies.Refused r) (refused_still r));
       since = omega (arith, low);
       names_all = still_names (take (length new.seen) new.seen) (length old.seen) (replies.Refused r) (refused_still r);
+      memory = λ wants. inl (subst (λ (h : History). TakesMemory h work.command) (sym whole) (takes (same_refusal r refusals.Memory wants)));
     }
 
 -- prepared on what one take found, and concluded
@@ -120,4 +131,5 @@ Applies-concluded limits old mid new work outcome begins took concludes =
       fits = concludes.fits;
       since = omega (arith, low, concludes.since);
       names_all = NamesAll-since (take outcome.place new.seen) (length old.seen) (length mid.seen) outcome.reply low concludes.names_all;
+      memory = λ wants. subst (λ (h : History). MayWantMemory h (take outcome.place new.seen) work.command) (sym (take-IsPrefix mid.seen new.seen concludes.seen)) (concludes.memory wants);
     }

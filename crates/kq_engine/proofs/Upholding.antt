@@ -9,7 +9,8 @@ use Rattle.kq_turn.specs.Passes.{TurnId}
 use Rattle.kq_turn.proofs.Beginnings.{IsPrefix-take, IsPrefix-trans, gained-append, length-IsPrefix, take-IsPrefix}
 use Rattle.kq_catalog.specs.declared.merging.Merging.{Merging}
 use Rattle.kq_catalog.specs.Merges.{IsUnion}
-use Rattle.kq_catalog.specs.Views.{IsPart, fold_event}
+use Rattle.kq_bind_body.specs.kq_grouping.Bodies.{StandsFor}
+use Rattle.kq_catalog.specs.Views.{fold_event}
 use Rattle.kq_command.specs.declared.command.Command.{Command}
 use Rattle.kq_command.specs.declared.command.Command.TheVariants as commands
 use Rattle.kq_model.specs.declared.event.By.{By}
@@ -67,7 +68,7 @@ chore_found h (upkeeps.Fold view) place (chores.Fold f) was =
       viewed = viewed;
       stands = ap (slice_get (views (log (take place h)))) folding.of ∙ folding.stands;
       within = let to = folding.to in omega (arith, to);
-      part = subst (λ (n : ℕ). IsPart (planned_of viewed.view.body) (covered (log (take place h)) viewed.view viewed.view.base n) f.part) (sym folding.to) folding.part;
+      part = subst (λ (n : ℕ). StandsFor (planned_of viewed.view.body) (covered (log (take place h)) viewed.view viewed.view.base n) f.part) (sym folding.to) folding.part;
     }
 chore_found h (upkeeps.Merge table) place (chores.Merge m) was =
     let merging = was.is in

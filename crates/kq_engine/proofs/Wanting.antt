@@ -1,5 +1,5 @@
 -- Where preparing a command takes memory.
-use Rattle.std.proofs.Common.{◌≡◌, ◌+◌, ℕ, ℤ, Bool, true, false, cond, List, [], ◌∷◌, length, nat_lt, Option, Some, None, refl, ap, sym, subst, arith}
+use Rattle.std.proofs.Common.{◌≡◌, ◌+◌, ℕ, ℤ, Bool, true, false, cond, List, [], ◌∷◌, length, nat_lt, Option, Some, None, refl, ap, sym, subst, arith, inl, inr}
 use Rattle.std.specs.Option.{option_map, option_or}
 use Rattle.std.proofs.lemmas.Bool.{false≢true}
 use Rattle.kq_value.specs.declared.schema.Field.{Field}
@@ -27,7 +27,7 @@ use Rattle.kq_command.specs.declared.definition.NewView.{NewView}
 use Rattle.kq_engine.specs.Folds.{FoldsNamed, view_number}
 use Rattle.kq_engine.specs.Due.{Due, Says, Commits, IsDueByText, IsViewDue, IsIngestDue, tree_in, clash_due, counted, lacking_due, made_due, named_due, refused, repeated_place, widening_due, IsPolicyDue}
 use Rattle.kq_engine.specs.Fits.{IsDue}
-use Rattle.kq_engine.specs.Found.{Gains, IsCommitDue, LagsBehind, Stands, TakesMemory, TakesToFind, TakesToShow, is_prepared_outside}
+use Rattle.kq_engine.specs.Found.{Gains, IsCommitDue, IsMergeable, LagsBehind, MayWantMemory, Stands, TakesMemory, TakesToFind, TakesToShow, is_prepared_outside}
 use Rattle.kq_engine.specs.Merges.{IsMergingFor, MergesNamed}
 use Rattle.kq_engine.specs.Shows.{ShowsExtents, ShowsView, AnswersShow}
 use Rattle.kq_engine.proofs.Dues.{Due-is_good, table_due-unnamed}
@@ -164,7 +164,7 @@ show_finds h shows.Failures due = tt
 show_finds h (shows.Extents table) due = extents_find h table (table_numbered table.text (tables (log h))) due
 show_finds h shows.Journal due = tt
 
-named_finds : (h : History) (table : Identifier) (o : Option NumberedTable) → MergesNamed h table o (replies.Refused refusals.Memory) → Stands o
+named_finds : (h : History) (table : Identifier) (o : Option NumberedTable) → MergesNamed h table o (replies.Refused refusals.Memory) → IsMergeable h o
 named_finds h table None due = cc
 named_finds h table (Some found) due = absurd due
 
@@ -187,6 +187,30 @@ due_finds limits h now (Change (CreateView view)) due = text_find limits (log h)
 due_finds limits h now (Change (SetPolicy target policy)) due = policy_finds limits (log h) target policy (table_numbered target.text (tables (log h))) due
 due_finds limits h now (Fold view) due = folds_find h view (view_number h view) due
 
+view_good : (limits : Limits) (l : Log) (view : NewView) (o p : Option ℕ) → IsDueByText limits l (CreateView view) (option_or (option_map (λ (at : ℕ). refusals.Unsupported at) o) (option_map (λ (at : ℕ). refusals.Mistyped at) p)) memory_due
+    → option_or (option_map (λ (at : ℕ). refusals.Unsupported at) o) (option_map (λ (at : ℕ). refusals.Mistyped at) p) ≡ None
+view_good limits l view (Some at) p due = cc
+view_good limits l view None (Some at) due = cc
+view_good limits l view None None due = refl
+
+-- so is it for a reply that a history tells whole
+pub due_wants : (limits : Limits) (h : History) (now : ℤ) (command : Command) → IsDue limits h now command (replies.Refused refusals.Memory) → MayWantMemory h h command
+due_wants limits h now (Query query) due = inl tt
+due_wants limits h now (Show asked) due = inl (show_finds h asked due)
+due_wants limits h now (Change (CreateTable name columns)) due = absurd (not_table limits (log h) name columns (repeated_place columns) due)
+due_wants limits h now (Change (AlterMerge name columns)) due = absurd (not_columns limits (log h) name columns (repeated_place columns) due)
+due_wants limits h now (Change (Ingest i)) due = inl (ingest_finds limits (log h) i i.properties.repeated due)
+due_wants limits h now (Merge table) due = inl (named_finds h table (table_numbered table.text (tables (log h))) due)
+due_wants limits h now (Change (CreateView view)) due = inr (record {
+  pending = record { inside = refl; good = view_good limits (log h) view (unsupported_query view.body.text (tree_in view)) view.repeated due };
+  takes = text_find limits (log h) view (unsupported_query view.body.text (tree_in view)) view.repeated due;
+})
+due_wants limits h now (Change (SetPolicy target policy)) due = inr (record {
+  pending = record { inside = refl; good = refl };
+  takes = policy_finds limits (log h) target policy (table_numbered target.text (tables (log h))) due;
+})
+due_wants limits h now (Fold view) due = inl (folds_find h view (view_number h view) due)
+
 -- what is found outside the lock takes the memory of preparing
 pub found_wants : (h : History) (command : Command) → is_prepared_outside command ≡ true → TakesToFind h command → TakesMemory h command
 found_wants h (Query query) outside takes = takes
@@ -204,7 +228,9 @@ pub merging_finds : (h : History) (command : Command) (m : Merging) → IsMergin
 merging_finds h (Query query) m is = absurd is
 merging_finds h (Show show) m is = absurd is
 merging_finds h (Change change) m is = absurd is
-merging_finds h (Merge table) m is = subst Stands (sym is.named) tt
+merging_finds h (Merge table) m is =
+    let union = is.merging.union in
+    subst (IsMergeable h) (sym is.named) (omega (arith, union.some, union.within))
 merging_finds h (Fold view) m is = absurd is
 
 -- and is prepared outside the lock

@@ -2,11 +2,11 @@
 use Rattle.std.specs.Prelude.{◌≡◌, ◌≢◌, ◌⊎◌, ◌<◌, ◌≤◌, ℕ, Bool, true, false, List, [], ◌∷◌, ◌++◌, length, Option, Some, None}
 use Rattle.std.specs.List.{slice_get}
 use Rattle.std.specs.List.Sorted.{IsPermutation}
-use Rattle.kq_catalog.specs.Views.{IsPart, fold_event}
+use Rattle.kq_catalog.specs.Views.{fold_event}
 use Rattle.kq_command.specs.declared.columns.Identifier.{Identifier}
 use Rattle.kq_command.specs.declared.command.Command.{Command}
 use Rattle.kq_command.specs.declared.command.Command.TheVariants.{Fold}
-use Rattle.kq_bind_body.specs.kq_grouping.Bodies.{OverflowsAt}
+use Rattle.kq_bind_body.specs.kq_grouping.Bodies.{OverflowsAt, StandsFor}
 use Rattle.kq_model.specs.declared.event.By.{By}
 use Rattle.kq_model.specs.History.{History, Viewed, cursor, log, view_cursor, names_of_views, views}
 use Rattle.kq_model.specs.Views.{covered}
@@ -60,7 +60,7 @@ pub record IsFoldingIn (h : History) (number : ℕ) (f : Folding) : Type 0 where
   pub viewed : Viewed
   pub stands : slice_get (views (log h)) number ≡ Some viewed
   pub to : f.to ≡ cursor h
-  pub part : IsPart (planned_of viewed.view.body) (covered (log h) viewed.view viewed.view.base (cursor h)) f.part
+  pub part : StandsFor (planned_of viewed.view.body) (covered (log h) viewed.view viewed.view.base (cursor h)) f.part
 
 -- that of the view that has the name, which is behind the cursor
 pub record IsFoldingOf (h : History) (view : Identifier) (f : Folding) : Type 0 where

@@ -1,5 +1,5 @@
 -- What is found of a command on a history, what of it stays due, and where memory may be wanting.
-use Rattle.std.specs.Prelude.{◌≡◌, ◌≢◌, ◌⊎◌, ◌<◌, ◌+◌, ◌&&◌, ◌||◌, not, ℕ, ℤ, Bool, true, false, nat_eq, nat_lt, List, [], ◌∷◌, ◌++◌, length, take, drop, Option, Some, None, Result, Ok, Err, IfOk}
+use Rattle.std.specs.Prelude.{◌≡◌, ◌≢◌, ◌⊎◌, ◌<◌, ◌≤◌, ◌+◌, ◌&&◌, ◌||◌, not, ℕ, ℤ, Bool, true, false, nat_eq, nat_lt, List, [], ◌∷◌, ◌++◌, length, take, drop, Option, Some, None, Result, Ok, Err, IfOk}
 use Rattle.std.specs.List.{slice_get}
 use Rattle.kq_model.specs.declared.batch.Batch.{Batch}
 use Rattle.kq_model.specs.declared.event.Commit.{Commit}
@@ -9,10 +9,12 @@ use Rattle.kq_model.specs.declared.table.Table.{Table}
 use Rattle.kq_model.specs.Derived.{Row}
 use Rattle.kq_model.specs.History.{History, Log, cursor, log, view_cursor, tables, table_named, NumberedTable, table_numbered}
 use Rattle.kq_model.specs.Policies.{dues}
+use Rattle.kq_model.specs.Records.{picked, small_items}
 use Rattle.kq_model.specs.Tagged.{least_tagged}
 use Rattle.kq_cascade.specs.declared.running.CascadeFault.{CascadeFault}
 use Rattle.kq_cascade.specs.declared.running.CascadeFault.TheVariants as cascades
 use Rattle.kq_catalog.specs.Intents.{BeginsEmpty as IsBegun, commit_of}
+use Rattle.kq_catalog.specs.Merges.{IsInFront}
 use Rattle.kq_catalog.specs.Seen.{SnapshotView}
 use Rattle.kq_command.specs.declared.columns.Column.{Column}
 use Rattle.kq_command.specs.declared.columns.Identifier.{Identifier}
@@ -27,6 +29,8 @@ use Rattle.kq_command.specs.declared.command.Show.TheVariants as shows
 use Rattle.kq_reply.specs.declared.refusal.Refusal.{Refusal}
 use Rattle.kq_reply.specs.declared.refusal.Refusal.TheVariants as refusals
 use Rattle.kq_reply.specs.declared.reply.Reply.TheVariants as replies
+use Rattle.kq_engine.specs.declared.first_look.Looked.{Looked}
+use Rattle.kq_engine.specs.declared.first_look.Looked.TheVariants as lookeds
 use Rattle.kq_engine.specs.declared.tags.Labels.{Labels}
 use Rattle.kq_engine.specs.declared.work.Barring.{Barring}
 use Rattle.kq_engine.specs.declared.work.Found.{Found}
@@ -245,6 +249,11 @@ IsReady limits h now command (readies.ToMerge merging) = IsMergingFor h command 
 IsReady limits h now command (readies.ToFold folding) = IsFoldingFor h command folding
 IsReady limits h now command readies.Pending = IsPending command
 
+-- a first look at this history told that, or it took a snapshot of it
+abbrev pub IsLooked : Limits → History → ℤ → Command → Looked → Type 0
+IsLooked limits h now command (lookeds.Told ready) = IsReady limits h now command ready
+IsLooked limits h now command (lookeds.Taken snapshot) = (snapshot.limits ≡ limits) × (snapshot.history ≡ h)
+
 -- prepared on a snapshot of this history
 pub record IsPrepared (limits : Limits) (h : History) (prepared : Prepared) : Type 0 where
   pub at : prepared.place ≡ length h
@@ -278,6 +287,11 @@ abbrev pub LagsBehind : History → Option ℕ → Type 0
 LagsBehind h None = ⊥
 LagsBehind h (Some number) = view_cursor h number ≢ cursor h
 
+-- two or more extents of a table that stands may be merged
+abbrev pub IsMergeable : History → Option NumberedTable → Type 0
+IsMergeable h None = ⊥
+IsMergeable h (Some found) = 2 ≤ length (picked h found.number)
+
 -- finding what the command is due on this history takes memory: to bind a query, a view's body or a policy's queries does; to make or widen a table does, and not to keep one
 abbrev pub TakesToFind : History → Command → Type 0
 TakesToFind h (Query query) = Unit {0}
@@ -285,7 +299,7 @@ TakesToFind h (Show show) = TakesToShow h show
 TakesToFind h (Change (CreateTable name columns)) = table_named name.text (tables (log h)) ≡ None
 TakesToFind h (Change (AlterMerge name columns)) = Gains columns (table_numbered name.text (tables (log h)))
 TakesToFind h (Change (Ingest ingestion)) = Stands (table_numbered ingestion.table.text (tables (log h)))
-TakesToFind h (Merge table) = Stands (table_numbered table.text (tables (log h)))
+TakesToFind h (Merge table) = IsMergeable h (table_numbered table.text (tables (log h)))
 TakesToFind h (Change (CreateView view)) = Stands (table_numbered view.table.text (tables (log h)))
 TakesToFind h (Change (SetPolicy target policy)) = Stands (table_numbered target.text (tables (log h)))
 TakesToFind h (Fold view) = LagsBehind h (view_number h view)
@@ -307,11 +321,11 @@ pub record TakesToDecide (h : History) (command : Command) : Type 0 where
   pub pending : IsPending command
   pub takes : TakesToFind h command
 
--- finishing on this history what was prepared at a place takes memory: a commit that no tag bars is put in, or its rows are read again; a merge is put in, or extents are picked again; a fold is put in of a view that isn't materialized as far
+-- finishing on this history what was prepared at a place takes memory: a commit that no tag bars is put in, or its rows are read again; a merge is put in whose extents stand, or extents are picked again; a fold is put in of a view that isn't materialized as far
 abbrev pub TakesToFinish : (place : ℕ) → History → Command → Ready → Type 0
 TakesToFinish place h command (readies.Answered reply) = ⊥
 TakesToFinish place h command (readies.ToCommit offer) = is_as_read (drop place h) (log h) offer.unless ≡ true → barred_at (log h) offer.unless ≡ None
-TakesToFinish place h command (readies.ToMerge merging) = Unit {0}
+TakesToFinish place h command (readies.ToMerge merging) = IsInFront (small_items h merging.table) merging.old ⊎ TakesToFind h command
 TakesToFinish place h command (readies.ToFold folding) = view_cursor h folding.view < folding.to
 TakesToFinish place h command readies.Pending = TakesToDecide h command
 

@@ -4,11 +4,14 @@ use mathlib.Core.List.{IsPrefix}
 use Rattle.kq_turn.specs.Passes.{TurnId}
 use Rattle.kq_model.specs.declared.limits.Limits.{Limits}
 use Rattle.kq_model.specs.History.{History}
+use Rattle.kq_reply.specs.declared.refusal.Refusal.TheVariants as refusals
+use Rattle.kq_reply.specs.declared.reply.Reply.TheVariants as replies
 use Rattle.kq_engine.specs.declared.work.Outcome.{Outcome}
 use Rattle.kq_engine.specs.declared.work.Work.{Work}
 use Rattle.kq_command.specs.declared.command.Command.TheVariants as commands
 use Rattle.kq_command.specs.declared.command.Query.{Query}
 use Rattle.kq_engine.specs.Fits.{AnswersCommand, Appends, Fits, event_by}
+use Rattle.kq_engine.specs.Found.{MayWantMemory}
 use Rattle.kq_engine.specs.Merges.{NamesAll}
 
 -- which lock it is, and the limits of the catalogue behind it
@@ -47,7 +50,7 @@ pub record AppendsLast (limits : Limits) (old new : PassView) (work : Work) (out
   pub appends : Appends limits found new.seen work.by work.command outcome
   pub added : new.added ≡ old.added ++ event_by work.by appends.made
 
--- a command went through the pass: under its last take it made at most one event, and its outcome fits what the pass has then seen, at a place not below what it had seen
+-- a command went through the pass: memory was wanting only where the command takes some, and under its last take it made at most one event, and its outcome fits what the pass has then seen, at a place not below what it had seen
 pub record Applies (limits : Limits) (old new : PassView) (work : Work) (outcome : Outcome) : Type 0 where
   pub of : new.of ≡ old.of
   pub worth : new.worth ≡ old.worth
@@ -58,6 +61,7 @@ pub record Applies (limits : Limits) (old new : PassView) (work : Work) (outcome
   pub fits : Fits limits new.seen work.by work.command work.now outcome.place outcome.own outcome.reply
   pub since : length old.seen ≤ outcome.place
   pub names_all : NamesAll (take outcome.place new.seen) (length old.seen) outcome.reply
+  pub memory : outcome.reply ≡ replies.Refused refusals.Memory → MayWantMemory (take takes.first new.seen) (take outcome.place new.seen) work.command
 
 -- prepared work was finished under one take, which found a history that goes on from what was seen
 pub record Finishes (limits : Limits) (old new : PassView) (work : Work) (outcome : Outcome) : Type 0 where
@@ -73,6 +77,7 @@ pub record Finishes (limits : Limits) (old new : PassView) (work : Work) (outcom
   pub fits : Fits limits new.seen work.by work.command work.now outcome.place outcome.own outcome.reply
   pub since : length old.seen ≤ outcome.place
   pub names_all : NamesAll (take outcome.place new.seen) (length old.seen) outcome.reply
+  pub memory : outcome.reply ≡ replies.Refused refusals.Memory → MayWantMemory old.seen (take outcome.place new.seen) work.command
 
 -- the pass's last take found what it has seen
 pub record IsJustTaken (pass : PassView) : Type 0 where
@@ -92,6 +97,7 @@ pub record Concludes (limits : Limits) (old new : PassView) (work : Work) (outco
   pub fits : Fits limits new.seen work.by work.command work.now outcome.place outcome.own outcome.reply
   pub since : length old.seen ≤ outcome.place
   pub names_all : NamesAll (take outcome.place new.seen) (length old.seen) outcome.reply
+  pub memory : outcome.reply ≡ replies.Refused refusals.Memory → MayWantMemory old.seen (take outcome.place new.seen) work.command
 
 -- a query went through the pass at a moment: one take, no commit, and the outcome is an answer over what the pass has then seen
 pub record QueriesThrough (limits : Limits) (old new : PassView) (query : Query) (now : ℤ) (outcome : Outcome) : Type 0 where

@@ -1,5 +1,5 @@
 // An ingestion, with what comes of it by the update policies.
-ghost use Rattle.std.specs.Prelude.{◌≡◌, All, IfErr, IfOk, Some, map};
+ghost use Rattle.std.specs.Prelude.{◌≡◌, All, IfErr, IfOk, None, Some, length, map, nat_lt, true};
 ghost use Rattle.std.specs.List.{slice_get};
 ghost use Rattle.kq_cascade.specs.Makes.{RefusesBy};
 ghost use Rattle.kq_catalog.specs.Intents.{batch_of};
@@ -9,6 +9,7 @@ ghost use Rattle.kq_engine.specs.Found.{Finds, FindsRead, OffersCommit, OffersRe
 ghost use Rattle.kq_model.specs.declared.event.Commit.TheVariants as commits;
 ghost use Rattle.kq_model.specs.History.{log, tables, table_numbered};
 ghost use Rattle.kq_model.specs.Records.{schema_of};
+ghost use Rattle.kq_model.specs.Tagged.{least_tagged};
 ghost use Rattle.kq_model.specs.Typed.{IsTyped};
 ghost use Rattle.kq_reply.specs.declared.refusal.Refusal.TheVariants as refusals;
 ghost use Rattle.kq_show.specs.JournalRows.{name_of};
@@ -74,7 +75,7 @@ fn refusal_of(fault: IngestFault) -> Refusal
     }
 }
 
-// What comes of the rows, unless a tag bars them.
+// What comes of the rows, unless a tag bars them, which takes no memory.
 fn put_rows(
     snapshot: &Snapshot,
     number: u32,
@@ -86,6 +87,7 @@ fn put_rows(
     requires typed { All (HasTypes table.now.schema) rows }
     ensures due { FindsRead snapshot.now (record { number = number; table = table.now }) rows labels result }
     ensures offers { OffersRead snapshot.now (record { number = number; table = table.now }) rows labels result }
+    ensures memory { IfErr result (λ r. r ≡ refusals.Memory → least_tagged (log snapshot.now.history) number labels.barring ≡ None) }
 {
     let Labels { tags, barring } = labels;
     if let Some(cursor) = least_cursor(snapshot, number, barring.as_slice()) {
@@ -129,7 +131,7 @@ fn name_of_table(snapshot: &Snapshot, number: u32) -> Result<Text, Memory>
     }
 }
 
-// The commit of all that came of a batch, where one more is allowed.
+// The commit of all that came of a batch, where one more is allowed: only then its rows are laid out in columns.
 fn put_derived(
     snapshot: &Snapshot,
     derived: Derived,
@@ -138,6 +140,7 @@ fn put_derived(
     requires { All (IsTyped (schema_of (log snapshot.now.history))) derived.batches.items }
     ensures due { Finds (λ due. due ≡ counted snapshot.now.limits (log snapshot.now.history) (commits.Ingest derived.batches.items derived.failures)) result }
     ensures offers { IfOk result (OffersCommit snapshot.now.limits (log snapshot.now.history) (commits.Ingest derived.batches.items derived.failures) unless) }
+    ensures memory { IfErr result (λ r. r ≡ refusals.Memory → nat_lt (length (log snapshot.now.history)) snapshot.now.limits.commits ≡ true) }
 {
     if !has_room(snapshot) {
         return Err(Refusal::Full {

@@ -1,7 +1,10 @@
-use Rattle.std.proofs.Common.{◌≡◌, OnErr, true, drop, length, take, ap, subst, sym, ◌∙◌}
+use Rattle.std.proofs.Common.{◌≡◌, ℕ, OnErr, true, drop, length, take, ap, subst, sym, ◌∙◌}
 use Rattle.kq_model.specs.declared.limits.Limits.{Limits}
 use Rattle.kq_model.specs.History.{log}
 use Rattle.kq_catalog.specs.Seen.{CatalogView, hist}
+use Rattle.kq_reply.specs.declared.refusal.Refusal.TheVariants as refusals
+use Rattle.kq_reply.specs.declared.reply.Reply.TheVariants as replies
+use Rattle.kq_engine.specs.declared.work.Outcome.{Outcome}
 use Rattle.kq_engine.specs.Fits.{Acts, outcome_of}
 use Rattle.kq_engine.specs.Found.{IsReady, is_as_read}
 use Rattle.kq_engine.specs.Folds.{IsFoldingFor}
@@ -83,3 +86,9 @@ returns-in-Pending-clause-step c =
 
 pub returns-in-Err-Moved-clause-kept : goal.returns-in-Err-Moved-clause-kept
 returns-in-Err-Moved-clause-kept c = subst (λ (v : CatalogView). OnErr c.decide-in-Err-Moved.result (c.decide-in-Err-Moved.new.catalog ≡ v)) c.in-Err-Moved.ensures.kept c.decide-in-Err-Moved.ensures.kept
+
+merged_memory : (extents : ℕ) → replies.Merged extents ≡ replies.Refused refusals.Memory → ⊥
+merged_memory extents e = cc
+
+pub returns-in-Ok-clause-memory : goal.returns-in-Ok-clause-memory
+returns-in-Ok-clause-memory c = λ wants. let is = ap (λ (o : Outcome). o.reply) c.in-Ok.ensures.puts.is in absurd (merged_memory _ (sym is ∙ wants))

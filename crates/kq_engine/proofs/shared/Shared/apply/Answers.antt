@@ -13,4 +13,4 @@ pub returns-in-Err : goal.returns-in-Err
 returns-in-Err g c =
     let new = c.prepare.new.pass in
     let at : c.pass.inside.seen ≡ length new.seen = c.pass.invariant.1 ∙ ap (λ (p : PassView). length p.seen) c.pass.view_is in
-    rw (c.refused.ensures, at) (Applies-refused c.args.self.now.limits c.args.pass.now new c.args.work.now c.in-Err.refusal c.prepare.ensures.seen c.prepare.ensures.pass c.in-Err.ensures.refused)
+    rw (c.refused.ensures, at) (Applies-refused c.args.self.now.limits c.args.pass.now new c.args.work.now c.in-Err.refusal c.prepare.ensures.seen c.prepare.ensures.pass c.in-Err.ensures.refused c.in-Err.ensures.memory)

@@ -7,7 +7,10 @@ use Rattle.kq_catalog.specs.Grown.{numbers_of}
 use Rattle.kq_catalog.proofs.Grown.{same_limits}
 use Rattle.kq_engine.specs.declared.work.Outcome.{Outcome}
 use Rattle.kq_engine.specs.Fits.{Advances, event_by}
-use Rattle.kq_engine.specs.Found.{IsReady}
+use Rattle.kq_engine.specs.Found.{IsReady, WantsToFinish}
+use Rattle.kq_reply.specs.declared.refusal.Refusal.TheVariants as refusals
+use Rattle.kq_reply.specs.declared.reply.Reply.TheVariants as replies
+use Rattle.kq_engine.proofs.Preparing.{ready_wants}
 use Rattle.kq_engine.proofs.Sharing.{Finishes-step}
 use Rattle.kq_engine.proofs.shared.Shared.finish.Goals as goal
 
@@ -39,4 +42,7 @@ returns g c =
     let fixed : numbers_of c.take-catalog.result.limits ≡ numbers_of c.args.self.now.limits = search rules in
     let told = subst (λ (o : Outcome). Advances c.take-catalog.result.limits old new work began o) (sym c.told-outcome.ensures) c.conclude-answer.ensures.step in
     let step = subst (λ (l : Limits). Advances l old new work began c.told-outcome.result) (same_limits _ _ fixed) told in
-    rw (← c.pass.view_is, c.give.ensures.pass, c.take-catalog.ensures.pass) (Finishes-step c.args.self.now.limits pass.of pass.seen old new pass.added pass.worth pass.taken work began c.told-outcome.result c.pass.invariant.1 c.take-catalog.ensures.seen step)
+    let ready : IsReady c.args.self.now.limits pass.seen work.now work.command c.args.ready = rw (← c.pass.view_is) at c.requires.ready in
+    let wants_to = subst (λ (o : Outcome). WantsToFinish began new work.command c.args.ready o) (sym c.told-outcome.ensures) c.conclude-answer.ensures.memory in
+    let takes = λ (wants : c.told-outcome.result.reply ≡ replies.Refused refusals.Memory). ready_wants c.args.self.now.limits pass.seen began (take c.told-outcome.result.place new) work.now work.command c.args.ready ready (wants_to wants) in
+    rw (← c.pass.view_is, c.give.ensures.pass, c.take-catalog.ensures.pass) (Finishes-step c.args.self.now.limits pass.of pass.seen old new pass.added pass.worth pass.taken work began c.told-outcome.result c.pass.invariant.1 c.take-catalog.ensures.seen step takes)

@@ -1,0 +1,28 @@
+use Rattle.std.proofs.Common.{◌≡◌, subst, IfErr, IfOk, rules}
+use Rattle.kq_model.specs.declared.limits.Limits.{Limits}
+use Rattle.kq_catalog.specs.Grown.{numbers_of}
+use Rattle.kq_catalog.specs.Seen.{hist}
+use Rattle.kq_catalog.proofs.Grown.{same_limits}
+use Rattle.kq_turn.proofs.Beginnings.{IsPrefix-refl}
+use Rattle.kq_engine.specs.Fits.{AnswersCommand}
+use Rattle.kq_engine.specs.Found.{IsLooked}
+use Rattle.kq_reply.specs.declared.reply.Reply.TheVariants as replies
+use Rattle.kq_engine.proofs.shared.Shared.look_first.Goals as goal
+
+pub returns-clause-looked : goal.returns-clause-looked
+returns-clause-looked g c =
+    let taken = c.take-catalog.result in
+    let work = c.args.work.now in
+    let fixed : numbers_of taken.limits ≡ numbers_of c.args.self.now.limits = search rules in
+    rw c.give.ensures.pass (subst (λ (l : Limits). IfOk c.first_look-looked.result (IsLooked l (hist taken) work.now work.command)) (same_limits taken.limits c.args.self.now.limits fixed) c.first_look-looked.ensures.looked)
+
+pub returns-clause-refused : goal.returns-clause-refused
+returns-clause-refused g c =
+    let taken = c.take-catalog.result in
+    let work = c.args.work.now in
+    let fixed : numbers_of taken.limits ≡ numbers_of c.args.self.now.limits = search rules in
+    rw c.give.ensures.pass
+    (subst (λ (l : Limits). IfErr c.first_look-looked.result (λ r. AnswersCommand l (hist taken) work.now work.command (replies.Refused r))) (same_limits taken.limits c.args.self.now.limits fixed) c.first_look-looked.ensures.refused)
+
+pub give-requires-clause-begins : goal.give-requires-clause-begins
+give-requires-clause-begins g c = rw c.take-catalog.ensures.pass (IsPrefix-refl (hist c.take-catalog.result))
