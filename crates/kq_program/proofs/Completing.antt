@@ -34,7 +34,7 @@ few_taken text at few = omega (arith, few, length-take at text, length-take 0 te
 
 complete_one : (limits : Limits) (h : History) (n : ℕ) (x : Holding) (generate : Option ℕ) (before : Contents) (s : EndedView) → IsUpTo 1000000 generate → ByScript (Explained limits h n x) generate (unfailed before) s.session → IsCaused s → IsUntroubledBy generate (unfailed before) s.session.objects → ByScript (IsComplete limits h n x) generate (unfailed before) s.session
 complete_one limits h n x None before s few explained caused untroubled =
-    complete_by limits h n x (unfailed before) s.session explained.end explained.ends explained.by_end
+    complete_by limits h n x (unfailed before) s.session s.session.end refl explained.ends explained.by_end
     (λ e. untroubled.source (inl (caused.source e))) (λ e. untroubled.sink (inl (caused.sink e))) untroubled.few
 complete_one limits h n x (Some rows) before s few scripted caused untroubled =
     let explained = scripted.holds in
@@ -43,7 +43,7 @@ complete_one limits h n x (Some rows) before s few scripted caused untroubled =
       source_faults = scripted.source_faults;
       at = scripted.at;
       ended = scripted.ended;
-      holds = complete_by limits h n x (unfailed (with_source (script_unread rows) before)) (as_reading (script_read rows scripted.at scripted.ended) s.session) explained.end explained.ends explained.by_end
+      holds = complete_by limits h n x (unfailed (with_source (script_unread rows) before)) (as_reading (script_read rows scripted.at scripted.ended) s.session) s.session.end refl explained.ends explained.by_end
           (λ e. let rose = caused.source e in omega (arith, rose, scripted.source_faults)) (λ e. untroubled (inl (caused.sink e))) (few_taken (script rows) scripted.at (length-script rows few));
     }
 

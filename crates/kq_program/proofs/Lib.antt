@@ -1,4 +1,5 @@
 mod Asking
+mod Beside
 mod Completing
 mod Opening
 mod Running

@@ -22,9 +22,10 @@ use Rattle.kq_session.specs.Ends.{status_of, wants_memory}
 use Rattle.kq_session.specs.Session.{Explained}
 use Rattle.kq_program.specs.Headline.{RanSessions, AreExplained, IsCaused, first_status, given_to_sessions}
 use Rattle.kq_program.specs.Opening.{AreOpened}
-use Rattle.kq_program.specs.Together.{IsServed, AreServed, ServedAll}
+use Rattle.kq_program.specs.Together.{IsServed, AreServed, ServedAll, ServedBeside}
 use Rattle.kq_program.specs.Views.{EndedView, Given, OpenedView, held_by}
-use Rattle.kq_program.specs.Whole.{is_caused}
+use Rattle.kq_program.specs.Whole.{HaveWorked, is_caused}
+use Rattle.kq_program.proofs.Beside.{HaveWorked-all}
 use Rattle.kq_program.proofs.Scripting.{ByScript-given, explained-end}
 use Rattle.kq_program.proofs.Serving.{AreServed-later}
 use Rattle.kq_program.proofs.Wholes.{AreServed-owned, Whole-owned}
@@ -105,11 +106,12 @@ exported_later : (seen h : History) (x : ExporterState) → IsPrefix x.seen seen
 exported_later seen h x behind later exported = IsExported-later x.seen h (exports_in x) x.puts (IsPrefix-trans x.seen seen h behind later) exported
 
 pub RanSessions-all : (workers : ℕ) (c : CatalogView) (x : ExporterState) (limits : Limits) (old new : PassView) (o : OpenedView) (os : List OpenedView) (ss : List EndedView) (generate : Option ℕ) (first : Contents) (told : List ℕ → Contents) (names : List (List ℕ)) (status : ℕ)
-    → o.name ≡ [] → o.generate ≡ generate → o.objects.contents ≡ first → o.objects.source_faults ≡ 0 → o.objects.sink_faults ≡ 0 → AreOpened told names os → ServedAll limits workers old new (told_of x) (o ∷ os) ss → old.made ≡ 0 → old.added ≡ []
+    → o.name ≡ [] → o.generate ≡ generate → o.objects.contents ≡ first → o.objects.source_faults ≡ 0 → o.objects.sink_faults ≡ 0 → AreOpened told names os → ServedBeside limits workers old new (told_of x) (o ∷ os) ss → old.made ≡ 0 → old.added ≡ []
     → Sound c → IsExported x.seen (exports_in x) x.puts → AreFull limits → c.limits ≡ limits → IsPrefix new.seen (hist c) → ((test : Event → Bool) → count_by test (hist c) ≡ count_by test new.added) → cursor (hist c) ≡ new.made → status ≡ first_status ss
     → RanSessions workers names (given_to_sessions generate first told names) status c x ss
-RanSessions-all workers c x limits old new o os [] generate first told names status name script contents source sink opened all none nothing sound exported full same seen counts made is_status = absurd all.served
-RanSessions-all workers c x limits old new o os (s ∷ ss) generate first told names status name script contents source sink opened all none nothing sound exported full same seen counts made is_status =
+RanSessions-all workers c x limits old new o os [] generate first told names status name script contents source sink opened beside none nothing sound exported full same seen counts made is_status = absurd beside.all.served
+RanSessions-all workers c x limits old new o os (s ∷ ss) generate first told names status name script contents source sink opened beside none nothing sound exported full same seen counts made is_status =
+    let all = beside.all in
     let h = hist c in
     let held = held_by x in
     let served = AreServed-later limits new.seen h 0 held (o ∷ os) (s ∷ ss) seen all.served in
@@ -126,6 +128,7 @@ RanSessions-all workers c x limits old new o os (s ∷ ss) generate first told n
         explained = subst (λ (l : Limits). AreExplained l h 0 held given (s ∷ ss)) (sym same) explained;
         exported = exported_later new.seen h x all.behind seen exported;
       };
+      workers_did = subst (λ (l : Limits). HaveWorked l h h workers) (sym same) (HaveWorked-all limits new.seen h all.passed.events workers seen every beside.worked);
       limits = subst AreFull (sym same) full;
       status_is = is_status;
       caused = All-cons IsCaused s ss (caused_one limits h 0 held o s source sink served.0) (caused_all limits h 1 told names os ss opened served.1);

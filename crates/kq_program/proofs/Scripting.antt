@@ -11,10 +11,9 @@ use Rattle.kq_model.specs.declared.limits.Limits.{Limits}
 use Rattle.kq_model.specs.History.{History}
 use Rattle.kq_workers.specs.kq_engine.Shared.{PassView}
 use Rattle.kq_session.specs.declared.end.End.{End}
-use Rattle.kq_session.specs.declared.end.End.TheVariants as ends
 use Rattle.kq_session.specs.Ends.{status_of}
 use Rattle.kq_session.specs.Objects.{Objects, SessionView}
-use Rattle.kq_session.specs.Session.{SessionEnds, Explained, PassGoesOn, is_receipted, owns}
+use Rattle.kq_session.specs.Session.{SessionEnds, Explained, IsShortFor, PassGoesOn, is_receipted, owns}
 use Rattle.kq_session.specs.Blocks.{GoesOn}
 use Rattle.kq_session.specs.Exchanges.{Rises}
 use Rattle.kq_session.proofs.Serving.{SessionEnds-none}
@@ -45,8 +44,8 @@ ByScript-given P o generate contents s is told source sink holds =
 
 -- how a session ended, by its script
 pub explained-end : (limits : Limits) (h : History) (actor : ℕ) (holding : Holding) (generate : Option ℕ) (before : Objects) (s : SessionView) → ByScript (Explained limits h actor holding) generate before s → (end : End) × (s.status ≡ status_of end s.receipts)
-explained-end limits h actor holding None before s explained = (explained.end, explained.by_end)
-explained-end limits h actor holding (Some n) before s scripted = (scripted.holds.end, scripted.holds.by_end)
+explained-end limits h actor holding None before s explained = (s.end, explained.by_end)
+explained-end limits h actor holding (Some n) before s scripted = (s.end, scripted.holds.by_end)
 
 -- ---- a session that is served by its own script
 
@@ -76,13 +75,13 @@ abbrev pub by_script : List ℕ → ℕ → Objects → OpenedView
 by_script name n before = record { name = name; generate = Some n; objects = before }
 
 -- it was read in place of the session's own source
-pub ServedOne-script : (limits : Limits) (old new : PassView) (actor n : ℕ) (was e : ExporterView) (name : List ℕ) (first now : ScriptState) (before : Objects) (s : SessionView) (end : End)
-    → first ≡ record { text = script n; at = 0; ended = false } → SessionEnds limits new.seen actor (with_source (script_told first) before.contents) (with_source (script_told now) s.objects.contents) s.receipts e.holding end → s.status ≡ status_of end s.receipts
+pub ServedOne-script : (limits : Limits) (old new : PassView) (actor n : ℕ) (was e : ExporterView) (name : List ℕ) (first now : ScriptState) (before : Objects) (s : SessionView)
+    → first ≡ record { text = script n; at = 0; ended = false } → SessionEnds limits new.seen actor (with_source (script_told first) before.contents) (with_source (script_told now) s.objects.contents) s.receipts e.holding s.end → s.status ≡ status_of s.end s.receipts → IsShortFor s.end s.refused s.receipts
     → PassGoesOn actor old new s.receipts → GoesOn new.seen was e → s.objects.contents.source ≡ before.contents.source → s.objects.source_faults ≡ before.source_faults → Rises 0 0 (s.status ≡ 3) → Rises before.sink_faults s.objects.sink_faults (s.status ≡ 4)
     → ServedOne limits old new actor e (by_script name n before) (record { name = name; session = s })
-ServedOne-script limits old new actor n was e name first now before s end is_first so by_end goes_on exporter source faults fault sink =
+ServedOne-script limits old new actor n was e name first now before s is_first so by_end short goes_on exporter source faults fault sink =
     let unread = with_source (script_unread n) before.contents in
-    let from_first = subst (λ (f : ScriptState). SessionEnds limits new.seen actor (with_source (script_told f) before.contents) (with_source (script_told now) s.objects.contents) s.receipts e.holding end) is_first so in
+    let from_first = subst (λ (f : ScriptState). SessionEnds limits new.seen actor (with_source (script_told f) before.contents) (with_source (script_told now) s.objects.contents) s.receipts e.holding s.end) is_first so in
     let total = sum_by-cons (λ (x : EndedView). owns x.session.receipts) (record { name = name; session = s }) [] in
     let none : all_owns [] ≡ 0 = refl in
     let told = told-since n now from_first.bytes from_first.gave in
@@ -95,7 +94,7 @@ ServedOne-script limits old new actor n was e name first now before s end is_fir
           source_faults = faults;
           at = now.at;
           ended = now.ended;
-          holds = record { end = end; ends = subst (λ (v : SourceView). SessionEnds limits new.seen actor unread (with_source v s.objects.contents) s.receipts e.holding end) told from_first; by_end = by_end };
+          holds = record { ends = subst (λ (v : SourceView). SessionEnds limits new.seen actor unread (with_source v s.objects.contents) s.receipts e.holding s.end) told from_first; by_end = by_end; short = short };
         };
         source = stays_as before.source_faults s.objects.source_faults (s.status ≡ 3) faults (no_fault (s.status ≡ 3) fault);
         sink = sink;
@@ -117,9 +116,9 @@ ServedOne-unserved limits pass actor n serves e name before unasked =
           at = 0;
           ended = false;
           holds = record {
-            end = ends.Short;
             ends = SessionEnds-none limits actor pass.seen unread e.holding unasked.holds_nothing;
             by_end = refl;
+            short = refl;
           };
         };
         source = stays_as before.source_faults before.source_faults (1 ≡ 3) refl (λ f. omega (arith, f));

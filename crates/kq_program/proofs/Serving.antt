@@ -243,3 +243,12 @@ ServedAll-worker limits workers others actor of old rest mine rest' mine' joined
       served = AreServed-later limits rest'.seen joined.seen 0 x.holding os ss seen rested.served;
       behind = IsPrefix-trans x.seen rest'.seen joined.seen rested.behind seen;
     }
+
+-- its events are those of the others, and then its own
+pub ServedAll-worker-events : (limits : Limits) (workers others actor : ℕ) (of : TurnId) (old rest mine rest' mine' joined : PassView) (x : ExporterView) (os : List OpenedView) (ss : List EndedView)
+    → (of_old : old.of ≡ of) → (some : 2 ≤ old.worth) → (is_rest : rest ≡ record old { worth = old.worth - 1 }) → (is_mine : mine ≡ record old { worth = 1; added = []; made = 0; taken = [] })
+    → (is_workers : workers ≡ others + 1) → (is_actor : actor ≡ 8 + others) → (rested : ServedAll limits others rest rest' x os ss) → (worked : Passed (is_upkeep actor) mine mine' [])
+    → (of_joined : joined.of ≡ of) → (seen : IsPrefix rest'.seen joined.seen) → (worth : joined.worth ≡ rest'.worth + mine'.worth) → (added : joined.added ≡ rest'.added ++ mine'.added) → (made : joined.made ≡ rest'.made + mine'.made)
+    → (ServedAll-worker limits workers others actor of old rest mine rest' mine' joined x os ss of_old some is_rest is_mine is_workers is_actor rested worked of_joined seen worth added made).passed.events ≡ rested.passed.events ++ worked.events
+unfolding ServedAll-worker
+ServedAll-worker-events limits workers others actor of old rest mine rest' mine' joined x os ss of_old some is_rest is_mine is_workers is_actor rested worked of_joined seen worth added made = refl

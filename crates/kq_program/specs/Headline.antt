@@ -14,7 +14,7 @@ use Rattle.kq_session.specs.Objects.{Objects}
 use Rattle.kq_session.specs.Session.{Explained}
 use Rattle.kq_program.specs.Scripts.{ByScript, unfailed}
 use Rattle.kq_program.specs.Views.{EndedView, Given, RunView, held_by}
-use Rattle.kq_program.specs.Whole.{Whole}
+use Rattle.kq_program.specs.Whole.{HaveWorked, Whole}
 use Rattle.kq_program.specs.Words.{feeds_of, generate_of}
 
 -- from the n-th session on, the history explains each by its script, its objects having told at first what is given. The
@@ -49,6 +49,7 @@ pub record IsCaused (s : EndedView) : Type 0 where
 -- a run that began its sessions
 pub record RanSessions (workers : ℕ) (feeds : List (List ℕ)) (given : List Given) (status : ℕ) (c : CatalogView) (e : ExporterState) (sessions : List EndedView) : Type 0 where
   pub headline : Headline workers feeds given c e sessions
+  pub workers_did : HaveWorked c.limits (hist c) (hist c) workers
   pub limits : AreFull c.limits
   pub status_is : status ≡ first_status sessions
   pub caused : All IsCaused sessions

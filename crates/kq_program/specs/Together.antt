@@ -1,5 +1,5 @@
 -- What sessions that are served together come to.
-use Rattle.std.specs.Prelude.{◌≡◌, ◌⊎◌, ◌+◌, ◌++◌, ℕ, ℤ, Bool, true, List, [], ◌∷◌, Some, All, sum_by}
+use Rattle.std.specs.Prelude.{◌≡◌, ◌+◌, ◌++◌, ℕ, ℤ, Bool, true, List, [], ◌∷◌, Some, All, sum_by}
 use mathlib.Core.List.{IsPrefix}
 use Rattle.kq_world.specs.Outside.{SourceView}
 use Rattle.kq_world.specs.declared.outside.Parts.{Parts}
@@ -7,14 +7,14 @@ use Rattle.kq_model.specs.declared.event.Event.{Event}
 use Rattle.kq_model.specs.declared.limits.Limits.{Limits}
 use Rattle.kq_model.specs.History.{History}
 use Rattle.kq_workers.specs.kq_engine.Shared.{PassView}
+use Rattle.kq_session.specs.declared.end.End.TheVariants.{Short}
 use Rattle.kq_session.specs.Objects.{Objects, objects}
 use Rattle.kq_session.specs.Session.{Explained, is_receipted, owns}
 use Rattle.kq_session.specs.Exchanges.{Rises}
 use Rattle.kq_session.specs.kq_exporter.Due.{ExporterView, Holding, nothing_held}
-use Rattle.kq_workers.specs.Rounds.{Works}
 use Rattle.kq_program.specs.Scripts.{ByScript}
 use Rattle.kq_program.specs.Views.{OpenedView, EndedView}
-use Rattle.kq_program.specs.Whole.{is_caused}
+use Rattle.kq_program.specs.Whole.{HaveWorked, is_caused}
 
 -- an exporter that serves or not, and was asked for nothing yet
 pub record IsUnasked (serves : Bool) (e : ExporterView) : Type 0 where
@@ -36,7 +36,7 @@ scripted told source_faults accepted sink_faults readings name rows parts = reco
 
 -- a session that ended before its first receipt, for want of memory
 abbrev pub unserved : List ℕ → Objects → EndedView
-unserved name objects = record { name = name; session = record { objects = objects; receipts = []; status = 1 } }
+unserved name objects = record { name = name; session = record { objects = objects; receipts = []; refused = Some 0; end = Short; status = 1 } }
 
 -- from the n-th session on, each was served. The exporter of the first of them holds this in the end, and those of the others
 -- hold nothing
@@ -61,10 +61,6 @@ pub record Passed (cause : Event → Bool) (old new : PassView) (sessions : List
   pub seen : IsPrefix old.seen new.seen
   pub made : new.made ≡ old.made + all_owns sessions
 
--- a worker's pass came back as it was, or after rounds of chores under the worker's actor
-abbrev pub RestsOrWorks : Limits → ℕ → PassView → PassView → Type 0
-RestsOrWorks limits actor old new = (new ≡ old) ⊎ ((short : Bool) × Works limits actor old new short)
-
 -- the session of an actor was served through a pass, and this is its exporter in the end, which was asked over no more than the
 -- pass has seen
 pub record ServedOne (limits : Limits) (old new : PassView) (actor : ℕ) (e : ExporterView) (o : OpenedView) (s : EndedView) : Type 0 where
@@ -77,3 +73,8 @@ pub record ServedAll (limits : Limits) (workers : ℕ) (old new : PassView) (e :
   pub passed : Passed (is_caused workers ss) old new ss
   pub served : AreServed limits new.seen 0 e.holding os ss
   pub behind : IsPrefix e.seen new.seen
+
+-- and these workers made just their own of the events
+pub record ServedBeside (limits : Limits) (workers : ℕ) (old new : PassView) (e : ExporterView) (os : List OpenedView) (ss : List EndedView) : Type 0 where
+  pub all : ServedAll limits workers old new e os ss
+  pub worked : HaveWorked limits new.seen all.passed.events workers

@@ -1,7 +1,11 @@
 -- The events of a history are those of its sessions and workers.
-use Rattle.std.specs.Prelude.{◌≡◌, ◌<◌, ◌+◌, ◌&&◌, ◌||◌, ℕ, Bool, true, false, List, [], ◌∷◌, length, filter, All, nat_eq, nat_le, nat_lt}
+use Rattle.std.specs.Prelude.{◌≡◌, ◌⊎◌, ◌<◌, ◌+◌, ◌++◌, ◌&&◌, ◌||◌, ℕ, Bool, true, false, List, [], ◌∷◌, length, filter, All, count_by, nat_eq, nat_le, nat_lt}
+use mathlib.Core.List.{IsPrefix}
 use Rattle.kq_model.specs.declared.event.Event.{Event}
+use Rattle.kq_model.specs.declared.limits.Limits.{Limits}
 use Rattle.kq_model.specs.History.{History, CommitAt, commits_at, commits_of}
+use Rattle.kq_workers.specs.kq_engine.Shared.{PassView}
+use Rattle.kq_workers.specs.Rounds.{Works}
 use Rattle.kq_session.specs.Session.{is_receipted, own_commits}
 use Rattle.kq_program.specs.Views.{EndedView}
 
@@ -32,3 +36,27 @@ pub record Whole (workers : ℕ) (h : History) (sessions : List EndedView) : Typ
   pub own : AreOwn h 0 sessions
   pub no_others : All (λ (m : CommitAt). m.by.actor < length sessions) (commits_at h)
   pub caused : All (λ (e : Event). is_caused workers sessions e ≡ true) h
+
+-- ---- workers
+
+-- a worker's pass came back as it was, or after rounds of chores under the worker's actor
+abbrev pub RestsOrWorks : Limits → ℕ → PassView → PassView → Type 0
+RestsOrWorks limits actor old new = (new ≡ old) ⊎ ((refused : ℕ) × (short : Bool) × Works limits actor old new refused short)
+
+-- an event of the actor that passes a test
+abbrev pub is_of_actor : ℕ → (Event → Bool) → Event → Bool
+is_of_actor actor test e = nat_eq e.by.actor actor && test e
+
+-- a worker rested or worked, through a pass that has seen no more than a history, and the actor's among these events are just those that it made
+pub record HasWorked (limits : Limits) (h events : History) (actor : ℕ) : Type 0 where
+  pub old : PassView
+  pub new : PassView
+  pub did : RestsOrWorks limits actor old new
+  pub seen : IsPrefix new.seen h
+  pub own : History
+  pub added : new.added ≡ old.added ++ own
+  pub just : (test : Event → Bool) → count_by (is_of_actor actor test) events ≡ count_by test own
+
+-- so did so many workers, whose actors are counted from 8
+abbrev pub HaveWorked : Limits → History → History → ℕ → Type 0
+HaveWorked limits h events workers = (n : ℕ) → n < workers → HasWorked limits h events (8 + n)

@@ -1,6 +1,6 @@
 // What the program hands back.
 use kq_export::ArtefactExporter;
-use kq_session::Receipts;
+use kq_session::{End, Receipts, Requests};
 use kq_value::Text;
 use kq_workers::Catalog;
 use kq_world::{Clock, Sink, Source, World};
@@ -14,6 +14,8 @@ pub struct EndedSession<S: Source, K: Sink, C: Clock> {
     pub sink: K,
     pub clock: C,
     pub receipts: Receipts,
+    pub requests: Requests,
+    pub end: End,
     pub status: u8,
 }
 
@@ -28,6 +30,8 @@ impl<S: Source, K: Sink, C: Clock> Model for EndedSession<S, K, C> {
       session = record {
         objects = objects S.told S.faults K.accepted K.faults C.readings (record { source = e.source; sink = e.sink; clock = e.clock });
         receipts = e.receipts;
+        refused = e.requests;
+        end = e.end;
         status = e.status;
       };
     } };

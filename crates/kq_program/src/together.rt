@@ -1,5 +1,5 @@
 // Sessions beside each other.
-ghost use Rattle.std.specs.Prelude.{◌≡◌, ◌<◌, ◌≤◌, ◌+◌, ◌∷◌, [], length, true, vec_capacity};
+ghost use Rattle.std.specs.Prelude.{◌≡◌, ◌<◌, ◌≤◌, ◌+◌, ◌∷◌, [], length, Some, true, vec_capacity};
 ghost use Rattle.kq_session.specs.Objects.{objects};
 ghost use Rattle.kq_session.specs.Blocks.{serves_to};
 ghost use Rattle.kq_session.specs.kq_exporter.Due.{none_told};
@@ -8,8 +8,7 @@ ghost use Rattle.kq_program.specs.Together.{IsUnasked, ServedOne, ServedAll, scr
 use crate::ended::EndedSession;
 use crate::opened::OpenedSession;
 use crate::program::MEMORY;
-use kq_gen::ScriptSource;
-use kq_session::{Exporter, NoExporter, Receipts, Served, serve};
+use kq_session::{End, Exporter, NoExporter, Receipts, Requests, Served, serve};
 use kq_value::Text;
 use kq_workers::{Pass, Shared};
 use kq_world::{Clock, Gate, Parts, Sink, Source};
@@ -154,6 +153,8 @@ fn serve_one<R: Wait, S: Source, K: Sink, C: Clock, G: Gate, E: Exporter>(
         },
         exporter,
         receipts,
+        requests,
+        end,
         status,
     } = serve(rt, alloc, shared, pass, actor, parts, exporter, gate);
     let session = EndedSession {
@@ -162,6 +163,8 @@ fn serve_one<R: Wait, S: Source, K: Sink, C: Clock, G: Gate, E: Exporter>(
         sink,
         clock,
         receipts,
+        requests,
+        end,
         status,
     };
     One {
@@ -188,12 +191,16 @@ fn serve_script<R: Wait, S: Source, K: Sink, C: Clock, G: Gate, E: Exporter>(
     requires exporter { IsUnasked (serves_to actor) (E.told exporter) }
     ensures { ServedOne shared.now.limits pass result.pass actor (E.told result.exporter) (scripted S.told S.faults K.accepted K.faults C.readings name rows parts) result.session }
 {
-    let Ok(script) = ScriptSource::new(alloc, rows) else {
-        return One {
-            pass,
-            exporter,
-            session: unserved(alloc, name, parts),
-        };
+    let mut requests = Requests::new();
+    let script = match requests.script(alloc, rows) {
+        Ok(script) => script,
+        Err(_) => {
+            return One {
+                pass,
+                exporter,
+                session: unserved(alloc, name, parts, requests),
+            };
+        }
     };
     let Parts {
         source,
@@ -214,6 +221,8 @@ fn serve_script<R: Wait, S: Source, K: Sink, C: Clock, G: Gate, E: Exporter>(
         },
         exporter,
         receipts,
+        requests,
+        end,
         status,
     } = serve(rt, alloc, shared, pass, actor, parts, exporter, gate);
     One {
@@ -225,17 +234,21 @@ fn serve_script<R: Wait, S: Source, K: Sink, C: Clock, G: Gate, E: Exporter>(
             sink,
             clock,
             receipts,
+            requests,
+            end,
             status,
         },
     }
 }
 
-// A session for whose script no room was found, which counts as room for its first receipt.
+// A session for whose script no memory was found.
 fn unserved<S: Source, K: Sink, C: Clock>(
     alloc: Global,
     name: Text,
     parts: Parts<S, K, C>,
+    requests: Requests,
 ) -> EndedSession<S, K, C>
+    requires { requests ≡ Some 0 }
     ensures { result ≡ unserved name (objects S.told S.faults K.accepted K.faults C.readings parts) }
 {
     let Parts {
@@ -249,6 +262,8 @@ fn unserved<S: Source, K: Sink, C: Clock>(
         sink,
         clock,
         receipts: Receipts::from_vec(Vec::new(alloc)),
+        requests,
+        end: End::Short,
         status: MEMORY,
     }
 }

@@ -1,6 +1,7 @@
 // Workers beside the sessions.
 ghost use Rattle.std.specs.Prelude.{◌≡◌, ◌<◌, ◌≤◌, ◌+◌, ◌∷◌, [], length, true, vec_capacity};
-ghost use Rattle.kq_program.specs.Together.{IsUnasked, Passed, RestsOrWorks, ServedAll};
+ghost use Rattle.kq_program.specs.Together.{IsUnasked, Passed, ServedBeside};
+ghost use Rattle.kq_program.specs.Whole.{RestsOrWorks};
 ghost use Rattle.kq_workers.specs.Rounds.{is_upkeep};
 
 use crate::ended::EndedSession;
@@ -55,7 +56,7 @@ pub(crate) fn serve_beside_workers<
     requires few_workers { workers ≤ 8 }
     requires empty { sessions.items ≡ [] }
     requires room { length feeds.items < vec_capacity sessions }
-    ensures served { ServedAll shared.now.limits workers pass result.pass (E.told result.exporter) (first ∷ feeds.items) result.sessions.items }
+    ensures served { ServedBeside shared.now.limits workers pass result.pass (E.told result.exporter) (first ∷ feeds.items) result.sessions.items }
 {
     if workers == 0 {
         let together = serve_all(
@@ -82,7 +83,7 @@ pub(crate) fn serve_beside_workers<
             requires few_workers { others ≤ 8 }
             requires empty { sessions.items ≡ [] }
             requires room { length feeds.items < vec_capacity sessions }
-            ensures served { ServedAll shared.entry.now.limits others rest result.pass (E.told result.exporter) (first ∷ feeds.items) result.sessions.items }
+            ensures served { ServedBeside shared.entry.now.limits others rest result.pass (E.told result.exporter) (first ∷ feeds.items) result.sessions.items }
         {
             serve_beside_workers(
                 rt, alloc, shared, rest, others, stop, first, exporter, feeds, sessions, gate,

@@ -126,9 +126,9 @@ AreExchanges-served limits h actor n q (t ∷ ts) all =
 
 -- ---- a session
 
-complete_with : (limits : Limits) (h : History) (actor : ℕ) (x : Holding) (before : Contents) (s : SessionView) (end : End) (ends : SessionEnds limits h actor before s.objects.contents s.receipts x end)
+complete_with : (limits : Limits) (h : History) (actor : ℕ) (x : Holding) (before : Contents) (s : SessionView) (end : End) → s.end ≡ end → (ends : SessionEnds limits h actor before s.objects.contents s.receipts x end)
     → (s.status ≡ 0) ⊎ (s.status ≡ 1) → s.status ≡ status_of end s.receipts → AreAllBlocks end ends.bytes s.objects.contents.source.ended (blocks_of ends.exchanges) → Adds before.accepted s.objects.contents.accepted (texts_of ends.exchanges) → IsComplete limits h actor x before s
-complete_with limits h actor x before s end ends status by_end blocks written = record {
+complete_with limits h actor x before s end same ends status by_end blocks written = record {
   status = status;
   exchanges = ends.exchanges;
   bytes = ends.bytes;
@@ -136,9 +136,8 @@ complete_with limits h actor x before s end ends status by_end blocks written = 
   each = ends.each;
   linked = ends.linked;
   gave = ends.gave;
-  end = end;
-  by_end = by_end;
-  blocks = blocks;
+  by_end = subst (λ (e : End). s.status ≡ status_of e s.receipts) (sym same) by_end;
+  blocks = subst (λ (e : End). AreAllBlocks e ends.bytes s.objects.contents.source.ended (blocks_of ends.exchanges)) (sym same) blocks;
   all_at_end = ends.all_at_end;
   served = AreExchanges-served limits h actor 0 0 ends.exchanges ends.each;
   written = written;
@@ -151,19 +150,19 @@ zero_or_one : (b : Bool) → IsGood (cond b 1 0)
 zero_or_one true = inr refl
 zero_or_one false = inl refl
 
-pub complete_by : (limits : Limits) (h : History) (actor : ℕ) (x : Holding) (before : Objects) (s : SessionView) (end : End) → SessionEnds limits h actor before.contents s.objects.contents s.receipts x end → s.status ≡ status_of end s.receipts → ¬ (s.status ≡ 3) → ¬ (s.status ≡ 4) → length s.objects.contents.source.taken < length before.contents.source.taken + input_bytes → IsComplete limits h actor x before.contents s
-complete_by limits h actor x before s Finished ends is source sink few =
-    complete_with limits h actor x before.contents s Finished ends (subst IsGood (sym is) (zero_or_one (wants_memory s.receipts))) is (ends.at_end.ended, ends.blocks.0) ends.written
-complete_by limits h actor x before s Short ends is source sink few = complete_with limits h actor x before.contents s Short ends (inr is) is ends.blocks ends.written
-complete_by limits h actor x before s SourceFault ends is source sink few = absurd (source is)
-complete_by limits h actor x before s SinkFault ends is source sink few = absurd (sink is)
-complete_by limits h actor x before s InputLimit ends is source sink few =
+pub complete_by : (limits : Limits) (h : History) (actor : ℕ) (x : Holding) (before : Objects) (s : SessionView) (end : End) → s.end ≡ end → SessionEnds limits h actor before.contents s.objects.contents s.receipts x end → s.status ≡ status_of end s.receipts → ¬ (s.status ≡ 3) → ¬ (s.status ≡ 4) → length s.objects.contents.source.taken < length before.contents.source.taken + input_bytes → IsComplete limits h actor x before.contents s
+complete_by limits h actor x before s Finished same ends is source sink few =
+    complete_with limits h actor x before.contents s Finished same ends (subst IsGood (sym is) (zero_or_one (wants_memory s.receipts))) is (ends.at_end.ended, ends.blocks.0) ends.written
+complete_by limits h actor x before s Short same ends is source sink few = complete_with limits h actor x before.contents s Short same ends (inr is) is ends.blocks ends.written
+complete_by limits h actor x before s SourceFault same ends is source sink few = absurd (source is)
+complete_by limits h actor x before s SinkFault same ends is source sink few = absurd (sink is)
+complete_by limits h actor x before s InputLimit same ends is source sink few =
     let all = ap length ends.gave.taken in
     absurd (omega (arith, all, length-append before.contents.source.taken ends.bytes, ends.blocks.1, few))
 
 pub CompletesSession-explained : (limits : Limits) (h : History) (actor : ℕ) (x : Holding) (before : Objects) (s : SessionView) → Explained limits h actor x before.contents s → Rises before.source_faults s.objects.source_faults (s.status ≡ 3) → Rises before.sink_faults s.objects.sink_faults (s.status ≡ 4) → CompletesSession limits h actor x before s
 CompletesSession-explained limits h actor x before s explained source sink untroubled =
-    complete_by limits h actor x before s explained.end explained.ends explained.by_end (λ e. untroubled.source (source.rose e)) (λ e. untroubled.sink (sink.rose e)) untroubled.few
+    complete_by limits h actor x before s s.end refl explained.ends explained.by_end (λ e. untroubled.source (source.rose e)) (λ e. untroubled.sink (sink.rose e)) untroubled.few
 
 -- ---- faults and statuses
 

@@ -1,5 +1,6 @@
 -- What the reader gives makes a exchange.
-use Rattle.std.proofs.Common.{◌≡◌, ◌≢◌, ℕ, Bool, true, false, List, [], ◌∷◌, ◌++◌, None, Some, Result, Ok, refl, ap, sym, ◌∙◌, subst, arith, append-nil}
+use Rattle.std.proofs.Common.{◌≡◌, ◌≢◌, ℕ, Bool, true, false, List, [], ◌∷◌, ◌++◌, Option, None, Some, Result, Ok, Err, OnErr, refl, ap, sym, ◌∙◌, subst, arith, append-nil}
+use Rattle.std.specs.Result.{is_err}
 use Rattle.kq_world.specs.Outside.{SourceView, Delivers, Rose}
 use Rattle.kq_world.proofs.Faults.{Rose-later, same-later}
 use Rattle.kq_world.proofs.Told.{Delivers-none}
@@ -17,7 +18,7 @@ use Rattle.kq_script.specs.declared.item.Item.TheVariants.{Command, TooLong, Los
 use Rattle.kq_session.specs.declared.end.End.{End}
 use Rattle.kq_session.specs.declared.end.End.TheVariants as ends
 use Rattle.kq_session.specs.declared.receipt.Receipt.{Receipt}
-use Rattle.kq_session.specs.Session.{AreAllAtEnd, AreBlocks, IsLeft, command_bytes, input_bytes}
+use Rattle.kq_session.specs.Session.{IsShortFor, AreAllAtEnd, AreBlocks, IsLeft, command_bytes, input_bytes}
 use Rattle.kq_session.specs.Exchanges.{State, Progress, IsAfter, Idle, ReadsBlock, Replies, Rises, Went}
 
 -- the session, whose source tells this now, and which keeps these receipts
@@ -113,6 +114,14 @@ Rises-fault before now fault rose is = record { never_falls = Rose-later before 
 -- an exchange without an end has none
 pub not_ended : (end : End) → None ≡ Some end → ⊥
 not_ended end e = cc
+
+-- the only end that says more of memory is one for want of it
+pub IsShortFor-same : (end other : End) (refused : Option ℕ) (receipts : List Receipt) → IsShortFor end refused receipts → Some end ≡ Some other → IsShortFor other refused receipts
+IsShortFor-same end other refused receipts short e = let same : end ≡ other = cc in subst (λ (x : End). IsShortFor x refused receipts) same short
+
+pub err_told : {A E P : Type 0} (r : Result A E) → is_err r ≡ true → OnErr r P → P
+err_told (Ok x) told h = absurd (cc)
+err_told (Err e) told h = h
 
 -- the exchange of the end, after others that didn't fail
 pub Rises-end : (before between now : ℕ) (end fault : End) → between ≡ before → Rises between now (Some end ≡ Some fault) → Rises before now (end ≡ fault)

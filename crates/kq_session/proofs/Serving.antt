@@ -352,12 +352,18 @@ SessionEnds-none limits actor h o x holds = record {
   written = Adds-none o.accepted;
 }
 
+pub SessionComesTo-none : (limits : Limits) (actor : ℕ) (s : State) → s.receipts ≡ [] → s.exporter.holding ≡ nothing_held → s.exporter.seen ≡ [] → SessionComesTo limits actor s s Short
+SessionComesTo-none limits actor s fresh holds unasked = record {
+  goes_on = subst (PassGoesOn actor s.pass s.pass) (sym fresh) (PassGoesOn-none actor s.pass);
+  ends = subst (λ (rs : List Receipt). SessionEnds limits s.pass.seen actor s.contents s.contents rs s.exporter.holding Short) (sym fresh) (SessionEnds-none limits actor s.pass.seen s.contents s.exporter.holding holds);
+  exporter = GoesOn-unasked s.pass.seen s.exporter unasked;
+}
+
 -- what explains a session goes on to explain it
 pub Explained-later : (limits : Limits) (h new : History) (actor : ℕ) (x : Holding) (before : Contents) (s : SessionView) → IsPrefix h new → Explained limits h actor x before s → Explained limits new actor x before s
 Explained-later limits h new actor x before s later explained =
     let ends = explained.ends in
     record {
-      end = explained.end;
       ends = record {
         exchanges = ends.exchanges;
         bytes = ends.bytes;
@@ -373,4 +379,5 @@ Explained-later limits h new actor x before s later explained =
         written = ends.written;
       };
       by_end = explained.by_end;
+      short = explained.short;
     }

@@ -57,7 +57,7 @@ pub record IsUntroubled (before now : Objects) : Type 0 where
   pub sink : ¬ Rose before.sink_faults now.sink_faults
   pub few : length now.contents.source.taken < length before.contents.source.taken + input_bytes
 
--- the end was read and all blocks have their exchanges, or room for the next receipt was wanting
+-- the end was read and all blocks have their exchanges, or memory was refused between two replies
 abbrev pub AreAllBlocks : End → List ℕ → Bool → List Block → Type 0
 AreAllBlocks Finished bytes ended blocks = (ended ≡ true) × (blocks ≡ script_blocks command_bytes bytes true)
 AreAllBlocks Short bytes ended blocks = Begins blocks (script_blocks command_bytes bytes ended)
@@ -75,9 +75,8 @@ pub record IsComplete (limits : Limits) (h : History) (actor : ℕ) (holding : H
   pub each : AreExchanges limits h actor 0 0 exchanges
   pub linked : AreLinked nothing_held exchanges holding
   pub gave : Delivers before.source s.objects.contents.source bytes
-  pub end : End
-  pub by_end : s.status ≡ status_of end s.receipts
-  pub blocks : AreAllBlocks end bytes s.objects.contents.source.ended (blocks_of exchanges)
+  pub by_end : s.status ≡ status_of s.end s.receipts
+  pub blocks : AreAllBlocks s.end bytes s.objects.contents.source.ended (blocks_of exchanges)
   pub all_at_end : AreAllAtEnd before.source.ended s.objects.contents.source.ended bytes (blocks_of exchanges)
   pub served : All (IsServed limits h actor) exchanges
   pub written : Adds before.accepted s.objects.contents.accepted (texts_of exchanges)

@@ -1,5 +1,5 @@
 -- When a session is explained by a history.
-use Rattle.std.specs.Prelude.{◌≡◌, ◌<◌, ◌≤◌, ◌+◌, ◌&&◌, ℕ, ℤ, Bool, true, false, List, [], ◌∷◌, ◌++◌, length, take, map, count_by, All, nat_eq}
+use Rattle.std.specs.Prelude.{◌≡◌, ◌<◌, ◌≤◌, ◌+◌, ◌&&◌, ℕ, ℤ, Bool, true, false, List, [], ◌∷◌, ◌++◌, length, take, map, Option, Some, count_by, All, nat_eq}
 use Rattle.std.specs.List.{flat_map, list_any}
 use mathlib.Core.List.{IsPrefix}
 use Rattle.kq_world.specs.Told.{Adds}
@@ -125,11 +125,16 @@ pub record SessionEnds (limits : Limits) (h : History) (actor : ℕ) (before now
   pub moments : Adds before.readings now.readings (moments_of exchanges)
   pub written : AreWritten end before.accepted now.accepted exchanges
 
+-- a session ends short only where memory was refused after its last reply
+abbrev pub IsShortFor : End → Option ℕ → List Receipt → Type 0
+IsShortFor Short refused receipts = refused ≡ Some (length receipts)
+IsShortFor end refused receipts = Unit {0}
+
 -- the session of an actor, whose objects told this at first and whose exporter holds this in the end, is explained by a history
 pub record Explained (limits : Limits) (h : History) (actor : ℕ) (holding : Holding) (before : Contents) (s : SessionView) : Type 0 where
-  pub end : End
-  pub ends : SessionEnds limits h actor before s.objects.contents s.receipts holding end
-  pub by_end : s.status ≡ status_of end s.receipts
+  pub ends : SessionEnds limits h actor before s.objects.contents s.receipts holding s.end
+  pub by_end : s.status ≡ status_of s.end s.receipts
+  pub short : IsShortFor s.end s.refused s.receipts
 
 -- the commits of an actor's receipts with `own`
 abbrev pub own_commits : ℕ → List Receipt → List CommitAt

@@ -7,12 +7,14 @@ ghost use Rattle.kq_session.specs.Blocks.{GoesOn, serves_to};
 ghost use Rattle.kq_script.specs.Reading.{IsReading, IsUnclosed as MayGoOn};
 ghost use Rattle.kq_session.specs.Complete.{CompletesSession};
 ghost use Rattle.kq_session.specs.Objects.{objects};
-ghost use Rattle.kq_session.specs.Session.{Explained, PassGoesOn, command_bytes, input_bytes};
+ghost use Rattle.kq_session.specs.Session.{Explained, IsShortFor, PassGoesOn, command_bytes, input_bytes};
+ghost use Rattle.kq_session.specs.declared.end.End.{End as Ending};
 ghost use Rattle.kq_session.specs.Exchanges.{SessionComesTo, Replies, Rises, TakesExchange, state_of};
 
 use crate::answer::answer;
 use crate::end::End;
 use crate::receipt::{Receipt, Receipts};
+use crate::requests::Requests;
 use crate::served::Served;
 use crate::service::Service;
 use kq_engine::{Pass, Shared};
@@ -37,6 +39,7 @@ pub(crate) struct Session<S: Drop, K: Drop, C: Drop, E: Drop> {
     pub parts: Parts<S, K, C>,
     pub exporter: E,
     pub receipts: Vec<Receipt>,
+    pub requests: Requests,
 }
 
 /// Serves a session to its end. Others may be served at the same time, each with a pass of its own. Session 0 alone has
@@ -74,24 +77,49 @@ pub fn serve<R: Wait, S: Source, K: Sink, C: Clock, G: Gate, E: Exporter>(
         parts,
         exporter,
         receipts,
+        requests: Requests::new(),
     };
-    let end = match ScriptReader::new(alloc, COMMAND_BYTES, INPUT_BYTES) {
-        Ok(mut reader) => serve_script(&service, actor, &mut reader, &mut session),
-        Err(_) => End::Short,
-    };
+    let end = serve_session(&service, actor, &mut session);
     let status = end.status(session.receipts.as_slice());
     let Session {
         pass,
         parts,
         exporter,
         receipts,
+        requests,
     } = session;
     Served {
         pass,
         parts,
         exporter,
         receipts: Receipts::from_vec(receipts),
+        requests,
+        end,
         status,
+    }
+}
+
+fn serve_session<R: Wait, S: Source, K: Sink, C: Clock, G: Gate, E: Exporter>(
+    service: &Service<R, G>,
+    actor: u32,
+    session: &mut Session<S, K, C, E>,
+) -> End
+    requires of { session.old.pass.of ≡ service.now.shared.now.turn }
+    requires fresh { session.old.receipts.items ≡ [] }
+    requires serves { (E.told session.old.exporter).serves ≡ serves_to actor }
+    requires holds { (E.told session.old.exporter).holding ≡ nothing_held }
+    requires unasked { (E.told session.old.exporter).seen ≡ [] }
+    ensures comes { let at = state_of S.told K.accepted C.readings E.told in SessionComesTo service.now.shared.now.limits actor (at session.old) (at session.new) result }
+    ensures short { IsShortFor result session.new.requests session.new.receipts.items }
+    ensures source { Rises (S.faults session.old.parts.source) (S.faults session.new.parts.source) (result ≡ End.SourceFault) }
+    ensures sink { Rises (K.faults session.old.parts.sink) (K.faults session.new.parts.sink) (result ≡ End.SinkFault) }
+{
+    match session
+        .requests
+        .reader(service.alloc, COMMAND_BYTES, INPUT_BYTES)
+    {
+        Ok(mut reader) => serve_script(service, actor, &mut reader, session),
+        Err(_) => End::Short,
     }
 }
 
@@ -108,6 +136,7 @@ fn serve_script<R: Wait, S: Source, K: Sink, C: Clock, G: Gate, E: Exporter>(
     requires holds { (E.told session.old.exporter).holding ≡ nothing_held }
     requires unasked { (E.told session.old.exporter).seen ≡ [] }
     ensures comes { let at = state_of S.told K.accepted C.readings E.told in SessionComesTo service.now.shared.now.limits actor (at session.old) (at session.new) result }
+    ensures short { IsShortFor result session.new.requests session.new.receipts.items }
     ensures source { Rises (S.faults session.old.parts.source) (S.faults session.new.parts.source) (result ≡ End.SourceFault) }
     ensures sink { Rises (K.faults session.old.parts.sink) (K.faults session.new.parts.sink) (result ≡ End.SinkFault) }
 {
@@ -117,7 +146,8 @@ fn serve_script<R: Wait, S: Source, K: Sink, C: Clock, G: Gate, E: Exporter>(
             return end;
         }
     }
-    End::Short
+    // No list has so many receipts.
+    unreachable!()
 }
 
 // One block, or the end.
@@ -132,10 +162,11 @@ fn exchange<R: Wait, S: Source, K: Sink, C: Clock, G: Gate, E: Exporter>(
     requires serves { (E.told session.old.exporter).serves ≡ serves_to by.actor }
     requires behind { IsPrefix (E.told session.old.exporter).seen session.old.pass.seen }
     ensures exchange { TakesExchange S.told K.accepted C.readings E.told service.now.shared.now.limits by reader.old reader.new session.old session.new result }
+    ensures short { (end : Ending) → result ≡ Some end → IsShortFor end session.new.requests session.new.receipts.items }
     ensures source { Rises (S.faults session.old.parts.source) (S.faults session.new.parts.source) (result ≡ Some End.SourceFault) }
     ensures sink { Rises (K.faults session.old.parts.sink) (K.faults session.new.parts.sink) (result ≡ Some End.SinkFault) }
 {
-    if session.receipts.reserve(1).is_err() {
+    if session.requests.room(&mut session.receipts).is_err() {
         return Some(End::Short);
     }
     let item = match reader.next_command(&mut session.parts.source) {

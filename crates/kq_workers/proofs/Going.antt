@@ -16,7 +16,7 @@ use Rattle.kq_engine.specs.Fits.{event_by}
 use Rattle.kq_engine.specs.Shared.{PassView}
 use Rattle.kq_engine.specs.Upkeeps.{IsWanted, MakesOwn}
 use Rattle.kq_workers.specs.declared.worker.Worker.{Worker}
-use Rattle.kq_workers.specs.Rounds.{GoesRound, GoesRounds, HasRound, HasRounds, HasChores, Looks, TakesOne, TakesChore, TakesChores, Chore, Works, begun, is_upkeep, wants_memory}
+use Rattle.kq_workers.specs.Rounds.{GoesRound, GoesRounds, HasRound, HasRounds, HasChores, Looks, TakesOne, TakesChore, TakesChores, Chore, Works, begun, is_upkeep, next, wants_memory}
 
 -- ---- short
 
@@ -158,17 +158,17 @@ rounds_carry limits actor (chores ∷ rounds) old new went = Carries-trans actor
 
 -- ---- rounds
 
--- memory was wanting for the look
-pub HasRound-refused : (limits : Limits) (actor : ℕ) (old new : Worker) → Looks old.pass new.pass → new.number ≡ old.number → new.short ≡ true → HasRound limits actor old new
-HasRound-refused limits actor old new looks number short = record {
+-- the look was refused
+pub HasRound-refused : (limits : Limits) (actor : ℕ) (old new : Worker) → Looks old.pass new.pass → new.refused.count ≡ next old.refused.count → new.number ≡ old.number → new.short ≡ true → HasRound limits actor old new
+HasRound-refused limits actor old new looks counted number short = record {
   chores = [];
-  went = record { looked = new; looks = looks; number = number; refused = true; short = short ∙ or_true old.short; none = λ e. refl; wanted = All-nil (λ (t : Chore). IsWanted new.pass.seen t.upkeep); chore = refl };
+  went = record { looked = new; looks = looks; number = number; refused = true; counted = counted; short = short ∙ or_true old.short; none = λ e. refl; wanted = All-nil (λ (t : Chore). IsWanted new.pass.seen t.upkeep); chore = refl };
 }
 
-pub HasRound-chores : (limits : Limits) (actor : ℕ) (old looked new : Worker) → Looks old.pass looked.pass → looked.number ≡ old.number → looked.short ≡ old.short → HasChores limits actor looked.pass.seen looked new → HasRound limits actor old new
-HasRound-chores limits actor old looked new looks number short has = record {
+pub HasRound-chores : (limits : Limits) (actor : ℕ) (old looked new : Worker) → Looks old.pass looked.pass → looked.refused.count ≡ old.refused.count → looked.number ≡ old.number → looked.short ≡ old.short → HasChores limits actor looked.pass.seen looked new → HasRound limits actor old new
+HasRound-chores limits actor old looked new looks counted number short has = record {
   chores = has.chores;
-  went = record { looked = looked; looks = looks; number = number; refused = false; short = short ∙ or_false old.short; none = λ e. absurd (cc); wanted = has.wanted; chore = has.taken };
+  went = record { looked = looked; looks = looks; number = number; refused = false; counted = counted; short = short ∙ or_false old.short; none = λ e. absurd (cc); wanted = has.wanted; chore = has.taken };
 }
 
 -- rounds that were gone so far
@@ -196,7 +196,7 @@ HasRounds-push limits actor a b c so_far has = by_rounds so_far.rounds so_far.we
     by_rounds (first ∷ rounds) went = record { first = first; more = rounds ++ has.chores ∷ []; went = rounds_push limits actor (first ∷ rounds) has.chores a b c went has.went }
 
 -- what became of the pass in all
-pub Works-rounds : (limits : Limits) (actor : ℕ) (pass : PassView) (new : Worker) → HasRounds limits actor (begun pass) new → Works limits actor pass new.pass new.short
+pub Works-rounds : (limits : Limits) (actor : ℕ) (pass : PassView) (new : Worker) → HasRounds limits actor (begun pass) new → Works limits actor pass new.pass new.refused.count new.short
 Works-rounds limits actor pass new has =
     let carries = rounds_carry limits actor (has.first ∷ has.more) (begun pass) new has.went in
     record {

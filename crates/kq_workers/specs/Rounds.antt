@@ -1,5 +1,5 @@
 -- What a worker does to its pass: rounds of chores.
-use Rattle.std.specs.Prelude.{◌≡◌, ◌+◌, ◌-◌, ◌^◌, ◌||◌, ◌&&◌, ◌++◌, ◌∷◌, [], ℕ, Bool, true, false, List, length, min, All, nat_eq}
+use Rattle.std.specs.Prelude.{◌≡◌, ◌+◌, ◌-◌, ◌^◌, ◌||◌, ◌&&◌, ◌++◌, ◌∷◌, [], ℕ, Bool, true, false, List, length, min, All, nat_eq, if◌then◌else◌}
 use mathlib.Core.List.{IsPrefix}
 use Rattle.kq_model.specs.declared.event.Event.{Event}
 use Rattle.kq_model.specs.declared.limits.Limits.{Limits}
@@ -32,6 +32,7 @@ pub record Chore : Type 0 where
 pub record TakesChore (limits : Limits) (actor : ℕ) (old new : Worker) (t : Chore) : Type 0 where
   pub number : new.number ≡ next old.number
   pub keeps : KeepsUp limits old.pass new.pass (record { actor = actor; number = new.number }) t.upkeep t.outcome
+  pub looked : new.refused ≡ old.refused
   pub short : new.short ≡ (old.short || wants_memory t.outcome.reply)
 
 -- such a chore was taken for this upkeep
@@ -49,12 +50,13 @@ pub record Looks (old new : PassView) : Type 0 where
   pub seen : IsPrefix old.seen new.seen
   pub pass : new ≡ record old { seen = new.seen; taken = old.taken ++ length new.seen ∷ [] }
 
--- a round: a look and its chores, for each of which there was something to do at the look; or a look for which memory was wanting, and none
+-- a round: a look and its chores, for each of which there was something to do at the look; or a look that was refused, as its count tells, and none
 pub record GoesRound (limits : Limits) (actor : ℕ) (chores : List Chore) (old new : Worker) : Type 0 where
   pub looked : Worker
   pub looks : Looks old.pass looked.pass
   pub number : looked.number ≡ old.number
   pub refused : Bool
+  pub counted : looked.refused.count ≡ (if refused then next old.refused.count else old.refused.count)
   pub short : looked.short ≡ (old.short || refused)
   pub none : refused ≡ true → chores ≡ []
   pub wanted : All (λ (t : Chore). IsWanted looked.pass.seen t.upkeep) chores
@@ -67,14 +69,14 @@ GoesRounds limits actor (chores ∷ rounds) old new = (mid : Worker) × GoesRoun
 
 -- a worker that begins
 abbrev pub begun : PassView → Worker
-begun pass = record { pass = pass; number = 0; short = false }
+begun pass = record { pass = pass; refused = record { count = 0 }; number = 0; short = false }
 
 -- the event is an actor's fold or merge, since it is no commit
 abbrev pub is_upkeep : ℕ → Event → Bool
 is_upkeep actor e = nat_eq e.by.actor actor && nat_eq (length (commits_of e.operation)) 0
 
--- a pass after a worker's rounds, of which there is one or more: it has seen at least as much, and all events that were made through it are folds and merges of the actor; each chore made, under its last take, at most one event, a fold or a merge with the actor's request id; memory was wanting in one of them, or not
-pub record Works (limits : Limits) (actor : ℕ) (old new : PassView) (short : Bool) : Type 0 where
+-- a pass after a worker's rounds, of which there is one or more: it has seen at least as much, and all events that were made through it are folds and merges of the actor; each chore made, under its last take, at most one event, a fold or a merge with the actor's request id; so many looks were refused, and memory was wanting, or not
+pub record Works (limits : Limits) (actor : ℕ) (old new : PassView) (refused : ℕ) (short : Bool) : Type 0 where
   pub of : new.of ≡ old.of
   pub worth : new.worth ≡ old.worth
   pub events : History
@@ -85,7 +87,7 @@ pub record Works (limits : Limits) (actor : ℕ) (old new : PassView) (short : B
   pub first : List Chore
   pub rounds : List (List Chore)
   pub last : ℕ
-  pub went : GoesRounds limits actor (first ∷ rounds) (begun old) (record { pass = new; number = last; short = short })
+  pub went : GoesRounds limits actor (first ∷ rounds) (begun old) (record { pass = new; refused = record { count = refused }; number = last; short = short })
 
 -- one round or more
 pub record HasRounds (limits : Limits) (actor : ℕ) (old new : Worker) : Type 0 where

@@ -18,12 +18,24 @@ pub(crate) fn round<R: Wait, G: Gate>(post: &Post<R, G>, worker: &mut Worker) ->
     ensures round { HasRound post.now.shared.now.limits post.now.actor worker.old worker.new }
     ensures kept { worker.new.short ≡ false → AreKept worker.old.pass.seen worker.new.pass.seen }
 {
-    let Ok(snapshot) = post.shared.snapshot(post.rt, &mut worker.pass) else {
-        worker.short = true;
-        return false;
-    };
-    let folded = fold_views(post, worker, &snapshot);
-    let merged = merge_tables(post, worker, &snapshot);
+    match worker.refused.look(post.rt, post.shared, &mut worker.pass) {
+        Ok(snapshot) => keep_up(post, worker, &snapshot),
+        Err(_) => {
+            worker.short = true;
+            false
+        }
+    }
+}
+
+// Folds and merges what was behind at a look. True where something was done.
+fn keep_up<R: Wait, G: Gate>(post: &Post<R, G>, worker: &mut Worker, snapshot: &Snapshot) -> bool
+    requires of { worker.old.pass.of ≡ post.now.shared.now.turn }
+    requires since { SeenGoesOn post.now.shared.now.limits snapshot.now.history worker.old.pass.seen }
+    ensures chores { HasChores post.now.shared.now.limits post.now.actor snapshot.now.history worker.old worker.new }
+    ensures kept { worker.new.short ≡ false → AreKept snapshot.now.history worker.new.pass.seen }
+{
+    let folded = fold_views(post, worker, snapshot);
+    let merged = merge_tables(post, worker, snapshot);
     folded || merged
 }
 

@@ -12,10 +12,12 @@ use kq_world::Gate;
 use std::sync::Wait;
 use std::sync::atomic::{AtomicBool, Ordering};
 
-/// What a worker hands back: its pass, and whether want of memory refused something in it.
+/// What a worker hands back: its pass, how many of its looks were refused for want of memory, and whether memory was wanting
+/// at all: for a look or for a chore.
 #[derive(Drop)]
 pub struct Worked {
     pub pass: Pass,
+    pub refused: u64,
     pub short: bool,
 }
 
@@ -32,7 +34,7 @@ pub fn work<R: Wait, G: Gate>(
     stop: &AtomicBool,
 ) -> Worked
     requires { pass.of ≡ shared.now.turn }
-    ensures pass { Works shared.now.limits actor pass result.pass result.short }
+    ensures pass { Works shared.now.limits actor pass result.pass result.refused result.short }
     ensures views { result.short ≡ false → (view : ℕ) → view < view_count (log pass.seen) → IsForward pass.seen result.pass.seen view }
     ensures tables { result.short ≡ false → (table : ℕ) → table < length (tables (log pass.seen)) → IsMerged pass.seen result.pass.seen table }
 {
@@ -42,18 +44,20 @@ pub fn work<R: Wait, G: Gate>(
         actor,
         gate,
     };
-    let mut worker = Worker {
-        pass,
-        number: 0,
-        short: false,
-    };
+    let mut worker = Worker::begun(pass);
     go_rounds(&post, &mut worker, stop);
     let Worker {
         pass,
+        refused,
         number: _,
         short,
     } = worker;
-    Worked { pass, short }
+    let refused = refused.count();
+    Worked {
+        pass,
+        refused,
+        short,
+    }
 }
 
 fn go_rounds<R: Wait, G: Gate>(post: &Post<R, G>, worker: &mut Worker, stop: &AtomicBool)

@@ -61,7 +61,7 @@ fn one_round_brings_a_view_forward_and_merges_a_table(rt: HostRuntime) -> Result
         &OpenGate,
     );
     let stop = AtomicBool::new(true);
-    let Worked { pass, short } = work(&rt, &shared, pass, 8, &OpenGate, &stop);
+    let Worked { pass, short, .. } = work(&rt, &shared, pass, 8, &OpenGate, &stop);
     let Served { pass: _, parts, .. } = serve(
         &rt,
         rt.alloc(),

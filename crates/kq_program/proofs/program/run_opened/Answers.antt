@@ -16,9 +16,9 @@ returns-clause-run g c = λ told names opened.
 pub returns-clause-status : goal.returns-clause-status
 returns-clause-status g c =
     let status = c.first_status.ensures ∙ ap first_status c.as_slice.ensures.value in
-    (first-of-sessions _ _ _ _ _ _ _ _ c.serve_beside_workers-pass.ensures.served status).0
+    (first-of-sessions _ _ _ _ _ _ _ _ c.serve_beside_workers-pass.ensures.served.all status).0
 
 pub returns-clause-opened : goal.returns-clause-opened
 returns-clause-opened g c =
     let status = c.first_status.ensures ∙ ap first_status c.as_slice.ensures.value in
-    (first-of-sessions _ _ _ _ _ _ _ _ c.serve_beside_workers-pass.ensures.served status).1
+    (first-of-sessions _ _ _ _ _ _ _ _ c.serve_beside_workers-pass.ensures.served.all status).1

@@ -1,9 +1,9 @@
 use denote.Param.{param}
 use denote.Param.Send.{IsSync, sendable}
 use Rattle.std.proofs.Crossing.{crosses}
-use Rattle.std.proofs.Common.{arith, rules, ◌≡◌, ◌≤◌, ◌+◌, ◌-◌}
+use Rattle.std.proofs.Common.{arith, length, rules, ◌≡◌, ◌≤◌, ◌+◌, ◌-◌, ◌∷◌}
 use Rattle.kq_workers.proofs.kq_engine.Crossing.{pass_send, shared_sync}
-use Rattle.kq_program.proofs.Serving.{ServedAll-worker}
+use Rattle.kq_program.proofs.Beside.{ServedBeside-none, ServedBeside-worker}
 use Rattle.kq_program.proofs.workers.+fn-serve_beside_workers-join+arg3+serve_beside_workers.Goals as goal
 
 pub fn::serve_beside_workers::join+arg3+FnOnce::call_once-join+arg3-requires :
@@ -25,7 +25,8 @@ join-worked-requires-send-A g t c κs within = search (pass_send, sendable, cros
 pub returns : goal.returns
 returns g t c =
     let some : 2 ≤ c.args.pass.worth = omega (arith, c.requires.worth) in
+    let few : length (c.args.first ∷ c.args.feeds.items) ≤ 8 = let few = c.requires.few in omega (arith, few) in
     let one_more : c.args.workers ≡ c.args.workers - 1 + 1 = omega arith in
     record {
-      served = ServedAll-worker c.args.shared.now.limits c.args.workers (c.args.workers - 1) c.actor_of-actor.result c.args.shared.now.turn c.args.pass _ _ _ _ c.join.result _ _ _ c.requires.of some c.split-rest.ensures.first c.split-rest.ensures.second one_more c.actor_of-actor.ensures c.join-worked.ensures.second c.join-worked.ensures.first.0 c.join.ensures.of c.join.ensures.first_seen c.join.ensures.worth c.join.ensures.added c.join.ensures.made;
+      served = ServedBeside-worker c.args.shared.now.limits c.args.workers (c.args.workers - 1) c.actor_of-actor.result c.args.shared.now.turn c.args.pass _ _ _ _ c.join.result _ _ _ few c.requires.of some c.split-rest.ensures.first c.split-rest.ensures.second one_more c.actor_of-actor.ensures c.join-worked.ensures.second c.join-worked.ensures.first.0 c.join-worked.ensures.first.1 c.join.ensures.of c.join.ensures.first_seen c.join.ensures.second_seen c.join.ensures.worth c.join.ensures.added c.join.ensures.made;
     }

@@ -6,4 +6,4 @@ pub returns-then-load : goal.returns-then-load
 returns-then-load g c = record { passed = Passed-same _ _; worked = inl refl }
 
 pub returns : goal.returns
-returns g c = record { passed = Passed-worked _ _ _ _ _ c.work.ensures.pass; worked = inr (_, c.work.ensures.pass) }
+returns g c = record { passed = Passed-worked _ _ _ _ _ _ c.work.ensures.pass; worked = inr (_, _, c.work.ensures.pass) }
