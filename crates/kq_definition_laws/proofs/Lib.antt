@@ -1,4 +1,6 @@
 mod Arrays
 mod Dates
+mod Groups
 mod Objects
 mod Splits
+mod Summaries

@@ -1,4 +1,5 @@
 pub mod Arrays
 pub mod Dates
+pub mod Groups
 pub mod Objects
 pub mod Splits

@@ -4,14 +4,25 @@ ghost use Rattle.std.specs.List.Sorted.{IsPermutation};
 ghost use Rattle.json.specs.Json.{Members as Given};
 ghost use Rattle.serde_json.specs.Data.{Members, no_members};
 ghost use Rattle.serde_json.specs.Read.{of_members};
+ghost use Rattle.kq_computed.specs.Computed.{Computed, Is, Overflow};
+ghost use Rattle.kq_expr.specs.Terms.{Term};
+ghost use Rattle.kq_group.specs.Groups.{Grouping, rows_from};
+ghost use Rattle.kq_grouping.specs.Bodies.{MadeOf, StandsFor};
+ghost use Rattle.kq_grouping.specs.Grouping.{GroupsOf, Summarized};
+ghost use Rattle.kq_grouping.specs.kq_piecewise.Operators.{Row};
+ghost use Rattle.kq_grouping.specs.kq_scalar.Val.{Surroundings};
+ghost use Rattle.kq_plan.specs.Plans.{Aggregating, Planned};
 ghost use Rattle.kq_value.specs.Same.{Same};
 ghost use Rattle.kq_value.specs.Tree.{Tree};
+ghost use Rattle.kq_value.specs.declared.schema.Field.{Field};
+ghost use Rattle.kq_value.specs.declared.ty.Ty.{Ty};
 ghost use Rattle.kq_value.specs.declared.value.Value.{Value};
 ghost use Rattle.kq_written.specs.Civil.{Civil, is_date, days_to, days_of_year_0, date_of_day};
 ghost use Rattle.kq_written.specs.Members.{in_order};
 ghost use Rattle.kq_written.specs.Strings.{split};
 ghost use Rattle.kq_definition_laws.specs.Arrays.{IsInOrder};
 ghost use Rattle.kq_definition_laws.specs.Dates.{HasMonthAndDay, IsDateAfter, days_before};
+ghost use Rattle.kq_definition_laws.specs.Groups.{AreKeysOf, IsSummary, SomethingOverflows};
 ghost use Rattle.kq_definition_laws.specs.Objects.{KeepsLast};
 ghost use Rattle.kq_definition_laws.specs.Splits.{IsSplitBy};
 
@@ -41,4 +52,20 @@ pub fn sorted_arrays_are_in_order()
 /// Lists that have each row equally often have the same rows, in whatever order.
 pub fn same_rows_are_permuted()
     ensures { (a b : List (List Value)) → Same a b ↔ IsPermutation a b }
+{}
+
+/// A summarize gives one row for each different key of the rows: the key, and behind it cells that the aggregates may give over the rows with this key. With no key terms there is one row, even over no rows.
+pub fn summaries_have_a_row_for_each_key()
+    ensures { (es : List Term) (gs : List Aggregating) (cs : List Field) (s : Surroundings) (rows made : List Row) → Summarized es gs cs s rows (Is made) ↔ IsSummary es gs cs s rows made }
+{}
+
+/// What comes of a summarize is an overflow exactly where a key or an argument overflows on some row, or the exact sum of the values that a sum takes of the rows with some key is outside its type.
+pub fn summaries_overflow_where_a_part_does()
+    ensures { (es : List Term) (gs : List Aggregating) (cs : List Field) (s : Surroundings) (rows : List Row) (came : Computed (List Row)) → Summarized es gs cs s rows came → (came ≡ Overflow) ↔ SomethingOverflows es gs cs s rows }
+{}
+
+/// Groups of rows have the different keys of these rows, each once, and what they end with is what a summarize gives. The groups of a view are such groups, over the rows that its operators leave.
+pub fn groups_have_the_keys_of_their_rows()
+    ensures keys { (es : List Term) (gs : List Aggregating) (ts : List Ty) (s : Surroundings) (rows : List Row) (g : Grouping) → GroupsOf es gs ts s rows g → AreKeysOf es s rows g.keys }
+    ensures views { (body : Planned) (rows : List Row) (g : Grouping) → StandsFor body rows g → MadeOf body rows (rows_from g.states g.keys 0) }
 {}

@@ -1,3 +1,4 @@
+mod Bodies
 mod Clauses
 mod Owned
 mod Timeless
