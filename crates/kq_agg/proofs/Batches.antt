@@ -2,12 +2,15 @@
 use Rattle.std.proofs.Common.{◌≡◌, ◌≢◌, ◌<◌, ℕ, ℤ, pos, zero, suc, ◌+◌, Bool, true, false, cond, nat_eq, List, [], ◌∷◌, ◌++◌, Some, length, map, replicate, take, get_or, slice_get, refl, sym, ap, ◌∙◌, subst, arith, append-nil, append_assoc}
 use Rattle.std.proofs.lemmas.Bool.Decides.{nat_tests}
 use Rattle.std.proofs.lemmas.List.{get_or-map, get_or-replicate, length_push, length-map, length-replicate, length-take, take_more}
+use Rattle.std.proofs.lemmas.List.FromFn.{get_or-range_with_len, length-range_with_len}
+use Rattle.std.specs.List.{range_with_len}
 use Rattle.std.proofs.lemmas.Option.{get_or_from_slice_get, slice_get-map, slice_get-get_or, unwrap_or-slice_get}
 use Rattle.std.specs.Prelude.{option_map}
 use Rattle.kq_value.specs.declared.value.Value.{Value}
 use Rattle.kq_value.specs.declared.value.Value.TheVariants.{Null}
 use Rattle.kq_value.specs.declared.ty.Ty.TheVariants as ty
 use Rattle.kq_vector.specs.Vectors.{cell_of}
+use Rattle.kq_agg.specs.Across.{across, rows_across}
 use Rattle.kq_agg.specs.Alone.{alone, cell_as, each_alone}
 use Rattle.kq_agg.specs.Holds.{Kept, Holds}
 use Rattle.kq_agg.specs.Steps.{none_kept, kept_at, Steps, ChangesAt, Grows, TakesIn, of_group}
@@ -126,3 +129,12 @@ pub TakesIn-cells : (k l : Kind) (hs : List ℕ) (cells : List Value) (i : ℕ) 
 TakesIn-cells k l hs cells i olds mids news same h along c t =
     TakesIn-made alone k l hs cells i (Null ty.Long) olds mids news same h along
     (subst (λ (v : Value). ChangesAt (get_or hs i 0) (Steps k (alone v)) mids news) (unwrap_or-slice_get cells i (Null ty.Long)) c) t
+
+-- one more of the rows whose cells stand in columns
+pub TakesIn-across : (k l : Kind) (hs : List ℕ) (columns : List (List Value)) (i : ℕ) (olds mids news : List Kept) → k ≡ l → i < length hs → ChangesAt (get_or hs i 0) (Steps k (across columns i)) mids news
+    → TakesIn l (take i hs) (take i (rows_across (length hs) columns)) olds mids → TakesIn l (take (i + 1) hs) (take (i + 1) (rows_across (length hs) columns)) olds news
+TakesIn-across k l hs columns i olds mids news same h c t =
+    let n = length hs in
+    let first : 0 + i ≡ i = omega arith in
+    let at : get_or (range_with_len 0 n) i 0 ≡ i = get_or-range_with_len 0 n i 0 h ∙ first in
+    TakesIn-made (across columns) k l hs (range_with_len 0 n) i 0 olds mids news same h (sym (length-range_with_len 0 n)) (subst (λ (p : ℕ). ChangesAt (get_or hs i 0) (Steps k (across columns p)) mids news) (sym at) c) t

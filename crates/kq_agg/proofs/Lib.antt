@@ -6,3 +6,4 @@ pub mod Lasts
 pub mod Sets
 pub mod StepLemmas
 pub mod Typed
+pub mod kq_arithmetic

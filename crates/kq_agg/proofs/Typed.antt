@@ -4,7 +4,7 @@ use Rattle.std.specs.Prelude.{if◌then◌else◌}
 use Rattle.std.specs.declared.cmp.Ordering.{Ordering}
 use Rattle.std.specs.List.{All}
 use Rattle.std.proofs.lemmas.List.Elements.{All-contains, All-filter, All-map, All-weaker}
-use Rattle.kq_computed.specs.Computed.{Is, Overflow, and_then}
+use Rattle.kq_computed.specs.Computed.{Is, Overflow, and_then, Computed}
 use Rattle.kq_plan.specs.Fits.{FitsAggregate, ty_of}
 use Rattle.kq_plan.specs.Plans.{Aggregating, rows_counted, summed as sum_of, least_of, greatest_of, at_greatest, at_least, any_of, set_of}
 use Rattle.kq_value.specs.Typed.{HasType, HasTypes, missing_of}
@@ -14,13 +14,25 @@ use Rattle.kq_value.specs.declared.ty.Ty.TheVariants as ty
 use Rattle.kq_value.specs.declared.value.Value.{Value}
 use Rattle.kq_value.specs.declared.value.Value.TheVariants.{Long, Span}
 use Rattle.kq_conversions.specs.kq_written.Numerals.{is_long}
-use Rattle.kq_agg.specs.Aggregates.{aggregate_kind, HaveTheTypes, GivesTypes}
+use Rattle.kq_agg.specs.Aggregates.{aggregate_kind}
 use Rattle.kq_agg.specs.Holds.{Kept, counted, summed, extreme, chosen, collected, Holds, Cell, finished, firsts, present, is_present}
 use Rattle.kq_agg.specs.Ranks.{first_of, side_cmp, choice_cmp, IsLast}
 use Rattle.kq_agg.specs.declared.kind.Kind.{Kind}
 use Rattle.kq_agg.proofs.Chosen.{last_from_IsTakenBy, last_from_IsAnyOf}
 use Rattle.kq_agg.specs.declared.kind.Side.TheVariants as side
 use Rattle.kq_agg.specs.declared.kind.Choice.TheVariants as choice
+
+-- the rows of arguments of the aggregates that give some of these have the types of what is given
+abbrev pub HaveTheTypes : Aggregating → List Field → List (List Value) → Type 0
+HaveTheTypes rows_counted cs rows = Unit {0}
+HaveTheTypes (sum_of e) cs rows = Unit {0}
+HaveTheTypes (set_of e n) cs rows = Unit {0}
+HaveTheTypes g cs rows = All (HasTypes cs) rows
+
+-- the cells, if there are any, are ones of these columns
+abbrev pub GivesTypes : List Field → Computed (List Value) → Type 0
+GivesTypes cs (Is cells) = HasTypes cs cells
+GivesTypes cs Overflow = Unit {0}
 
 abbrev pub Rows : Type 0
 Rows = List (List Value)

@@ -1,4 +1,5 @@
 pub mod Alone
+pub mod Across
 pub mod Aggregates
 pub mod Holds
 pub mod Ranks

@@ -1,3 +1,2 @@
 -- What callers of this crate name of `kq_arithmetic`.
 pub use Rattle.kq_arithmetic.specs.Logic
-pub use Rattle.kq_arithmetic.specs.Numbers

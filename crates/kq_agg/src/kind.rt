@@ -69,7 +69,7 @@ impl Side {
     }
 
     // The same of values that may be null, which come before all others.
-    fn cmp_nulls_first(self, a: &Value, b: &Value) -> Ordering
+    pub(crate) fn cmp_nulls_first(self, a: &Value, b: &Value) -> Ordering
         ensures { result ≡ option_cmp (side_cmp self) (unless_null a.now) (unless_null b.now) }
     {
         match (a.is_null(), b.is_null()) {
@@ -117,7 +117,7 @@ fn is_empty(value: &Value) -> bool
 }
 
 // Whether it has one cell, which is null or empty.
-fn is_hollow(row: &[Value]) -> bool
+pub(crate) fn is_hollow(row: &[Value]) -> bool
     ensures { result ≡ is_hollow row.now }
 {
     match row {

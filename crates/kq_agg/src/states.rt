@@ -1,15 +1,15 @@
 // The states of an aggregate.
-ghost use Rattle.std.specs.Prelude.{◌≡◌, ◌↔◌, ◌<◌, List, [], IsTrue, OnOk, OnErr, length, replicate};
+ghost use Rattle.std.specs.Prelude.{◌≡◌, ◌↔◌, ◌<◌, List, [], IsTrue, OnOk, OnErr, length, map, replicate};
 ghost use Rattle.std.specs.List.{All};
 ghost use Rattle.kq_vector.specs.Vectors.{cells_of};
 ghost use Rattle.kq_agg.specs.Steps.{ChangesAt, PutsFinished, Grows, Joins, MayRefuse, MayRefuseBoth, Steps, TakesIn, TakesInUpTo, TakesSome, kept_at};
 ghost use Rattle.kq_agg.specs.Tables.{SameShape};
 ghost use Rattle.kq_agg.specs.Alone.{each_alone};
+ghost use Rattle.kq_agg.specs.Across.{rows_across};
 
 use crate::kind::Kind;
 use crate::table::Table;
 use kq_computed::EvalFault;
-use kq_rows::Rows;
 use kq_value::{Memory, Ty, Value};
 use kq_vector::Vector;
 use std::alloc::Global;
@@ -79,20 +79,6 @@ impl States {
         self.table.step(alloc, group, args)
     }
 
-    /// Rows more, each of the group whose number stands beside it. After a refusal those before the row that was refused are taken in.
-    pub fn step_batch(&mut self, alloc: Global, groups: &[u32], rows: &Rows) -> Result<(), Memory>
-        requires along { length groups.now ≡ length rows.now }
-        requires known { All (λ g. g < length self.old.kept) groups.now }
-        ensures shape { SameShape self.old self.new }
-        ensures ok { OnOk result (TakesIn self.old.kind groups.now rows.now self.old.kept self.new.kept) }
-        ensures err { OnErr result (TakesInUpTo self.old.kind groups.now rows.now self.old.kept self.new.kept) }
-    {
-        for (i, group) in groups.iter().enumerate() {
-            self.step(alloc, *group as usize, rows.row(i))?;
-        }
-        Ok(())
-    }
-
     /// Rows more of no cells, each of the group whose number stands beside it. After a refusal those before the row that was refused are taken in.
     pub fn step_bare(&mut self, alloc: Global, groups: &[u32]) -> Result<(), Memory>
         requires { All (λ g. g < length self.old.kept) groups.now }
@@ -117,6 +103,21 @@ impl States {
         ensures err { OnErr result (TakesSome self.old.kind groups.now (each_alone (cells_of column.now)) self.old.kept self.new.kept) }
     {
         self.table.step_column(alloc, groups, column)
+    }
+
+    /// Rows more whose cells stand in these columns, each of the group whose number stands beside it. After a refusal those before the row that was refused are taken in.
+    pub fn step_columns(
+        &mut self,
+        alloc: Global,
+        groups: &[u32],
+        columns: &[Vector<'_>],
+    ) -> Result<(), Memory>
+        requires { All (λ g. g < length self.old.kept) groups.now }
+        ensures shape { SameShape self.old self.new }
+        ensures ok { OnOk result (TakesIn self.old.kind groups.now (rows_across (length groups.now) (map cells_of columns.now)) self.old.kept self.new.kept) }
+        ensures err { OnErr result (TakesSome self.old.kind groups.now (rows_across (length groups.now) (map cells_of columns.now)) self.old.kept self.new.kept) }
+    {
+        self.table.step_columns(alloc, groups, columns)
     }
 
     /// The rows of another's group too, after those of a group.

@@ -2,11 +2,13 @@
 ghost use Rattle.std.specs.Prelude.{◌≡◌, ◌<◌, [], ◌∷◌, ◌++◌, OnOk, OnErr, length, map, replicate};
 ghost use Rattle.std.specs.List.{All};
 ghost use Rattle.kq_vector.specs.Vectors.{cell_of, cells_of};
+ghost use Rattle.kq_agg.specs.Across.{across, rows_across};
 ghost use Rattle.kq_agg.specs.Alone.{alone, cell_as, each_alone};
 ghost use Rattle.kq_agg.specs.Ranks.{first_of};
 ghost use Rattle.kq_agg.specs.Steps.{ChangesAt, PutsFinished, Joins, MayRefuse, MayRefuseBoth, Steps, TakesIn, TakesInUpTo, TakesSome, kept_at, none_kept};
 ghost use Rattle.kq_agg.specs.Tables.{kind_of, kept_of};
 
+use crate::across::{row_across, step_placed};
 use crate::columns::{count_each, offer_each, sum_each};
 use crate::count::Count;
 use crate::finish::{put_row, put_sum, put_value};
@@ -253,6 +255,61 @@ impl Table {
     {
         let cell = column.cell(i)?;
         self.step(alloc, group, from_ref(&cell))
+    }
+
+    // Rows whose cells stand in these columns.
+    pub(crate) fn step_columns(
+        &mut self,
+        alloc: Global,
+        groups: &[u32],
+        columns: &[Vector<'_>],
+    ) -> Result<(), Memory>
+        requires { All (λ g. g < length (kept_of self.old)) groups.now }
+        ensures kind { kind_of self.new ≡ kind_of self.old }
+        ensures ok { OnOk result (TakesIn (kind_of self.old) groups.now (rows_across (length groups.now) (map cells_of columns.now)) (kept_of self.old) (kept_of self.new)) }
+        ensures err { OnErr result (TakesSome (kind_of self.old) groups.now (rows_across (length groups.now) (map cells_of columns.now)) (kept_of self.old) (kept_of self.new)) }
+    {
+        for (i, group) in groups.iter().enumerate() {
+            self.step_across(alloc, *group as usize, columns, i)?;
+        }
+        Ok(())
+    }
+
+    // The row at a place of these columns. Where one of the rows is kept, this one is copied only if it is to be.
+    fn step_across(
+        &mut self,
+        alloc: Global,
+        group: usize,
+        columns: &[Vector<'_>],
+        i: usize,
+    ) -> Result<(), Memory>
+        requires { group < length (kept_of self.old) }
+        ensures kind { kind_of self.new ≡ kind_of self.old }
+        ensures ok { OnOk result (ChangesAt group (Steps (kind_of self.old) (across (map cells_of columns.now) i)) (kept_of self.old) (kept_of self.new)) }
+        ensures err { OnErr result (kept_of self.new ≡ kept_of self.old) }
+    {
+        match self {
+            Table::Chosen(choice, rows) => {
+                step_placed(alloc, &mut rows[group], *choice, columns, i)
+            }
+            _ => self.step_copied(alloc, group, columns, i),
+        }
+    }
+
+    fn step_copied(
+        &mut self,
+        alloc: Global,
+        group: usize,
+        columns: &[Vector<'_>],
+        i: usize,
+    ) -> Result<(), Memory>
+        requires { group < length (kept_of self.old) }
+        ensures kind { kind_of self.new ≡ kind_of self.old }
+        ensures ok { OnOk result (ChangesAt group (Steps (kind_of self.old) (across (map cells_of columns.now) i)) (kept_of self.old) (kept_of self.new)) }
+        ensures err { OnErr result (kept_of self.new ≡ kept_of self.old) }
+    {
+        let row = row_across(alloc, columns, i)?;
+        self.step(alloc, group, row.as_slice())
     }
 
     // The rows of another's group too, after those of a group.

@@ -3,7 +3,7 @@ use Rattle.std.proofs.lemmas.Bool.Decides.{nat_tests}
 use Rattle.std.proofs.Common.{◌≡◌, ℤ, pos, negsuc, arith, Bool, true, false, ◌&&◌, Option, Some, None, refl}
 use Rattle.std.specs.Prelude.{◌||◌, neg_ℤ, unsigned_abs, option_map, if◌then◌else◌, List, [], ◌∷◌}
 use Rattle.std.specs.declared.cmp.Ordering.{Ordering}
-use Rattle.kq_computed.specs.Computed.{Is, Overflow}
+use Rattle.kq_computed.specs.Computed.{Is, Overflow, Computed}
 use Rattle.kq_value.specs.Typed.{type_of, is_null, IsMoment, IsProper, HasType}
 use Rattle.kq_value.specs.declared.ty.Ty.{Ty}
 use Rattle.kq_value.specs.declared.ty.Ty.TheVariants as ty
@@ -11,10 +11,15 @@ use Rattle.kq_value.specs.declared.value.Value.{Value}
 use Rattle.kq_value.specs.declared.value.Value.TheVariants.{Null, Long, Int, Text, Bool as Truth, Moment, Span, Dynamic}
 use Rattle.kq_written.specs.Datetimes.{is_moment}
 use Rattle.kq_written.specs.Numerals.{is_int, is_long}
-use Rattle.kq_arithmetic.specs.Numbers.{number_of, number_in, value_in, of_both, operated, GivesType}
+use Rattle.kq_arithmetic.specs.Numbers.{number_of, number_in, value_in, of_both, operated}
 use Rattle.kq_arithmetic.specs.Comparing.{compared, equal, unequal, at_least, at_most}
 use Rattle.kq_arithmetic.specs.Logic.{is_yes, is_no, conjunction, disjunction, negation, in_list, between_of}
 use Rattle.kq_arithmetic.specs.Arithmetic.{plus, minus, times, divided, remainder, bin_of, negated, absolute, sum_type, difference_type, product_type, divided_type, quotient, modulus, floor}
+
+-- what comes of it, if anything, is a value of the type
+abbrev pub GivesType : Ty → Computed Value → Type 0
+GivesType t (Is v) = HasType t v
+GivesType t Overflow = Unit {0}
 
 -- a test that is passed gives a value of the type, and one that isn't gives none
 tested : (t : Ty) (v : Value) (b : Bool) → (b ≡ true → HasType t v) → GivesType t (if b then Is v else Overflow)

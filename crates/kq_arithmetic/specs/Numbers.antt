@@ -1,7 +1,7 @@
 -- The numbers in values, and numbers as values of types.
 use Rattle.std.specs.Prelude.{ℤ, if◌then◌else◌, Option, Some, None, option_and_then}
 use Rattle.kq_computed.specs.Computed.{Computed, Is, Overflow}
-use Rattle.kq_value.specs.Typed.{type_of, HasType}
+use Rattle.kq_value.specs.Typed.{type_of}
 use Rattle.kq_value.specs.declared.ty.Ty.{Ty}
 use Rattle.kq_value.specs.declared.ty.Ty.TheVariants as ty
 use Rattle.kq_value.specs.declared.value.Value.{Value}
@@ -37,8 +37,3 @@ of_both operator a b = option_and_then (λ m. option_and_then (λ n. operator m 
 -- the value of an operator whose result's type comes of the types of both
 abbrev pub operated : (Ty → Ty → Ty) → (ℤ → ℤ → Option ℤ) → Value → Value → Computed Value
 operated typing operator a b = value_in (typing (type_of a) (type_of b)) (of_both operator a b)
-
--- what comes of it, if anything, is a value of the type
-abbrev pub GivesType : Ty → Computed Value → Type 0
-GivesType t (Is v) = HasType t v
-GivesType t Overflow = Unit {0}

@@ -1,5 +1,5 @@
 // Columns that an operator makes, one after another.
-ghost use Rattle.std.specs.Prelude.{◌≡◌, ◌∷◌, Ok, map};
+ghost use Rattle.std.specs.Prelude.{◌≡◌, ◌≤◌, ◌+◌, ◌^◌, ◌∷◌, IfOk, Ok, OnErr, map};
 ghost use Rattle.kq_bind_columns.specs.Items.{nothing_made as made_nothing, put as the_put, put_default as the_put_default, put_own as the_put_own, put_given as the_put_given, as_key as the_as_key, operand as the_operand, item_made as the_item_made, items_made as the_items_made, unsupported_item as in_item, unsupported_items as in_items};
 ghost use Rattle.kq_bind_columns.specs.Made.{made_of};
 ghost use Rattle.kq_bind_expression.specs.Names.{names_of};
@@ -13,8 +13,8 @@ use crate::places::first_token;
 use kq_bind_expression::{BindFault, Scope, bind_expression, name_place, name_text, unsupported};
 use kq_expr::{Expr, Typed};
 use kq_grammar::{Expression, Item, Name};
-use kq_value::{Field, Text, Ty};
-use std::alloc::Global;
+use kq_value::{Field, Memory, Text, Ty};
+use std::alloc::{AllocError, Global};
 
 /// What an operator has made so far: the expressions, the columns that they fill, one for each, and how many of these had no name.
 #[derive(Drop)]
@@ -77,14 +77,22 @@ fn put_own(
 {
     match name {
         Some(name) => put_default(alloc, avoided, made, one, name),
-        None => match made.unnamed.checked_add(1) {
-            None => Err(BindFault::Memory),
-            Some(unnamed) => {
-                let base = numbered(alloc, "Column", unnamed)?;
-                let name = free_name(alloc, &made.fields, avoided, base)?;
-                put(made, unnamed, one, name)
-            }
-        },
+        None => {
+            let unnamed = one_more(made.unnamed)?;
+            let base = numbered(alloc, "Column", unnamed)?;
+            let name = free_name(alloc, &made.fields, avoided, base)?;
+            put(made, unnamed, one, name)
+        }
+    }
+}
+
+fn one_more(unnamed: usize) -> Result<usize, Memory>
+    ensures ok { IfOk result (λ more. more ≡ unnamed + 1) }
+    ensures err { OnErr result (2 ^ 64 ≤ unnamed + 1) }
+{
+    match unnamed.checked_add(1) {
+        Some(more) => Ok(more),
+        None => Err(AllocError),
     }
 }
 

@@ -1,5 +1,5 @@
 // Plans as they grow.
-ghost use Rattle.std.specs.Prelude.{◌≡◌, Ok, IfOk, map};
+ghost use Rattle.std.specs.Prelude.{◌≡◌, ◌≤◌, ◌+◌, ◌^◌, Ok, IfOk, OnErr, map};
 ghost use Rattle.kq_bind_steps.specs.Flows.{added as the_added, following as the_following, next_stage as the_next_stage, again as the_again, columns_at as the_columns_at, columns as the_columns};
 ghost use Rattle.kq_bind_steps.specs.Seen.{flow_of, progress_of};
 ghost use Rattle.kq_bind_expression.specs.Verdicts.{AnswersVerdict};
@@ -8,7 +8,7 @@ ghost use Rattle.kq_plan.specs.Plans.{doing_of, stepping_of};
 use kq_bind_expression::BindFault;
 use kq_plan::{Step, Work};
 use kq_value::{Field, Memory};
-use std::alloc::Global;
+use std::alloc::{AllocError, Global};
 
 /// The steps so far, and the number of stages in the text so far.
 #[derive(Drop)]
@@ -28,12 +28,20 @@ pub struct Flow {
 pub fn next_stage(progress: Progress) -> Result<Progress, BindFault>
     ensures { AnswersVerdict progress_of (Ok (the_next_stage (progress_of progress))) result }
 {
-    match progress.stages.checked_add(1) {
-        Some(stages) => Ok(Progress {
-            steps: progress.steps,
-            stages,
-        }),
-        None => Err(BindFault::Memory),
+    let stages = one_more(progress.stages)?;
+    Ok(Progress {
+        steps: progress.steps,
+        stages,
+    })
+}
+
+fn one_more(stages: u32) -> Result<u32, Memory>
+    ensures ok { IfOk result (λ more. more ≡ stages + 1) }
+    ensures err { OnErr result (2 ^ 32 ≤ stages + 1) }
+{
+    match stages.checked_add(1) {
+        Some(more) => Ok(more),
+        None => Err(AllocError),
     }
 }
 

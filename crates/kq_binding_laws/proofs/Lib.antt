@@ -11,3 +11,11 @@ pub mod Summarized
 pub mod Expanded
 pub mod Owned
 pub mod Leftmost
+pub mod Told
+pub mod Faults
+pub mod ClauseFaults
+pub mod InText
+pub mod TableFaults
+pub mod QueryFaults
+pub mod ClauseInText
+pub mod QueryInText

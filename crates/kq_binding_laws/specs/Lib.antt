@@ -9,3 +9,7 @@ pub mod Summarized
 pub mod Expanded
 pub mod Owned
 pub mod Leftmost
+pub mod Told
+pub mod Faults
+pub mod ClauseFaults
+pub mod QueryFaults

@@ -1,30 +1,51 @@
 // Laws of the columns that operators give, which hold of the definition of binding alone.
-ghost use Rattle.std.specs.Prelude.{◌≡◌, ◌↔◌, ℕ, List, [], ◌∷◌, Option, Some, Ok};
+ghost use Rattle.std.specs.Prelude.{◌≡◌, ◌↔◌, ℕ, List, [], ◌∷◌, ◌++◌, Option, Some, Ok};
 ghost use Rattle.kq_bind.specs.kq_bind_steps.Clauses.{grouping_items};
 ghost use Rattle.kq_bind.specs.kq_bind_steps.Flows.{Progressing, Flowing, columns};
 ghost use Rattle.kq_bind.specs.kq_bind_steps.Scopes.{Scoping};
+ghost use Rattle.kq_bind.specs.kq_bind_supported.Unsupported.{unsupported_query};
 ghost use Rattle.kq_bind.specs.Pipes.{from_word, operated};
+ghost use Rattle.kq_bind.specs.Queries.{query_bound};
 ghost use Rattle.kq_bind_columns.specs.Defaults.{default_name};
+ghost use Rattle.kq_bind_expression.specs.Bound.{bound};
+ghost use Rattle.kq_bind_expression.specs.Names.{Names};
 ghost use Rattle.kq_bind_expression.specs.Unsupported.{unsupported_in};
 ghost use Rattle.kq_fitting.specs.Different.{AreDifferent};
 ghost use Rattle.kq_grammar.specs.declared.expression.Name.{Name};
 ghost use Rattle.kq_grammar.specs.Expressions.{spells};
-ghost use Rattle.kq_grammar.specs.Trees.{Tree, AggregateTree, GroupingTree, ItemTree, KeyTree, print, extend, project, project_away, project_rename, sort, top, summarize, summarize_by, mv_expand};
+ghost use Rattle.kq_grammar.specs.Tabulars.{query_text};
+ghost use Rattle.kq_grammar.specs.Trees.{Tree, AggregateTree, GroupingTree, ItemTree, KeyTree, QueryTree, print, extend, project, project_away, project_rename, sort, top, summarize, summarize_by, mv_expand};
+ghost use Rattle.kq_plan.specs.Names.{Known};
 ghost use Rattle.kq_syntax.specs.declared.kind.Symbol.{Symbol};
 ghost use Rattle.kq_value.specs.declared.schema.Field.{Field};
 ghost use Rattle.kq_binding_laws.specs.Columns.{IsMapped};
 ghost use Rattle.kq_binding_laws.specs.Expanded.{IsExpanded};
 ghost use Rattle.kq_binding_laws.specs.Extended.{IsExtended};
+ghost use Rattle.kq_binding_laws.specs.Faults.{faults_in};
 ghost use Rattle.kq_binding_laws.specs.Items.{AreFew, IsPrinted, IsProjected};
 ghost use Rattle.kq_binding_laws.specs.Leftmost.{first_lacking};
 ghost use Rattle.kq_binding_laws.specs.Owned.{OwnsName};
 ghost use Rattle.kq_binding_laws.specs.Picked.{Renaming, left_of, HasRenamed};
+ghost use Rattle.kq_binding_laws.specs.QueryFaults.{first_unsupported, query_faults};
 ghost use Rattle.kq_binding_laws.specs.Sorted.{IsSorted, IsTopped};
 ghost use Rattle.kq_binding_laws.specs.Summarized.{Summarizes};
+ghost use Rattle.kq_binding_laws.specs.Told.{InText, TellsFirst};
 
 /// The literal of an expression that isn't supported is the first of its symbols that is a number, a timespan or a typed literal and has no value.
 pub fn literals_are_told_from_the_left()
     ensures { (text : List ℕ) (e : Tree) (symbols : List Symbol) → spells e symbols → unsupported_in text e ≡ first_lacking text symbols }
+{}
+
+/// Binding an expression tells the first of its faults, and these stand in the order of its text: so no earlier place faults.
+pub fn expressions_tell_their_first_fault()
+    ensures first { (s : Names) (cs : List Field) (e : Tree) → TellsFirst (bound s cs e) (faults_in s cs e) }
+    ensures order { (s : Names) (cs : List Field) (e : Tree) (symbols : List Symbol) → spells e symbols → InText (faults_in s cs e) symbols }
+{}
+
+/// Binding a query tells the leftmost literal or word of a type that isn't supported, or else the first of the query's faults, and these stand in the order of its text. Each part is looked at once what it depends on binds.
+pub fn queries_tell_their_first_fault()
+    ensures first { (text : List ℕ) (known : List ℕ → Option Known) (q : QueryTree) → TellsFirst (query_bound text known q) (first_unsupported (unsupported_query text q) ++ query_faults text known q) }
+    ensures order { (text : List ℕ) (known : List ℕ → Option Known) (q : QueryTree) (symbols : List Symbol) → query_text q symbols → InText (query_faults text known q) symbols }
 {}
 
 /// A project and a print have just the columns of their items, in order: of the types and with the values of the expressions, and each under the name that it is given, or else under its default name made free.

@@ -19,7 +19,8 @@ use Rattle.kq_extent.specs.Split.{is_small, put}
 use Rattle.kq_extent.specs.Wide.{wide, wide_held}
 use Rattle.kq_extent.proofs.Wide.{held_records-wide}
 use Rattle.kq_model.specs.declared.table.Table.{Table}
-use Rattle.kq_model.specs.Edits.{changed, edited, edited_by, empty_state, with_records, tables_after, FitsTables, FitAll, with_columns}
+use Rattle.kq_model.specs.Edits.{changed, tables_after, FitsTables, FitAll}
+use Rattle.kq_model.proofs.Edited.{edited, edited_by, empty_state, with_records, with_columns}
 use Rattle.kq_model.specs.Records.{ExtentItem, is_small_item}
 use Rattle.kq_model.specs.Tables.{TableState}
 use Rattle.kq_catalog.specs.declared.edit.Change.{Change}

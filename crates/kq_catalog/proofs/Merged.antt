@@ -18,7 +18,8 @@ use Rattle.kq_extent.specs.Wide.{wide, wide_held}
 use Rattle.kq_extent.proofs.Wide.{held_records-wide, records_in-wide}
 use Rattle.kq_model.specs.declared.event.By.{By}
 use Rattle.kq_model.specs.declared.table.Table.{Table}
-use Rattle.kq_model.specs.Edits.{changed, with_merged as state_merged}
+use Rattle.kq_model.specs.Edits.{changed}
+use Rattle.kq_model.proofs.Edited.{with_merged as state_merged}
 use Rattle.kq_model.specs.History.{History, Log, log, tables}
 use Rattle.kq_model.specs.Lawful.{AreLawful, IsMerge}
 use Rattle.kq_model.specs.Policies.{noted, policies}

@@ -13,7 +13,8 @@ use Rattle.kq_model.specs.declared.event.Event.{Event}
 use Rattle.kq_model.specs.declared.event.Operation.{Operation}
 use Rattle.kq_model.specs.declared.event.Operation.TheVariants as operation
 use Rattle.kq_model.specs.declared.table.Table.{Table}
-use Rattle.kq_model.specs.Edits.{FitAll, edited_by, edits_of}
+use Rattle.kq_model.specs.Edits.{FitAll, edits_of}
+use Rattle.kq_model.proofs.Edited.{edited_by}
 use Rattle.kq_model.specs.History.{History, log, cursor as cursor_of, tables, commits_of}
 use Rattle.kq_model.specs.Lawful.{LawfulCommit, LawfulOperation}
 use Rattle.kq_model.specs.Policies.{noted, noted_by, policies, policies_with}

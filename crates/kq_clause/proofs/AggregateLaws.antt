@@ -1,6 +1,6 @@
 -- The readers of aggregates are exact.
 use Rattle.std.proofs.Common.{◌≡◌, ℕ, Bool, true, false, List, [], ◌∷◌, ◌++◌, ◌⊎◌, inl, inr, Option, Some, None, refl, sym, ◌∙◌, ap, subst, append_assoc, arith}
-use Rattle.kq_clause.specs.Following.{argument_goes_on, arguments_go_on, aggregates_go_on, begins_aggregate}
+use Rattle.kq_clause.proofs.Following.{argument_goes_on, arguments_go_on, aggregates_go_on, begins_aggregate}
 use Rattle.kq_clause.specs.Reading as reading
 use Rattle.kq_clause.specs.Reading.{begins_argument, aggregate_of}
 use Rattle.kq_expression.specs.Reading.{bracketed_name, expression}
@@ -17,7 +17,8 @@ use Rattle.kq_token.specs.declared.kind.Operator.TheVariants as operator
 use Rattle.kq_token.specs.declared.kind.Punctuation.TheVariants as sign
 use Rattle.kq_syntax.specs.Classes as k
 use Rattle.kq_syntax.specs.Classes.{Class, of}
-use Rattle.kq_syntax.specs.Forms.{one, some, ◌⨾◌, Bind, Then, Image, Maybe, pure, starts, expect, bind, both, ◌<$>◌, skip, closed}
+use Rattle.kq_syntax.specs.Forms.{one, some, ◌⨾◌, Maybe, pure, starts, expect, bind, both, ◌<$>◌, skip, closed}
+use Rattle.kq_syntax.proofs.Forms.{Bind, Then, Image}
 use Rattle.kq_syntax.proofs.ClassLemmas.{apart, within, part}
 use Rattle.kq_syntax.proofs.Laws.{Exact, Example, nothing, stops_nothing, bind_exact, both_exact, image_exact, pure_exact, one_exact, choose_exact, skip_exact, skip_leads, skip_example, closed_exact, closed_example, starts_stops}
 use Rattle.kq_expression.proofs.NameLaws.{example_of, starts_part, starts_apart, one_leads, bracketed_text, bracketed_exact, bracketed_leads, from_bracketed_text}

@@ -1,6 +1,6 @@
 -- The readers of columns and cells are exact.
 use Rattle.std.proofs.Common.{◌≡◌, ℕ, zero, suc, ◌≤◌, ◌-◌, Bool, true, false, List, [], ◌∷◌, ◌++◌, ◌⊎◌, inl, inr, length, Option, Some, None, refl, sym, ◌∙◌, ap, subst, append-nil, arith}
-use Rattle.kq_clause.specs.Following.{columns_go_on, cells_go_on}
+use Rattle.kq_clause.proofs.Following.{columns_go_on, cells_go_on}
 use Rattle.kq_clause.specs.Reading as reading
 use Rattle.kq_expression.specs.Reading.{name}
 use Rattle.kq_grammar.specs.declared.clause.Cell.{Cell}
@@ -15,7 +15,8 @@ use Rattle.kq_token.specs.declared.kind.Operator.TheVariants as operator
 use Rattle.kq_token.specs.declared.kind.Punctuation.TheVariants as sign
 use Rattle.kq_syntax.specs.Classes as k
 use Rattle.kq_syntax.specs.Classes.{Class, of}
-use Rattle.kq_syntax.specs.Forms.{Alike, Parses, Parser, one, some, ◌⨾◌, Then, Image, Maybe, pure, starts, expect, both, ◌<$>◌, choose, maybe, skip}
+use Rattle.kq_syntax.specs.Forms.{Parser, one, some, ◌⨾◌, Maybe, pure, starts, expect, both, ◌<$>◌, choose, maybe, skip}
+use Rattle.kq_syntax.proofs.Forms.{Alike, Parses, Then, Image}
 use Rattle.kq_syntax.proofs.ClassLemmas.{apart, within, part}
 use Rattle.kq_syntax.proofs.Laws.{Exact, Example, Leads, nothing, stops_nothing, both_exact, image_exact, same_exact, pure_exact, one_exact, choose_exact, maybe_exact, skip_exact, skip_leads, skip_example, starts_stops, stops_starts}
 use Rattle.kq_expression.proofs.NameLaws.{example_of, starts_part, one_leads, name_exact, name_example, name_leads}

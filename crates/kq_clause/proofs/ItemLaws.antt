@@ -1,11 +1,11 @@
 -- The readers of names in lists, items, groupings and keys are exact.
 use Rattle.std.proofs.Common.{◌≡◌, ℕ, Bool, true, false, ◌||◌, List, [], ◌∷◌, ◌++◌, Option, Some, None, refl, sym, ◌∙◌, ap, subst, append-nil, arith}
-use Rattle.kq_clause.specs.Following.{names_go_on, item_goes_on, items_go_on, grouping_goes_on, key_goes_on, keys_go_on}
+use Rattle.kq_clause.proofs.Following.{names_go_on, item_goes_on, items_go_on, grouping_goes_on, key_goes_on, keys_go_on}
 use Rattle.kq_clause.specs.Reading as reading
 use Rattle.kq_expression.specs.Reading.{name as read_name, expression}
 use Rattle.kq_grammar.specs.Clauses as grammar
 use Rattle.kq_grammar.specs.Expressions.{Text, name_text, spells}
-use Rattle.kq_grammar.specs.Precedences.{goes_on}
+use Rattle.kq_grammar.proofs.Precedences.{goes_on}
 use Rattle.kq_grammar.specs.Trees.{Tree, name, ItemTree, plain, named, KeyTree}
 use Rattle.kq_grammar.specs.Views.{is_bare, item_of}
 use Rattle.kq_syntax.specs.declared.kind.Kind.TheVariants as kind
@@ -16,7 +16,8 @@ use Rattle.kq_syntax.specs.declared.word.Word.TheVariants as word
 use Rattle.kq_token.specs.declared.kind.Operator.TheVariants as operator
 use Rattle.kq_syntax.specs.Classes as k
 use Rattle.kq_syntax.specs.Classes.{Class, of}
-use Rattle.kq_syntax.specs.Forms.{Stops, Parser, one, some, ◌⨾◌, Bind, Then, Image, Maybe, expect, bind, both, maybe, skip}
+use Rattle.kq_syntax.specs.Forms.{Parser, one, some, ◌⨾◌, Maybe, expect, bind, both, maybe, skip}
+use Rattle.kq_syntax.proofs.Forms.{Stops, Bind, Then, Image}
 use Rattle.kq_syntax.proofs.ClassLemmas.{apart, within}
 use Rattle.kq_syntax.proofs.Laws.{Exact, Example, Follows, Leads, nothing, stops_within, bind_exact, both_exact, image_exact, same_exact, wider_exact, pure_exact, one_exact, maybe_exact, maybe_follows, skip_exact, skip_leads, skip_example}
 use Rattle.kq_expression.proofs.NameLaws.{example_of, one_leads, name_exact, name_example, name_leads}

@@ -1,6 +1,6 @@
 -- The readers of renamings and of what a join matches are exact.
 use Rattle.std.proofs.Common.{◌≡◌, ℕ, Bool, true, false, List, [], ◌∷◌, ◌++◌, ◌⊎◌, inl, inr, refl, sym, subst, arith}
-use Rattle.kq_clause.specs.Following.{renamings_go_on, join_keys_go_on}
+use Rattle.kq_clause.proofs.Following.{renamings_go_on, join_keys_go_on}
 use Rattle.kq_clause.specs.Reading as reading
 use Rattle.kq_expression.specs.Reading.{name}
 use Rattle.kq_grammar.specs.declared.clause.JoinKey.{JoinKey}
@@ -20,7 +20,8 @@ use Rattle.kq_token.specs.declared.kind.Side.{Side}
 use Rattle.kq_token.specs.declared.kind.Side.TheVariants as side
 use Rattle.kq_syntax.specs.Classes as k
 use Rattle.kq_syntax.specs.Classes.{of}
-use Rattle.kq_syntax.specs.Forms.{Parser, one, some, ◌⨾◌, Then, Image, starts, expect, both, ◌<$>◌, choose, skip, closed}
+use Rattle.kq_syntax.specs.Forms.{Parser, one, some, ◌⨾◌, starts, expect, both, ◌<$>◌, choose, skip, closed}
+use Rattle.kq_syntax.proofs.Forms.{Then, Image}
 use Rattle.kq_syntax.proofs.ClassLemmas.{apart}
 use Rattle.kq_syntax.proofs.Laws.{Exact, Example, nothing, stops_nothing, both_exact, image_exact, one_exact, choose_exact, skip_exact, skip_leads, skip_example, closed_exact, closed_example}
 use Rattle.kq_expression.proofs.NameLaws.{example_of, starts_apart, one_leads, name_exact, name_example, name_leads}

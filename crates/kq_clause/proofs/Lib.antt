@@ -5,3 +5,4 @@ pub mod ItemLaws
 pub mod JoinLaws
 pub mod ListLaws
 pub mod SemicolonLaws
+pub mod Following

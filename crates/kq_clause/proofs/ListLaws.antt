@@ -8,7 +8,8 @@ use Rattle.kq_syntax.specs.declared.kind.Symbol.{Symbol}
 use Rattle.kq_token.specs.declared.kind.Punctuation.TheVariants as sign
 use Rattle.kq_syntax.specs.Classes as k
 use Rattle.kq_syntax.specs.Classes.{Class, of}
-use Rattle.kq_syntax.specs.Forms.{Stops, Parser, some, ◌⨾◌, Then, starts}
+use Rattle.kq_syntax.specs.Forms.{Parser, some, ◌⨾◌, starts}
+use Rattle.kq_syntax.proofs.Forms.{Stops, Then}
 use Rattle.kq_syntax.proofs.Laws.{Exact, Example, Follows, separated_exact}
 use Rattle.kq_expression.proofs.NameLaws.{example_of}
 

@@ -4,7 +4,7 @@ use Rattle.std.specs.Borrow.{Bor}
 use Rattle.kq_value.specs.declared.dynamic.Dyn.{Dyn}
 use Rattle.kq_value.specs.declared.value.Value.TheVariants.{Bool as Truth}
 use Rattle.kq_value.specs.declared.value.Value.{Value}
-use Rattle.kq_computed.specs.Computed.{Computed, Is, and_then, each}
+use Rattle.kq_computed.specs.Computed.{Computed, Is}
 use Rattle.kq_expr.specs.declared.expr.Expr.{Expr}
 use Rattle.kq_fn.specs.declared.function.Function.{Function}
 use Rattle.kq_scalar.specs.Applied.{applied}
@@ -26,10 +26,6 @@ rows_in piece places = rows_at piece.columns.now places
 -- the values of all, as a row for each row
 abbrev pub all_over : List Expr → Piece → List ℕ → Computed (List (List Value))
 all_over es piece places = values_over (map over es) (seen piece) (rows_in piece places)
-
--- a function that looks at all its arguments
-abbrev pub called_in : Function → List Expr → Piece → List ℕ → Computed (List Value)
-called_in function es piece places = and_then (all_over es piece places) (each (applied function piece.now))
 
 -- the values of each branch where its tests are true, and else those of the next ones
 abbrev pub merged_by : List Branch → List Value → List Value

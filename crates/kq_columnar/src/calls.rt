@@ -1,5 +1,5 @@
 // Functions at the values of their arguments, row by row.
-ghost use Rattle.std.specs.Prelude.{◌≡◌, IfOk};
+ghost use Rattle.std.specs.Prelude.{◌≡◌, OnOk};
 ghost use Rattle.kq_computed.specs.Computed.{Answers, AnswersAs, each};
 ghost use Rattle.kq_scalar.specs.Applied.{applied};
 ghost use Rattle.kq_columnar.specs.Over.{bare};
@@ -67,23 +67,26 @@ fn apply_each<'v>(
 {
     let n = shortest(vectors, count);
     let mut cells = Vec::with_capacity(alloc, n)?;
+    let mut args = Vec::with_capacity(alloc, vectors.len())?;
     for i in 0..n {
-        cells.push(apply_at(alloc, function, vectors, i, piece)?)?;
+        cells.push(apply_at(alloc, function, vectors, i, piece, &mut args)?)?;
     }
     Ok(Vector::Cells(cells))
 }
 
+// What it gives of one row, whose cells are put into `args`.
 fn apply_at(
     alloc: Global,
     function: Function,
     vectors: &[Vector],
     i: usize,
     piece: Piece,
+    args: &mut Vec<Value>,
 ) -> Result<Value, EvalFault>
     ensures { Answers (applied function piece.entry.now (row_at vectors.now i)) result }
 {
-    let args = row_of(alloc, vectors, i)?;
-    apply(alloc, function, &args, piece.now)
+    fill_row(args, vectors, i)?;
+    apply(alloc, function, args.as_slice(), piece.now)
 }
 
 fn shortest(vectors: &[Vector], count: usize) -> usize
@@ -96,12 +99,13 @@ fn shortest(vectors: &[Vector], count: usize) -> usize
     least
 }
 
-fn row_of(alloc: Global, vectors: &[Vector], i: usize) -> Result<Vec<Value>, Memory>
-    ensures { IfOk result (λ r. r.items ≡ row_at vectors.now i) }
+// Puts the cells of a row into `row`, in place of what is there.
+fn fill_row(row: &mut Vec<Value>, vectors: &[Vector], i: usize) -> Result<(), Memory>
+    ensures { OnOk result (row.new.items ≡ row_at vectors.now i) }
 {
-    let mut row = Vec::with_capacity(alloc, vectors.len())?;
+    row.clear();
     for vector in vectors {
         row.push(vector.cell(i)?)?;
     }
-    Ok(row)
+    Ok(())
 }

@@ -13,11 +13,6 @@ abbrev pub and_then : {A B : Type 0} → Computed A → (A → Computed B) → C
 and_then (Is x) f = f x
 and_then Overflow f = Overflow
 
--- all of them, or an overflow where one overflows
-abbrev pub all_of : {A : Type 0} → List (Computed A) → Computed (List A)
-all_of [] = Is []
-all_of (c ∷ cs) = and_then c (λ x. and_then (all_of cs) (λ xs. Is (x ∷ xs)))
-
 -- the value of each, in order, or an overflow where one overflows
 abbrev pub each : {A B : Type 0} → (A → Computed B) → List A → Computed (List B)
 each f [] = Is []

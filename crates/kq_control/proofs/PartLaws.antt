@@ -2,7 +2,7 @@
 use Rattle.std.proofs.Common.{◌≡◌, ℕ, Bool, true, false, List, [], ◌∷◌, ◌++◌, refl, sym, ◌∙◌, ap, subst, arith}
 use Rattle.kq_clause.proofs.CellLaws.{columns_exact, columns_example}
 use Rattle.kq_clause.proofs.ListLaws.{listed_exact, listed_example}
-use Rattle.kq_clause.specs.Following.{columns_go_on}
+use Rattle.kq_clause.proofs.Following.{columns_go_on}
 use Rattle.kq_clause.specs.Reading.{columns, listed as listed_by}
 use Rattle.kq_control.specs.ControlReading as reading
 use Rattle.kq_control.specs.ControlTrees.{ColumnsTree, PropertiesTree}
@@ -23,7 +23,8 @@ use Rattle.kq_token.specs.declared.kind.Operator.TheVariants as o
 use Rattle.kq_token.specs.declared.kind.Punctuation.TheVariants as p
 use Rattle.kq_syntax.specs.Classes as k
 use Rattle.kq_syntax.specs.Classes.{Class, of}
-use Rattle.kq_syntax.specs.Forms.{Parser, one, some, ◌⨾◌, Then, Image, starts, expect, both, skip, closed}
+use Rattle.kq_syntax.specs.Forms.{Parser, one, some, ◌⨾◌, starts, expect, both, skip, closed}
+use Rattle.kq_syntax.proofs.Forms.{Then, Image}
 use Rattle.kq_syntax.proofs.ClassLemmas.{apart}
 use Rattle.kq_syntax.proofs.Laws.{Exact, Example, Follows, nothing, stops_nothing, both_exact, image_exact, same_exact, one_exact, skip_exact, skip_example, closed_exact, closed_example}
 

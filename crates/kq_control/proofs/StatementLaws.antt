@@ -5,7 +5,7 @@ use Rattle.kq_control.proofs.ViewLaws.{export_exact, export_begins, view_exact, 
 use Rattle.kq_control.specs.ControlReading as reading
 use Rattle.kq_control.specs.ControlTrees.{ColumnsTree, PropertiesTree, ViewTree, ExportTree, ControlTree, create_table, ingest, set_policy, alter_merge, create_view, show_view, show_failures, show_extents, show_journal, fold, merge, export, StatementTree, query as query_tree, control as control_tree}
 use Rattle.kq_control.specs.Controls as grammar
-use Rattle.kq_control.specs.Following.{hashed_goes_on, begins_query, statement_goes_on}
+use Rattle.kq_control.proofs.Following.{hashed_goes_on, begins_query, statement_goes_on}
 use Rattle.kq_expression.proofs.NameLaws.{example_of, a_word, name_exact, name_example, front_leads, starts_part}
 use Rattle.kq_expression.specs.Reading.{name}
 use Rattle.kq_grammar.specs.declared.expression.Name.{Name}
@@ -15,7 +15,7 @@ use Rattle.kq_grammar.specs.Tabulars.{tabular_text, query_text, query_end, let_t
 use Rattle.kq_grammar.specs.Trees.{QueryTree, LetTree}
 use Rattle.kq_parse.proofs.QueryLaws.{query_exact}
 use Rattle.kq_parse.proofs.TabularLaws.{tabular_begins}
-use Rattle.kq_parse.specs.Following.{query_goes_on}
+use Rattle.kq_parse.proofs.Following.{query_goes_on}
 use Rattle.kq_parse.specs.Reading.{query}
 use Rattle.kq_syntax.specs.declared.kind.Kind.TheVariants as kind
 use Rattle.kq_syntax.specs.declared.kind.Quoted.TheVariants as quoted
@@ -26,7 +26,8 @@ use Rattle.kq_token.specs.declared.kind.DashedWord.TheVariants as d
 use Rattle.kq_token.specs.declared.kind.Punctuation.TheVariants as p
 use Rattle.kq_syntax.specs.Classes as k
 use Rattle.kq_syntax.specs.Classes.{Class, of}
-use Rattle.kq_syntax.specs.Forms.{Stops, Parser, one, some, ◌⨾◌, Then, Image, Many, Maybe, starts, expect, both, ◌<$>◌, choose, maybe, skip, closed}
+use Rattle.kq_syntax.specs.Forms.{Parser, one, some, ◌⨾◌, Many, Maybe, starts, expect, both, ◌<$>◌, choose, maybe, skip, closed}
+use Rattle.kq_syntax.proofs.Forms.{Stops, Then, Image}
 use Rattle.kq_syntax.proofs.ClassLemmas.{apart, within, part}
 use Rattle.kq_syntax.proofs.Laws.{Exact, Example, Follows, nothing, both_exact, image_exact, wider_exact, one_exact, choose_exact, maybe_exact, closed_exact}
 

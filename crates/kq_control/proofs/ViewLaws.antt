@@ -11,7 +11,7 @@ use Rattle.kq_grammar.specs.declared.expression.Name.TheVariants as shown
 use Rattle.kq_grammar.specs.Expressions.{Text, name_text}
 use Rattle.kq_grammar.specs.Tabulars.{tabular_text}
 use Rattle.kq_parse.proofs.TabularLaws.{tabular_exact, tabular_example, tabular_begins}
-use Rattle.kq_parse.specs.Following.{tabular_goes_on}
+use Rattle.kq_parse.proofs.Following.{tabular_goes_on}
 use Rattle.kq_parse.specs.Reading.{tabular}
 use Rattle.kq_syntax.specs.declared.kind.Kind.TheVariants as kind
 use Rattle.kq_syntax.specs.declared.kind.Symbol.{Symbol}
@@ -23,7 +23,8 @@ use Rattle.kq_token.specs.declared.kind.DashedWord.TheVariants as d
 use Rattle.kq_token.specs.declared.kind.Punctuation.TheVariants as p
 use Rattle.kq_syntax.specs.Classes as k
 use Rattle.kq_syntax.specs.Classes.{Class, of}
-use Rattle.kq_syntax.specs.Forms.{one, some, ◌⨾◌, Bind, Then, Image, Maybe, starts, pure, expect, bind, both, ◌<$>◌, skip, closed}
+use Rattle.kq_syntax.specs.Forms.{one, some, ◌⨾◌, Maybe, starts, pure, expect, bind, both, ◌<$>◌, skip, closed}
+use Rattle.kq_syntax.proofs.Forms.{Bind, Then, Image}
 use Rattle.kq_syntax.specs.Located.{SpellsLocated}
 use Rattle.kq_syntax.proofs.ClassLemmas.{apart, within, part}
 use Rattle.kq_syntax.proofs.Laws.{Exact, Example, nothing, stops_starts, starts_stops, bind_exact, both_exact, image_exact, same_exact, pure_exact, one_exact, choose_exact, maybe_exact, closed_exact, closed_example}

@@ -2,6 +2,5 @@ pub mod ControlReading
 pub mod ControlTrees
 pub mod ControlViews
 pub mod Controls
-pub mod Following
 pub mod Statements
 pub mod Symbols

@@ -2,5 +2,6 @@ mod Arrays
 mod Dates
 mod Groups
 mod Objects
+mod Sorts
 mod Splits
 mod Summaries

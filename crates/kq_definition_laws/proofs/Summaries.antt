@@ -51,7 +51,7 @@ then_lost : {A B : Type 0} (c : Computed A) → and_then {B = B} c (λ x. Overfl
 then_lost Overflow = refl
 then_lost (Is x) = refl
 
-each_lost : {A B : Type 0} (f : A → Computed B) (xs : List A) → each f xs ≡ Overflow → Any (λ x. f x ≡ Overflow) xs
+pub each_lost : {A B : Type 0} (f : A → Computed B) (xs : List A) → each f xs ≡ Overflow → Any (λ x. f x ≡ Overflow) xs
 each_lost f [] e = absurd cc
 each_lost {A} {B} f (x ∷ xs) e = by (f x) refl e (each_lost f xs) where
   by : (c : Computed B) → f x ≡ c → and_then c (λ y. and_then (each f xs) (λ ys. Is (y ∷ ys))) ≡ Overflow → (each f xs ≡ Overflow → Any (λ z. f z ≡ Overflow) xs)
@@ -59,7 +59,7 @@ each_lost {A} {B} f (x ∷ xs) e = by (f x) refl e (each_lost f xs) where
   by Overflow is lost later = any_here (λ z. f z ≡ Overflow) x xs is
   by (Is y) is lost later = any_behind (λ z. f z ≡ Overflow) x xs (later (rest_lost y (each f xs) lost))
 
-lost_each : {A B : Type 0} (f : A → Computed B) (xs : List A) → Any (λ x. f x ≡ Overflow) xs → each f xs ≡ Overflow
+pub lost_each : {A B : Type 0} (f : A → Computed B) (xs : List A) → Any (λ x. f x ≡ Overflow) xs → each f xs ≡ Overflow
 lost_each f [] (i, y, within, is, lost) = absurd (omega (arith, within))
 lost_each {A} {B} f (x ∷ xs) (zero, y, within, is, lost) =
     ap (λ (c : Computed B). and_then c (λ z. and_then (each f xs) (λ zs. Is (z ∷ zs)))) (ap f is ∙ lost)

@@ -2,4 +2,5 @@ pub mod Arrays
 pub mod Dates
 pub mod Groups
 pub mod Objects
+pub mod Sorts
 pub mod Splits

@@ -1,5 +1,6 @@
 // Laws of definitions, which hold of these alone.
 ghost use Rattle.std.specs.Prelude.{◌≡◌, ◌↔◌, ◌<◌, ◌≤◌, ℕ, ◌+◌, true, List, [], ◌∷◌, length, Some};
+ghost use Rattle.std.specs.List.{Any};
 ghost use Rattle.std.specs.List.Sorted.{IsPermutation};
 ghost use Rattle.json.specs.Json.{Members as Given};
 ghost use Rattle.serde_json.specs.Data.{Members, no_members};
@@ -11,7 +12,8 @@ ghost use Rattle.kq_grouping.specs.Bodies.{MadeOf, StandsFor};
 ghost use Rattle.kq_grouping.specs.Grouping.{GroupsOf, Summarized};
 ghost use Rattle.kq_grouping.specs.kq_piecewise.Operators.{Row};
 ghost use Rattle.kq_grouping.specs.kq_scalar.Val.{Surroundings};
-ghost use Rattle.kq_plan.specs.Plans.{Aggregating, Planned};
+ghost use Rattle.kq_order.specs.Orders.{Sorted, Topped, keys_at};
+ghost use Rattle.kq_plan.specs.Plans.{Aggregating, Planned, Sorting};
 ghost use Rattle.kq_value.specs.Same.{Same};
 ghost use Rattle.kq_value.specs.Tree.{Tree};
 ghost use Rattle.kq_value.specs.declared.schema.Field.{Field};
@@ -24,6 +26,7 @@ ghost use Rattle.kq_definition_laws.specs.Arrays.{IsInOrder};
 ghost use Rattle.kq_definition_laws.specs.Dates.{HasMonthAndDay, IsDateAfter, days_before};
 ghost use Rattle.kq_definition_laws.specs.Groups.{AreKeysOf, IsSummary, SomethingOverflows};
 ghost use Rattle.kq_definition_laws.specs.Objects.{KeepsLast};
+ghost use Rattle.kq_definition_laws.specs.Sorts.{IsFirst, IsInKeyOrder};
 ghost use Rattle.kq_definition_laws.specs.Splits.{IsSplitBy};
 
 /// The date of a day is the one date of the calendar with as many days before it, counted by the lengths of years and months from 0001-01-01.
@@ -52,6 +55,13 @@ pub fn sorted_arrays_are_in_order()
 /// Lists that have each row equally often have the same rows, in whatever order.
 pub fn same_rows_are_permuted()
     ensures { (a b : List (List Value)) → Same a b ↔ IsPermutation a b }
+{}
+
+/// A sort gives the same rows, none of them behind one that it goes before by the values of their keys, and top the first of them. They come to an overflow exactly where a key overflows on some row.
+pub fn sorts_are_in_order_of_their_keys()
+    ensures sort { (ks : List Sorting) (s : Surroundings) (rows out : List Row) → Sorted ks s rows (Is out) ↔ IsInKeyOrder ks s rows out }
+    ensures top { (n : ℕ) (k : Sorting) (s : Surroundings) (rows few : List Row) → Topped n k s rows (Is few) ↔ IsFirst n k s rows few }
+    ensures overflow { (ks : List Sorting) (s : Surroundings) (rows : List Row) → Sorted ks s rows Overflow ↔ Any (λ r. keys_at ks s r ≡ Overflow) rows }
 {}
 
 /// A summarize gives one row for each different key of the rows: the key, and behind it cells that the aggregates may give over the rows with this key. With no key terms there is one row, even over no rows.

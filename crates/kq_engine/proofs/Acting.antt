@@ -7,11 +7,12 @@ use Rattle.kq_model.specs.History.{History, cursor, log}
 use Rattle.kq_reply.specs.declared.reply.Reply.{Reply}
 use Rattle.kq_engine.specs.declared.work.Outcome.{Outcome}
 use Rattle.kq_engine.specs.declared.work.Work.{Work}
-use Rattle.kq_engine.specs.Due.{reply_to}
-use Rattle.kq_engine.specs.Fits.{Acts, AnswersCommand, Did, Makes}
-use Rattle.kq_engine.specs.Found.{IsCommitDue}
-use Rattle.kq_engine.specs.Merges.{IsSettled}
-use Rattle.kq_engine.proofs.Telling.{NamesAll-since, cursor_earlier, cursor_take, settled_less}
+use Rattle.kq_look.specs.Due.{reply_to}
+use Rattle.kq_engine.specs.Acts.{Acts, Did}
+use Rattle.kq_look.specs.Fits.{AnswersCommand, Makes}
+use Rattle.kq_look.specs.Found.{IsCommitDue}
+use Rattle.kq_look.specs.Merges.{IsSettled}
+use Rattle.kq_look.proofs.Telling.{NamesAll-since, cursor_earlier, cursor_take, settled_less}
 
 -- the commit that is due was appended
 pub Acts-commit : (limits : Limits) (old new : History) (work : Work) (began : ℕ) (c : Commit) (place : ℕ) (reply : Reply) → IsCommitDue limits (log old) work.command c → new ≡ old ++ record { by = work.by; operation = operation.Commit c } ∷ [] → place ≡ length new → reply ≡ reply_to c (cursor old + 1)

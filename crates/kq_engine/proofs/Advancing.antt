@@ -13,11 +13,12 @@ use Rattle.kq_command.specs.declared.command.Command.{Command}
 use Rattle.kq_engine.specs.declared.work.Outcome.{Outcome}
 use Rattle.kq_reply.specs.declared.reply.Reply.{Reply}
 use Rattle.kq_engine.specs.declared.work.Work.{Work}
-use Rattle.kq_engine.specs.Fits.{AnswersCommand, FitsNow, Fits, Performs, Tends, Tended, Acts, Appends, Advances, own_commit}
-use Rattle.kq_engine.specs.Merges.{IsMergedBy, IsSettled, NamesAll}
-use Rattle.kq_engine.proofs.Accepting.{Makes-granted}
+use Rattle.kq_look.specs.Fits.{AnswersCommand, FitsNow, Fits, Performs, Tends, own_commit}
+use Rattle.kq_engine.specs.Acts.{Tended, Acts, Appends, Advances}
+use Rattle.kq_look.specs.Merges.{IsMergedBy, IsSettled, NamesAll}
+use Rattle.kq_look.proofs.Accepting.{Makes-granted}
 use Rattle.kq_engine.proofs.Acting.{Acts-since}
-use Rattle.kq_engine.proofs.Telling.{Makes-still, settled_requested, settled_names, still_requested, still_names}
+use Rattle.kq_look.proofs.Telling.{Makes-still, settled_requested, settled_names, still_requested, still_names}
 
 -- what fits a history fits each that begins with it
 pub Fits-append : (limits : Limits) (h more : History) (request : By) (command : Command) (now : ℤ) (place : ℕ) (own : Bool) (reply : Reply) → Fits limits h request command now place own reply → Fits limits (h ++ more) request command now place own reply

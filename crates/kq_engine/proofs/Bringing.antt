@@ -4,7 +4,6 @@ use Rattle.std.specs.List.{slice_get}
 use Rattle.std.proofs.lemmas.Bool.{eq-eqb}
 use Rattle.std.proofs.lemmas.List.{map-append, take-append-le}
 use Rattle.std.proofs.lemmas.Option.{slice_get_within}
-use Rattle.kq_bind_body.specs.kq_grouping.Bodies.{StandsFor}
 use Rattle.kq_catalog.specs.Views.{WasFolded, fold_event}
 use Rattle.kq_command.specs.declared.columns.Identifier.{Identifier}
 use Rattle.kq_command.specs.declared.command.Command.{Command}
@@ -12,19 +11,20 @@ use Rattle.kq_command.specs.declared.command.Command.TheVariants as commands
 use Rattle.kq_model.specs.declared.event.Operation.TheVariants as operation
 use Rattle.kq_model.specs.declared.limits.Limits.{Limits}
 use Rattle.kq_model.specs.History.{History, Log, Viewed, cursor, log, view_cursor, names_of_views, view_count, views, views_from}
-use Rattle.kq_model.specs.Views.{covered}
 use Rattle.kq_model.proofs.Histories.{log-append, log-push, views-append}
 use Rattle.kq_model.proofs.Views.{view_cursor-push, no_fewer_views}
 use Rattle.kq_names.proofs.Places.{place_of-go_on}
 use Rattle.kq_names.specs.Places.{place_of}
-use Rattle.kq_plan.specs.Plans.{planned_of}
 use Rattle.kq_reply.specs.declared.reply.Reply.TheVariants as replies
-use Rattle.kq_engine.specs.declared.work.Folding.{Folding}
+use Rattle.kq_look.specs.declared.found.Folding.{Folding}
 use Rattle.kq_engine.specs.declared.work.Outcome.{Outcome}
 use Rattle.kq_engine.specs.declared.work.Work.{Work}
-use Rattle.kq_engine.specs.Fits.{Acts, IsDue, Tended}
-use Rattle.kq_engine.specs.Found.{LagsBehind, TakesToFind, is_prepared_outside}
-use Rattle.kq_engine.specs.Folds.{BringsForward, FoldsNamed, IsFoldingFor, IsFoldingIn, IsFoldingOf, LeavesView, PutsFold, TendsFold, view_number}
+use Rattle.kq_engine.specs.Acts.{Acts, Tended}
+use Rattle.kq_look.specs.Fits.{IsDue}
+use Rattle.kq_look.specs.Found.{LagsBehind, TakesToFind, is_prepared_outside}
+use Rattle.kq_look.proofs.Folded.{folded_at}
+use Rattle.kq_engine.specs.Puts.{BringsForward, LeavesView, PutsFold}
+use Rattle.kq_look.specs.Folds.{FoldsNamed, IsFoldingFor, IsFoldingIn, IsFoldingOf, TendsFold, view_number}
 
 -- ---- what is folded
 
@@ -43,16 +43,7 @@ folds_of h (commands.Fold view) f is = record { name = view; is = refl; of = is 
 
 -- it was made at some place of the history
 pub folding_made : (h : History) (place : ℕ) (command : Command) (f : Folding) → IsFoldingFor (take place h) command f → WasFolded h f.view f.to f.part
-folding_made h place command f is =
-    let folding = (folds_of (take place h) command f is).of.folding in
-    let viewed = folding.viewed in
-    record {
-      place = place;
-      viewed = viewed;
-      stands = ap (slice_get (views (log (take place h)))) folding.of ∙ folding.stands;
-      within = let to = folding.to in omega (arith, to);
-      part = subst (λ (n : ℕ). StandsFor (planned_of viewed.view.body) (covered (log (take place h)) viewed.view viewed.view.base n) f.part) (sym folding.to) folding.part;
-    }
+folding_made h place command f is = let of = (folds_of (take place h) command f is).of in folded_at h place of.number f of.folding
 
 -- it takes memory to find it, outside the lock
 pub folding_finds : (h : History) (command : Command) (f : Folding) → IsFoldingFor h command f → TakesToFind h command

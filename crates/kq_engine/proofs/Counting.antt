@@ -12,7 +12,7 @@ use Rattle.kq_model.specs.declared.event.Operation.{Operation}
 use Rattle.kq_model.specs.declared.event.Operation.TheVariants as operation
 use Rattle.kq_model.specs.History.{History, CommitAt, log, cursor, commits_of, commit_at, commits_from, commits_at}
 use Rattle.kq_model.proofs.Histories.{log-append}
-use Rattle.kq_engine.specs.Fits.{own_commit}
+use Rattle.kq_look.specs.Fits.{own_commit}
 use Rattle.kq_engine.specs.Shared.{commit_count}
 
 length-commits_from : (n : ℕ) (h : History) → length (commits_from n h) ≡ cursor h

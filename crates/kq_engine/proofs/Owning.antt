@@ -11,7 +11,7 @@ use Rattle.kq_model.specs.History.{History, Log, CommitAt, commits_of, commit_at
 use Rattle.kq_model.proofs.Histories.{commits_at-push}
 use Rattle.kq_command.specs.declared.command.Command.{Command}
 use Rattle.kq_reply.specs.declared.reply.Reply.{Reply}
-use Rattle.kq_engine.specs.Fits.{Fits}
+use Rattle.kq_look.specs.Fits.{Fits}
 
 abbrev pub IsIn : CommitAt → List CommitAt → Type 0
 IsIn m [] = ⊥

@@ -12,16 +12,17 @@ use Rattle.kq_engine.specs.declared.work.Work.{Work}
 use Rattle.kq_reply.specs.declared.refusal.Refusal.{Refusal}
 use Rattle.kq_reply.specs.declared.refusal.Refusal.TheVariants as refusals
 use Rattle.kq_reply.specs.declared.reply.Reply.TheVariants as replies
-use Rattle.kq_engine.specs.Fits.{Advances, AnswersCommand, IsDue, event_by}
-use Rattle.kq_engine.specs.Found.{IsReady, MayWantMemory, TakesMemory}
-use Rattle.kq_engine.proofs.Wanting.{due_wants}
+use Rattle.kq_engine.specs.Acts.{Advances}
+use Rattle.kq_look.specs.Fits.{AnswersCommand, IsDue, event_by}
+use Rattle.kq_look.specs.Found.{IsReady, MayWantMemory, TakesMemory}
+use Rattle.kq_look.proofs.Wanting.{due_wants}
 use Rattle.kq_reply.specs.declared.reply.Reply.{Reply}
-use Rattle.kq_engine.specs.declared.work.Ready.TheVariants as readies
+use Rattle.kq_look.specs.declared.found.Found.TheVariants as founds
 use Rattle.kq_engine.specs.Shared.{PassView, Applies, Finishes, IsJustTaken, Concludes, commit_count}
 use Rattle.kq_engine.proofs.Advancing.{Fits-end}
 use Rattle.kq_engine.proofs.Counting.{cursor-append, cursor-gained}
-use Rattle.kq_engine.specs.Merges.{NamesAll}
-use Rattle.kq_engine.proofs.Telling.{NamesAll-since, cursor_take, refused_still, settled_requested, settled_names, still_names, still_requested}
+use Rattle.kq_look.specs.Merges.{NamesAll}
+use Rattle.kq_look.proofs.Telling.{NamesAll-since, cursor_take, refused_still, settled_requested, settled_names, still_names, still_requested}
 
 -- what a history gained is what was appended
 pub gained_of : (old new more : History) → new ≡ old ++ more → gained old new ≡ more
@@ -50,7 +51,7 @@ Finishes-step limits of seen old new added worth taken work began outcome here b
     }
 
 -- what was answered on a snapshot of what was seen concludes with no take
-pub Concludes-answered : (limits : Limits) (pass : PassView) (work : Work) (reply : Reply) → IsJustTaken pass → IsReady limits pass.seen work.now work.command (readies.Answered reply)
+pub Concludes-answered : (limits : Limits) (pass : PassView) (work : Work) (reply : Reply) → IsJustTaken pass → IsReady limits pass.seen work.now work.command (founds.Says reply)
     → Concludes limits pass pass work (record { place = length pass.seen; own = false; reply = reply })
 Concludes-answered limits pass work reply fresh due = record {
   of = refl;

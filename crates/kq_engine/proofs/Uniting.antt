@@ -20,8 +20,10 @@ use Rattle.kq_reply.specs.declared.reply.Reply.{Reply}
 use Rattle.kq_reply.specs.declared.reply.Reply.TheVariants as replies
 use Rattle.kq_engine.specs.declared.work.Outcome.{Outcome}
 use Rattle.kq_engine.specs.declared.work.Work.{Work}
-use Rattle.kq_engine.specs.Fits.{Acts, IsDue, Tended}
-use Rattle.kq_engine.specs.Merges.{IsMergingFor, IsMergingIn, IsMergingOf, MergesNamed, PutsMerge, TendsMerge}
+use Rattle.kq_engine.specs.Acts.{Acts, Tended}
+use Rattle.kq_look.specs.Fits.{IsDue}
+use Rattle.kq_look.specs.Merges.{IsMergingFor, IsMergingIn, IsMergingOf, MergesNamed, TendsMerge}
+use Rattle.kq_engine.specs.Puts.{PutsMerge}
 
 -- ---- what is merged
 

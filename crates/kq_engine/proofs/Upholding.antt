@@ -1,6 +1,5 @@
 -- What is put in for a fold or a merge by number is its own, and a pass goes on by it.
 use Rattle.std.proofs.Common.{◌≡◌, ◌≤◌, ◌<◌, ◌+◌, ◌⊎◌, inl, inr, ℕ, ℤ, Bool, false, cond, List, [], ◌∷◌, ◌++◌, length, take, nat_eq, Option, Some, None, refl, ap, sym, ◌∙◌, subst, arith, append-nil, append_assoc}
-use Rattle.std.specs.List.{slice_get}
 use Rattle.std.proofs.lemmas.Bool.{eq-eqb}
 use Rattle.std.proofs.lemmas.List.{take_all, take-append-le}
 use mathlib.Core.List.{IsPrefix}
@@ -9,7 +8,6 @@ use Rattle.kq_turn.specs.Passes.{TurnId}
 use Rattle.kq_turn.proofs.Beginnings.{IsPrefix-take, IsPrefix-trans, gained-append, length-IsPrefix, take-IsPrefix}
 use Rattle.kq_catalog.specs.declared.merging.Merging.{Merging}
 use Rattle.kq_catalog.specs.Merges.{IsUnion}
-use Rattle.kq_bind_body.specs.kq_grouping.Bodies.{StandsFor}
 use Rattle.kq_catalog.specs.Views.{fold_event}
 use Rattle.kq_command.specs.declared.command.Command.{Command}
 use Rattle.kq_command.specs.declared.command.Command.TheVariants as commands
@@ -18,32 +16,33 @@ use Rattle.kq_model.specs.declared.event.Event.{Event}
 use Rattle.kq_model.specs.declared.event.Operation.{Operation}
 use Rattle.kq_model.specs.declared.event.Operation.TheVariants as operation
 use Rattle.kq_model.specs.declared.limits.Limits.{Limits}
-use Rattle.kq_model.specs.History.{History, Log, NumberedTable, cursor, log, view_cursor, tables, view_count, views}
+use Rattle.kq_model.specs.History.{History, Log, NumberedTable, cursor, log, view_cursor, tables, view_count}
 use Rattle.kq_model.specs.Lawful.{AreLawful}
 use Rattle.kq_model.specs.Records.{item_ids, extents_made, picked}
-use Rattle.kq_model.specs.Views.{covered}
 use Rattle.kq_model.proofs.Growing.{tables-stay}
 use Rattle.kq_model.proofs.Histories.{log-append}
 use Rattle.kq_model.proofs.Views.{view_cursor-push, no_fewer_views}
-use Rattle.kq_plan.specs.Plans.{planned_of}
 use Rattle.kq_reply.specs.declared.refusal.Refusal.TheVariants as refusals
 use Rattle.kq_reply.specs.declared.reply.Reply.{Reply}
 use Rattle.kq_reply.specs.declared.reply.Reply.TheVariants as replies
-use Rattle.kq_engine.specs.declared.upkeep.Chore.{Chore}
-use Rattle.kq_engine.specs.declared.upkeep.Chore.TheVariants as chores
+use Rattle.kq_look.specs.declared.found.Found.{Found}
+use Rattle.kq_look.specs.declared.found.Found.TheVariants as founds
 use Rattle.kq_engine.specs.declared.upkeep.Upkeep.{Upkeep}
 use Rattle.kq_engine.specs.declared.upkeep.Upkeep.TheVariants as upkeeps
-use Rattle.kq_engine.specs.declared.work.Folding.{Folding}
+use Rattle.kq_look.specs.declared.found.Folding.{Folding}
 use Rattle.kq_engine.specs.declared.work.Outcome.{Outcome}
-use Rattle.kq_engine.specs.Fits.{Fits, IsDue, event_by}
-use Rattle.kq_engine.specs.Folds.{BringsForward, FoldsNamed, IsFoldingIn, PutsFold}
-use Rattle.kq_engine.specs.Merges.{IsMergedBy, IsMergingIn, IsSettled, MergesNamed, MergesTable, PutsMerge}
+use Rattle.kq_look.specs.Fits.{Fits, IsDue, event_by}
+use Rattle.kq_engine.specs.Puts.{BringsForward, PutsFold}
+use Rattle.kq_look.specs.Folds.{FoldsNamed, IsFoldingIn}
+use Rattle.kq_look.specs.Merges.{IsMergedBy, IsMergingIn, IsSettled, MergesNamed, MergesTable}
+use Rattle.kq_engine.specs.Puts.{PutsMerge}
 use Rattle.kq_engine.specs.Shared.{PassView}
 use Rattle.kq_engine.specs.Upkeeps.{AnswersUpkeep, AsksFor, FinishesUpkeep, FitsEach, IsChore, IsThere, IsToldAt, IsWanted, KeepsUp, MakesOwn, PutsChore, TellsUpkeep, Upholds, WasChore, WasFound}
 use Rattle.kq_engine.proofs.Advancing.{Fits-end}
 use Rattle.kq_engine.proofs.Counting.{cursor-append}
 use Rattle.kq_engine.proofs.Sharing.{gained_of}
-use Rattle.kq_engine.proofs.Telling.{NamesAll-since, cursor_take, settled_names}
+use Rattle.kq_look.proofs.Folded.{folded_at}
+use Rattle.kq_look.proofs.Telling.{NamesAll-since, cursor_take, settled_names}
 
 -- ---- what stands goes on to stand
 
@@ -59,25 +58,22 @@ there_later old new (upkeeps.Merge table) begins there =
 
 -- ---- what was found
 
-pub chore_found : (h : History) (upkeep : Upkeep) (place : ℕ) (chore : Chore) → WasChore h upkeep place chore → WasFound h chore
-chore_found h (upkeeps.Fold view) place (chores.Fold f) was =
-    let folding = was.is in
-    let viewed = folding.viewed in
-    record {
-      place = place;
-      viewed = viewed;
-      stands = ap (slice_get (views (log (take place h)))) folding.of ∙ folding.stands;
-      within = let to = folding.to in omega (arith, to);
-      part = subst (λ (n : ℕ). StandsFor (planned_of viewed.view.body) (covered (log (take place h)) viewed.view viewed.view.base n) f.part) (sym folding.to) folding.part;
-    }
-chore_found h (upkeeps.Merge table) place (chores.Merge m) was =
+pub chore_found : (h : History) (upkeep : Upkeep) (place : ℕ) (chore : Found) → WasChore h upkeep place chore → WasFound h chore
+chore_found h (upkeeps.Fold view) place (founds.Folds f) was = folded_at h place view f was.is
+chore_found h (upkeeps.Merge table) place (founds.Merges m) was =
     let merging = was.is in
     let there : table < length (tables (log h)) = there_later (take place h) h (upkeeps.Merge table) (IsPrefix-take place h) was.there in (
       record { place = place; union = subst (λ (t : ℕ). IsUnion (take place h) t m.old m.extent) (sym merging.table) merging.union },
       subst (λ (t : ℕ). t < length (tables (log h))) (sym merging.table) there,
     )
-chore_found h (upkeeps.Fold view) place (chores.Merge m) was = absurd was.is
-chore_found h (upkeeps.Merge table) place (chores.Fold f) was = absurd was.is
+chore_found h (upkeeps.Fold view) place (founds.Merges m) was = absurd was.is
+chore_found h (upkeeps.Merge table) place (founds.Folds f) was = absurd was.is
+chore_found h (upkeeps.Fold view) place (founds.Says reply) was = absurd was.is
+chore_found h (upkeeps.Merge table) place (founds.Says reply) was = absurd was.is
+chore_found h (upkeeps.Fold view) place (founds.Commits offer) was = absurd was.is
+chore_found h (upkeeps.Merge table) place (founds.Commits offer) was = absurd was.is
+chore_found h (upkeeps.Fold view) place founds.Pending was = absurd was.is
+chore_found h (upkeeps.Merge table) place founds.Pending was = absurd was.is
 
 -- ---- what is told
 
@@ -107,7 +103,7 @@ Upholds-told h by upkeep began reply answers settled = record {
 }
 
 -- what a pass has seen was found in what it then takes
-pub seen_chore : (seen old : History) (upkeep : Upkeep) (chore : Chore) → IsPrefix seen old → IsThere (log seen) upkeep → IsChore seen upkeep chore → WasChore old upkeep (length seen) chore
+pub seen_chore : (seen old : History) (upkeep : Upkeep) (chore : Found) → IsPrefix seen old → IsThere (log seen) upkeep → IsChore seen upkeep chore → WasChore old upkeep (length seen) chore
 seen_chore seen old upkeep chore begins there is = record {
   within = length-IsPrefix seen old begins;
   there = subst (λ (h : History). IsThere (log h) upkeep) (sym (take-IsPrefix seen old begins)) there;
@@ -128,7 +124,7 @@ Upholds-since old new by upkeep began later outcome before up = record {
 
 -- ---- a fold
 
-module _ (old new : History) (by : By) (view place : ℕ) (f : Folding) (was : WasChore old (upkeeps.Fold view) place (chores.Fold f)) where
+module _ (old new : History) (by : By) (view place : ℕ) (f : Folding) (was : WasChore old (upkeeps.Fold view) place (founds.Folds f)) where
   folding : IsFoldingIn (take place old) view f
   folding = was.is
 
@@ -185,7 +181,7 @@ module _ (old new : History) (by : By) (view place : ℕ) (f : Folding) (was : W
   by_puts outcome (inr stays) = subst (Upholds old new by (upkeeps.Fold view) place) (sym stays.is) (subst (λ (h : History). Upholds old h by (upkeeps.Fold view) place (record { place = length old; own = false; reply = replies.Folded (view_cursor old f.view) })) (sym stays.stays) (leaves stays.ahead))
 
 -- the fold of what was found was made, or the view is as far already
-pub PutsChore-fold : (old new : History) (by : By) (f : Folding) (outcome : Outcome) → PutsFold old new by f outcome → PutsChore old new by (chores.Fold f) outcome
+pub PutsChore-fold : (old new : History) (by : By) (f : Folding) (outcome : Outcome) → PutsFold old new by f outcome → PutsChore old new by (founds.Folds f) outcome
 PutsChore-fold old new by f outcome puts (upkeeps.Fold view) place was = by_puts old new by view place f was outcome puts
 PutsChore-fold old new by f outcome puts (upkeeps.Merge table) place was = absurd was.is
 
@@ -224,12 +220,12 @@ Upholds-merge old new by table place m outcome within merging puts = subst (Upho
   };
 })
 
-pub PutsChore-merge : (old new : History) (by : By) (m : Merging) (outcome : Outcome) → PutsMerge old new by m outcome → PutsChore old new by (chores.Merge m) outcome
+pub PutsChore-merge : (old new : History) (by : By) (m : Merging) (outcome : Outcome) → PutsMerge old new by m outcome → PutsChore old new by (founds.Merges m) outcome
 PutsChore-merge old new by m outcome puts (upkeeps.Merge table) place was = Upholds-merge old new by table place m outcome was.within was.is puts
 PutsChore-merge old new by m outcome puts (upkeeps.Fold view) place was = absurd was.is
 
 -- a merge that is gone was picked again
-pub PutsChore-again : (old new : History) (by : By) (m : Merging) (outcome : Outcome) → Upholds old new by (upkeeps.Merge m.table) (length old) outcome → PutsChore old new by (chores.Merge m) outcome
+pub PutsChore-again : (old new : History) (by : By) (m : Merging) (outcome : Outcome) → Upholds old new by (upkeeps.Merge m.table) (length old) outcome → PutsChore old new by (founds.Merges m) outcome
 PutsChore-again old new by m outcome up (upkeeps.Merge table) place was =
     let merging = was.is in
     subst (λ (t : ℕ). Upholds old new by (upkeeps.Merge t) place outcome) merging.table (Upholds-since old new by (upkeeps.Merge m.table) place (length old) outcome was.within up)

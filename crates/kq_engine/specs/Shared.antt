@@ -8,11 +8,10 @@ use Rattle.kq_reply.specs.declared.refusal.Refusal.TheVariants as refusals
 use Rattle.kq_reply.specs.declared.reply.Reply.TheVariants as replies
 use Rattle.kq_engine.specs.declared.work.Outcome.{Outcome}
 use Rattle.kq_engine.specs.declared.work.Work.{Work}
-use Rattle.kq_command.specs.declared.command.Command.TheVariants as commands
-use Rattle.kq_command.specs.declared.command.Query.{Query}
-use Rattle.kq_engine.specs.Fits.{AnswersCommand, Appends, Fits, event_by}
-use Rattle.kq_engine.specs.Found.{MayWantMemory}
-use Rattle.kq_engine.specs.Merges.{NamesAll}
+use Rattle.kq_engine.specs.Acts.{Appends}
+use Rattle.kq_look.specs.Fits.{Fits, event_by}
+use Rattle.kq_look.specs.Found.{MayWantMemory}
+use Rattle.kq_look.specs.Merges.{NamesAll}
 
 -- which lock it is, and the limits of the catalogue behind it
 pub record SharedView : Type 0 where
@@ -98,11 +97,3 @@ pub record Concludes (limits : Limits) (old new : PassView) (work : Work) (outco
   pub since : length old.seen ≤ outcome.place
   pub names_all : NamesAll (take outcome.place new.seen) (length old.seen) outcome.reply
   pub memory : outcome.reply ≡ replies.Refused refusals.Memory → MayWantMemory old.seen (take outcome.place new.seen) work.command
-
--- a query went through the pass at a moment: one take, no commit, and the outcome is an answer over what the pass has then seen
-pub record QueriesThrough (limits : Limits) (old new : PassView) (query : Query) (now : ℤ) (outcome : Outcome) : Type 0 where
-  pub seen : IsPrefix old.seen new.seen
-  pub pass : new ≡ record old { seen = new.seen; taken = old.taken ++ length new.seen ∷ [] }
-  pub place : outcome.place ≡ length new.seen
-  pub own : outcome.own ≡ false
-  pub answers : AnswersCommand limits new.seen now (commands.Query query) outcome.reply

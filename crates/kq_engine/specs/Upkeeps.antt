@@ -16,14 +16,14 @@ use Rattle.kq_model.specs.Records.{picked}
 use Rattle.kq_reply.specs.declared.refusal.Refusal.TheVariants as refusals
 use Rattle.kq_reply.specs.declared.reply.Reply.{Reply}
 use Rattle.kq_reply.specs.declared.reply.Reply.TheVariants as replies
-use Rattle.kq_engine.specs.declared.upkeep.Chore.{Chore}
-use Rattle.kq_engine.specs.declared.upkeep.Chore.TheVariants as chores
+use Rattle.kq_look.specs.declared.found.Found.{Found}
+use Rattle.kq_look.specs.declared.found.Found.TheVariants as founds
 use Rattle.kq_engine.specs.declared.upkeep.Upkeep.{Upkeep}
 use Rattle.kq_engine.specs.declared.upkeep.Upkeep.TheVariants as upkeeps
 use Rattle.kq_engine.specs.declared.work.Outcome.{Outcome}
-use Rattle.kq_engine.specs.Fits.{Fits, event_by}
-use Rattle.kq_engine.specs.Folds.{FoldsView, IsFoldingIn, view_number}
-use Rattle.kq_engine.specs.Merges.{IsMergingIn, IsSettled, MergesTable, NamesAll}
+use Rattle.kq_look.specs.Fits.{Fits, event_by}
+use Rattle.kq_look.specs.Folds.{FoldsView, IsFoldingIn, view_number}
+use Rattle.kq_look.specs.Merges.{IsMergingIn, IsSettled, MergesTable, NamesAll}
 use Rattle.kq_engine.specs.Shared.{PassView, TakesOneOrTwo}
 
 -- ---- what is kept up
@@ -78,9 +78,9 @@ FitsEach limits h by upkeep outcome = (command : Command) (now : ℤ) → AsksFo
 -- ---- what is found
 
 -- the part of the view up to the cursor, or all extents that are picked in the table with the one that they become
-abbrev pub IsChore : History → Upkeep → Chore → Type 0
-IsChore h (upkeeps.Fold view) (chores.Fold folding) = IsFoldingIn h view folding
-IsChore h (upkeeps.Merge table) (chores.Merge merging) = IsMergingIn h table merging
+abbrev pub IsChore : History → Upkeep → Found → Type 0
+IsChore h (upkeeps.Fold view) (founds.Folds folding) = IsFoldingIn h view folding
+IsChore h (upkeeps.Merge table) (founds.Merges merging) = IsMergingIn h table merging
 IsChore h _ _ = ⊥
 
 -- the reply is told with no event, and want of memory only where there is something to do
@@ -90,15 +90,16 @@ pub record IsToldAt (h : History) (upkeep : Upkeep) (reply : Reply) : Type 0 whe
   pub memory : reply ≡ replies.Refused refusals.Memory → IsWanted h upkeep
 
 -- it was found at this place of the history, for this upkeep
-pub record WasChore (h : History) (upkeep : Upkeep) (place : ℕ) (chore : Chore) : Type 0 where
+pub record WasChore (h : History) (upkeep : Upkeep) (place : ℕ) (chore : Found) : Type 0 where
   pub within : place ≤ length h
   pub there : IsThere (log (take place h)) upkeep
   pub is : IsChore (take place h) upkeep chore
 
 -- it was found at some place, and its table stands
-abbrev pub WasFound : History → Chore → Type 0
-WasFound h (chores.Fold folding) = WasFolded h folding.view folding.to folding.part
-WasFound h (chores.Merge merging) = WasPicked h merging × (merging.table < length (tables (log h)))
+abbrev pub WasFound : History → Found → Type 0
+WasFound h (founds.Folds folding) = WasFolded h folding.view folding.to folding.part
+WasFound h (founds.Merges merging) = WasPicked h merging × (merging.table < length (tables (log h)))
+WasFound h _ = ⊥
 
 -- ---- what is made
 
@@ -124,7 +125,7 @@ pub record Upholds (old new : History) (by : By) (upkeep : Upkeep) (began : ℕ)
   pub names_all : NamesAll new began outcome.reply
 
 -- the same for whatever this was found for, and wherever
-abbrev pub PutsChore : History → History → By → Chore → Outcome → Type 0
+abbrev pub PutsChore : History → History → By → Found → Outcome → Type 0
 PutsChore old new by chore outcome = (upkeep : Upkeep) (place : ℕ) → WasChore old upkeep place chore → Upholds old new by upkeep place outcome
 
 -- ---- what is done to a pass

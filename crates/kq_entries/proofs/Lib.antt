@@ -1,1 +1,4 @@
 pub mod Binding
+pub mod Marking
+pub mod Searching
+pub mod Setting

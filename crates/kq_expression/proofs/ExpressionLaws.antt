@@ -1,7 +1,8 @@
 -- The reader of expressions is exact.
 use Rattle.std.proofs.Common.{◌≡◌, ℕ, zero, suc, ◌≤◌, true, false, List, [], ◌∷◌, ◌++◌, length, refl, sym, ◌∙◌, ap, arith}
 use Rattle.kq_grammar.specs.Expressions.{spells}
-use Rattle.kq_grammar.specs.Precedences.{operators, goes_on}
+use Rattle.kq_grammar.specs.Precedences.{operators}
+use Rattle.kq_grammar.proofs.Precedences.{goes_on}
 use Rattle.kq_grammar.specs.Trees.{disjunction as ors, conjunction as ands, sum as sums, product as products, Tree}
 use Rattle.kq_syntax.specs.declared.kind.Kind.TheVariants as kind
 use Rattle.kq_syntax.specs.declared.kind.Symbol.{Symbol}
@@ -10,7 +11,8 @@ use Rattle.kq_syntax.specs.declared.word.Word.TheVariants as word
 use Rattle.kq_token.specs.declared.kind.Operator.TheVariants as operator
 use Rattle.kq_syntax.specs.Classes as k
 use Rattle.kq_syntax.specs.Classes.{of}
-use Rattle.kq_syntax.specs.Forms.{Alike, Stuck, Parser, starts}
+use Rattle.kq_syntax.specs.Forms.{Parser, starts}
+use Rattle.kq_syntax.proofs.Forms.{Alike, Stuck}
 use Rattle.kq_syntax.proofs.ClassLemmas.{apart, within}
 use Rattle.kq_syntax.proofs.Laws.{Exact, Example, same_exact}
 use Rattle.kq_expression.specs.Reading.{signed, product, sum, comparison, conjunction, disjunction, expression}

@@ -2,13 +2,15 @@
 use Rattle.std.proofs.Common.{◌≡◌, ℕ, zero, suc, ◌≤◌, ◌+◌, true, false, List, [], ◌∷◌, ◌++◌, ◌⊎◌, inl, inr, refl, sym, ◌∙◌, ap, subst, append-nil, arith}
 use Rattle.kq_grammar.specs.declared.expression.Name.TheVariants as shown
 use Rattle.kq_grammar.specs.Expressions.{Text, at_least, spells, spells_links}
-use Rattle.kq_grammar.specs.Precedences.{precedence, operators, binding, goes_on}
+use Rattle.kq_grammar.specs.Precedences.{precedence, operators, binding}
+use Rattle.kq_grammar.proofs.Precedences.{goes_on}
 use Rattle.kq_grammar.specs.Trees.{Precedence, disjunction as ors, conjunction as ands, sum as sums, product as products, Tree, literal, group, call, path, signed, compare, within, between, chain, Links, no_link, and_link}
 use Rattle.kq_grammar.specs.Trees.Tree.{name}
 use Rattle.kq_grammar.specs.Views.{links_of, chain_of}
 use Rattle.kq_syntax.specs.declared.kind.Symbol.{Symbol}
 use Rattle.kq_syntax.specs.Classes.{of}
-use Rattle.kq_syntax.specs.Forms.{Parser, one, Then, Image, Many, starts, expect, both, many}
+use Rattle.kq_syntax.specs.Forms.{Parser, one, Many, starts, expect, both, many}
+use Rattle.kq_syntax.proofs.Forms.{Then, Image}
 use Rattle.kq_syntax.proofs.Laws.{Exact, Example, nothing, stops_nothing, both_exact, image_exact, same_exact, one_exact, many_exact, many_follows}
 use Rattle.kq_expression.specs.Reading.{chained}
 use Rattle.kq_expression.proofs.NameLaws.{a_word}

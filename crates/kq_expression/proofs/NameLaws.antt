@@ -11,7 +11,8 @@ use Rattle.kq_syntax.specs.declared.word.Word.TheVariants as word
 use Rattle.kq_token.specs.declared.kind.Punctuation.TheVariants as sign
 use Rattle.kq_syntax.specs.Classes as k
 use Rattle.kq_syntax.specs.Classes.{Class, of}
-use Rattle.kq_syntax.specs.Forms.{one, some, ◌⨾◌, Then, Image, starts, expect, both, ◌<$>◌, closed}
+use Rattle.kq_syntax.specs.Forms.{one, some, ◌⨾◌, starts, expect, both, ◌<$>◌, closed}
+use Rattle.kq_syntax.proofs.Forms.{Then, Image}
 use Rattle.kq_syntax.proofs.ClassLemmas.{apart, part}
 use Rattle.kq_syntax.proofs.Laws.{Exact, Example, nothing, stops_nothing, both_exact, image_exact, same_exact, one_exact, choose_exact, closed_exact, closed_example}
 use Rattle.kq_expression.specs.Reading.{bracketed_name, name}

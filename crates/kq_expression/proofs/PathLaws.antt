@@ -2,7 +2,8 @@
 use Rattle.std.proofs.Common.{◌≡◌, ℕ, suc, ◌≤◌, true, List, [], ◌∷◌, ◌++◌, length, ◌⊎◌, inl, inr, refl, sym, ◌∙◌, ap, subst, append-nil, arith}
 use Rattle.kq_grammar.specs.declared.expression.Name.{Name}
 use Rattle.kq_grammar.specs.Expressions.{Text, name_text, spells, spells_step, spells_steps}
-use Rattle.kq_grammar.specs.Precedences.{binding, goes_on, step_sign}
+use Rattle.kq_grammar.specs.Precedences.{binding, step_sign}
+use Rattle.kq_grammar.proofs.Precedences.{goes_on}
 use Rattle.kq_grammar.specs.Trees.{Tree, literal, group, call, path, signed as signed_tree, compare, within, between, chain, OneStep, member, index, Steps, no_step, and_step}
 use Rattle.kq_grammar.specs.Trees.Tree.{name as name_tree}
 use Rattle.kq_grammar.specs.Views.{steps_of, path_of}
@@ -12,7 +13,8 @@ use Rattle.kq_token.specs.declared.kind.Operator.TheVariants as operator
 use Rattle.kq_token.specs.declared.kind.Punctuation.TheVariants as sign
 use Rattle.kq_syntax.specs.Classes as k
 use Rattle.kq_syntax.specs.Classes.{Class, of}
-use Rattle.kq_syntax.specs.Forms.{Parser, one, some, ◌⨾◌, Then, Image, Many, starts, expect, both, ◌<$>◌, many, closed}
+use Rattle.kq_syntax.specs.Forms.{Parser, one, some, ◌⨾◌, Many, starts, expect, both, ◌<$>◌, many, closed}
+use Rattle.kq_syntax.proofs.Forms.{Then, Image}
 use Rattle.kq_syntax.proofs.ClassLemmas.{apart, within as within_class, part}
 use Rattle.kq_syntax.proofs.Laws.{Exact, nothing, stops_nothing, both_less, both_exact, image_exact, same_exact, wider_exact, one_exact, choose_exact, many_exact, many_follows, closed_exact, closed_example}
 use Rattle.kq_expression.specs.Reading.{name, primary, step, postfix, signed}

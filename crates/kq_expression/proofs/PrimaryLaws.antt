@@ -3,7 +3,7 @@ use Rattle.std.proofs.Common.{◌≡◌, ℕ, suc, ◌≤◌, Bool, true, false,
 use Rattle.kq_grammar.specs.declared.expression.Name.{Name}
 use Rattle.kq_grammar.specs.declared.expression.Name.TheVariants as shown
 use Rattle.kq_grammar.specs.Expressions.{Text, name_text, spells, spells_all, spells_more}
-use Rattle.kq_grammar.specs.Precedences.{goes_on}
+use Rattle.kq_grammar.proofs.Precedences.{goes_on}
 use Rattle.kq_grammar.specs.Trees.{Tree, literal, group, call, path, signed, compare, within, between, chain, Trees, no_tree, and_tree}
 use Rattle.kq_grammar.specs.Trees.Tree.{name}
 use Rattle.kq_grammar.specs.Views.{trees_of}
@@ -12,7 +12,8 @@ use Rattle.kq_syntax.specs.declared.kind.Symbol.{Symbol}
 use Rattle.kq_token.specs.declared.kind.Punctuation.TheVariants as sign
 use Rattle.kq_syntax.specs.Classes as k
 use Rattle.kq_syntax.specs.Classes.{Class, of}
-use Rattle.kq_syntax.specs.Forms.{Parser, Outcome, Meets, one, some, ◌⨾◌, Bind, Then, Image, Many, Maybe, Separated, pure, starts, expect, bind, both, ◌<$>◌, choose, and_then, closed, separated}
+use Rattle.kq_syntax.specs.Forms.{Parser, Outcome, one, some, ◌⨾◌, Many, Maybe, Separated, pure, starts, expect, bind, both, ◌<$>◌, choose, and_then, closed, separated}
+use Rattle.kq_syntax.proofs.Forms.{Meets, Bind, Then, Image}
 use Rattle.kq_syntax.proofs.ClassLemmas.{apart, within as within_class, part}
 use Rattle.kq_syntax.proofs.Laws.{Exact, Example, nothing, stops_nothing, bind_exact, both_less, image_exact, pure_exact, one_exact, choose_exact, maybe_exact, skip_exact, skip_leads, skip_example, closed_exact, closed_example, separated_exact, starts_stops}
 use Rattle.kq_expression.specs.Reading.{bracketed_name, stands_alone, worded_of, arguments, in_parentheses, arguments_of, worded, grouped, primary}

@@ -1,7 +1,8 @@
 -- The readers of comparisons, of `in` and of `between` are exact.
 use Rattle.std.proofs.Common.{◌≡◌, ℕ, suc, ◌≤◌, true, false, List, [], ◌++◌, ◌⊎◌, inl, inr, Option, Some, None, refl, sym, ◌∙◌, ap, subst, append-nil, arith}
 use Rattle.kq_grammar.specs.Expressions.{Text, spells}
-use Rattle.kq_grammar.specs.Precedences.{binding, goes_on, relation}
+use Rattle.kq_grammar.specs.Precedences.{binding, relation}
+use Rattle.kq_grammar.proofs.Precedences.{goes_on}
 use Rattle.kq_grammar.specs.Trees.{Tree, literal, group, call, path, signed, compare, within, between, chain, Trees}
 use Rattle.kq_grammar.specs.Trees.Tree.{name}
 use Rattle.kq_grammar.specs.Views.{trees_of}
@@ -13,7 +14,8 @@ use Rattle.kq_token.specs.declared.kind.Operator.TheVariants as operator
 use Rattle.kq_token.specs.declared.kind.Punctuation.TheVariants as sign
 use Rattle.kq_syntax.specs.Classes as k
 use Rattle.kq_syntax.specs.Classes.{Class, of}
-use Rattle.kq_syntax.specs.Forms.{Parser, one, some, ◌⨾◌, Then, Image, Maybe, Separated, starts, expect, both, ◌<$>◌, choose, maybe, skip, closed, separated}
+use Rattle.kq_syntax.specs.Forms.{Parser, one, some, ◌⨾◌, Maybe, Separated, starts, expect, both, ◌<$>◌, choose, maybe, skip, closed, separated}
+use Rattle.kq_syntax.proofs.Forms.{Then, Image}
 use Rattle.kq_syntax.proofs.ClassLemmas.{apart, within as within_class, part}
 use Rattle.kq_syntax.proofs.Laws.{Exact, Example, Leads, exact_down, nothing, stops_nothing, stops_starts, both_exact, image_exact, same_exact, wider_exact, one_exact, choose_exact, maybe_exact, maybe_follows, skip_exact, skip_leads, skip_example, closed_exact, closed_example}
 use Rattle.kq_expression.specs.Reading.{Relation, compared, listed, ranged, related_of, sum, comparing, listing, ranging, relating, comparison}

@@ -3,8 +3,7 @@ use Rattle.std.proofs.Common.{◌≡◌, ℕ, ℤ, Bool, true, false, cond, List
 use Rattle.std.specs.Prelude.{option_and_then}
 use Rattle.std.proofs.lemmas.List.Elements.{All-nil, All-cons}
 use Rattle.kq_arithmetic.specs.Arithmetic.{negated}
-use Rattle.kq_arithmetic.specs.Numbers.{GivesType}
-use Rattle.kq_arithmetic.proofs.Typed.{negated-typed}
+use Rattle.kq_arithmetic.proofs.Typed.{GivesType, negated-typed}
 use Rattle.kq_bind.specs.kq_bind_steps.Clauses.{table_rows}
 use Rattle.kq_bind.specs.kq_bind_steps.Flows.{Progressing, Flowing, following}
 use Rattle.kq_bind.specs.kq_bind_steps.Scopes.{Scoping}

@@ -1,5 +1,5 @@
 -- How tightly operators bind.
-use Rattle.std.specs.Prelude.{ℕ, nat_le, ◌||◌, if◌then◌else◌}
+use Rattle.std.specs.Prelude.{ℕ, ◌||◌}
 use Rattle.kq_grammar.specs.Trees.{Precedence, disjunction, conjunction, sum, product, Tree, name, literal, group, call, path, signed, compare, within, between, chain}
 use Rattle.kq_syntax.specs.declared.word.ReservedWord.TheVariants as r
 use Rattle.kq_syntax.specs.Classes as k
@@ -37,13 +37,3 @@ relation x = k.comparison x || k.membership x || k.interval x
 -- what a step begins with
 abbrev pub step_sign : Class
 step_sign x = k.dot x || k.open_bracket x
-
--- With these an expression of that precedence or more goes on.
-abbrev pub goes_on : ℕ → Class
-goes_on n x =
-    if operators disjunction x then nat_le n 0 else
-    (if operators conjunction x then nat_le n 1 else
-    (if relation x then nat_le n 2 else
-    (if operators sum x then nat_le n 3 else
-    (if operators product x then nat_le n 4 else
-    (if step_sign x then nat_le n 6 else k.open_parenthesis x)))))

@@ -4,8 +4,10 @@ use Rattle.std.specs.List.{All}
 use Rattle.std.specs.declared.alloc.AllocError.{AllocError}
 use Rattle.std.proofs.Math.Seq.{get_or-append_seam}
 use Rattle.std.proofs.lemmas.List.{get_or_append_left, get_or-map, get_or-replicate, get_or-take, length-map, length-replicate, length-take-le, map-append, take_more}
+use Rattle.std.proofs.lemmas.List.FromFn.{fill_by_all}
 use Rattle.std.proofs.lemmas.List.Elements.{All-push}
 use Rattle.std.proofs.lemmas.Option.{unwrap_or-slice_get}
+use Rattle.kq_agg.specs.Across.{across, rows_across}
 use Rattle.kq_agg.specs.Alone.{alone, cell_as, each_alone}
 use Rattle.kq_agg.specs.declared.reading.Reading.{Reading}
 use Rattle.kq_rows.specs.Chunks.{row_at}
@@ -14,7 +16,7 @@ use Rattle.kq_value.specs.declared.value.Value.{Value}
 use Rattle.kq_value.specs.declared.value.Value.TheVariants.{Null}
 use Rattle.kq_vector.specs.Vectors.{cell_of, cells_of}
 use Rattle.kq_vector.specs.declared.vector.Vector.{Vector}
-use Rattle.kq_group.specs.Columns.{AreNumbersAcross, HaveLength, SameCodes, Tell, TellCells, across, code_of, in_front, rows_of}
+use Rattle.kq_group.specs.Columns.{AreNumbersAcross, HaveLength, SameCodes, Tell, TellCells, code_of, in_front, rows_of}
 use Rattle.kq_group.specs.Keys.{AreNumbers}
 use Rattle.kq_group.proofs.Groupings.{numbers_along}
 
@@ -75,6 +77,10 @@ row_across n (cells ∷ columns) i along h =
     front_at cells (rows_of n columns) i (omega (arith, own, h)) (own ∙ sym rest)
     ∙ ap (λ (v : Value). v ∷ row_at (rows_of n columns) i) (sym (cell_get cells i))
     ∙ ap (λ (r : Key). cell_of cells i ∷ r) (row_across n columns i others h)
+
+-- the same rows one by one
+pub rows_are : (n : ℕ) (columns : List Column) → HaveLength n columns → rows_of n columns ≡ rows_across n columns
+rows_are n columns along = fill_by_all (across columns) (rows_of n columns) n [] (length-rows_of n columns along) (λ k h. row_across n columns k along h)
 
 -- one row more
 pub take_rows : (n : ℕ) (columns : List Column) (i : ℕ) → HaveLength n columns → i < n → take (i + 1) (rows_of n columns) ≡ take i (rows_of n columns) ++ across columns i ∷ []
@@ -169,14 +175,6 @@ cells_more columns i column h at =
 
 across_last : (columns : List Column) (cells : Column) (row : ℕ) → across (columns ++ cells ∷ []) row ≡ across columns row ++ cell_of cells row ∷ []
 across_last columns cells row = map-append (λ (x : Column). cell_of x row) columns (cells ∷ [])
-
-pub across_more : (columns : List Vector) (i : ℕ) (column : Vector) (row : ℕ) (key : Key) (v : Value) → i < length columns → column ≡ get_or columns i column → v ≡ cell_of (cells_of column) row
-    → key ≡ across (map cells_of (take i columns)) row → key ++ v ∷ [] ≡ across (map cells_of (take (i + 1) columns)) row
-across_more columns i column row key v h at is before =
-    ap (λ (k : Key). k ++ v ∷ []) before
-    ∙ ap (λ (w : Value). across (map cells_of (take i columns)) row ++ w ∷ []) is
-    ∙ sym (across_last (map cells_of (take i columns)) (cells_of column) row)
-    ∙ ap (λ (cs : List Column). across cs row) (sym (cells_more columns i column h at))
 
 told_more : (n : ℕ) (codes : List Codes) (one : Codes) (columns : List Column) (cells : Column) → length cells ≡ n → TellCells one.items cells → Tell n codes columns → Tell n (codes ++ one ∷ []) (columns ++ cells ∷ [])
 told_more n codes one columns cells long own told p q h l same =

@@ -7,3 +7,4 @@ pub mod Merging
 pub mod Search
 pub mod Tables
 pub mod Typed
+pub mod kq_arithmetic

@@ -2,9 +2,9 @@
 use Rattle.std.proofs.Common.{◌≡◌, ℕ, zero, suc, Bool, true, false, cond, List, [], ◌∷◌, ◌++◌, length, map, refl, sym, subst, arith}
 use Rattle.std.specs.List.{All}
 use Rattle.std.proofs.lemmas.List.Elements.{All-nil, All-cons, All-head, All-tail}
-use Rattle.kq_agg.specs.Aggregates.{GivesTypes, HaveTheTypes, aggregate_kind}
+use Rattle.kq_agg.specs.Aggregates.{aggregate_kind}
+use Rattle.kq_agg.proofs.Typed.{GivesTypes, HaveTheTypes, finished-typed}
 use Rattle.kq_agg.specs.Holds.{Cell}
-use Rattle.kq_agg.proofs.Typed.{finished-typed}
 use Rattle.kq_computed.specs.Computed.{Computed, Is, Overflow, and_then}
 use Rattle.kq_agg.specs.kq_plan.Fits.{FitsAggregate, ty_of}
 use Rattle.kq_agg.specs.kq_plan.Plans.{Aggregating as Planned, rows_counted, summed, least_of, greatest_of, at_greatest, at_least, any_of, set_of}
@@ -16,7 +16,14 @@ use Rattle.kq_value.specs.Values.{is_same_row}
 use Rattle.kq_value.specs.declared.schema.Field.{Field}
 use Rattle.kq_value.specs.declared.value.Value.{Value}
 use Rattle.kq_group.specs.Grouped.{AggregateShape, AreKeys, Cells, GroupRows, Grouped, args_of}
-use Rattle.kq_group.specs.Typed.{FitTypes}
+
+-- these are the plan's aggregates, over arguments of their types, and these are their columns one after another
+abbrev pub FitTypes : List Field → List Field → List Planned → List AggregateShape → List (List (List Value)) → List Field → Type 0
+FitTypes lets from [] [] [] cs = cs ≡ []
+FitTypes lets from (g ∷ gs) (a ∷ others) (rows ∷ args) cs =
+    (own : List Field) × (more : List Field)
+    × (cs ≡ own ++ more) × (a ≡ record { kind = aggregate_kind g; types = map ty_of own }) × FitsAggregate lets from g own × HaveTheTypes g own rows × FitTypes lets from gs others args more
+FitTypes lets from gs others args cs = ⊥
 
 abbrev Row : Type 0
 Row = List Value

@@ -1,5 +1,6 @@
 -- The arguments of aggregates over a piece of rows.
 use Rattle.std.specs.Prelude.{ℕ, List, [], map, replicate}
+use Rattle.kq_agg.specs.Across.{rows_across}
 use Rattle.kq_agg.specs.Alone.{each_alone}
 use Rattle.kq_value.specs.declared.value.Value.{Value}
 use Rattle.kq_vector.specs.Vectors.{cells_of}
@@ -10,7 +11,7 @@ use Rattle.kq_group.specs.declared.argument.Argument.TheVariants as argument
 abbrev pub rows_in : ℕ → Argument → List (List Value)
 rows_in n argument.Nothing = replicate n []
 rows_in n (argument.Column column) = each_alone (cells_of column)
-rows_in n (argument.Rows rows) = rows
+rows_in n (argument.Columns columns) = rows_across n (map cells_of columns.items)
 
 -- those of each aggregate
 abbrev pub rows_given : ℕ → List Argument → List (List (List Value))

@@ -1,7 +1,8 @@
 -- Keys whose cells stand in several columns, and codes that tell them apart.
-use Rattle.std.specs.Prelude.{◌≡◌, ◌<◌, ℕ, ℤ, pos, List, [], ◌∷◌, Vec, get_or, length, map, replicate}
+use Rattle.std.specs.Prelude.{◌≡◌, ◌<◌, ℕ, ℤ, pos, List, [], ◌∷◌, Vec, get_or, length, replicate}
 use Rattle.std.specs.List.{All}
 use Rattle.std.specs.declared.alloc.Global.{Global}
+use Rattle.kq_agg.specs.Across.{across}
 use Rattle.kq_rows.specs.Chunks.{row_at}
 use Rattle.kq_value.specs.declared.value.Value.{Value}
 use Rattle.kq_vector.specs.Vectors.{cell_of}
@@ -16,10 +17,6 @@ in_front (v ∷ cells) (r ∷ rows) = (v ∷ r) ∷ in_front cells rows
 abbrev pub rows_of : ℕ → List (List Value) → List (List Value)
 rows_of n [] = replicate n []
 rows_of n (cells ∷ columns) = in_front cells (rows_of n columns)
-
--- the cells of one row
-abbrev pub across : List (List Value) → ℕ → List Value
-across columns i = map (λ (cells : List Value). cell_of cells i) columns
 
 abbrev pub HaveLength : ℕ → List (List Value) → Type 0
 HaveLength n columns = All (λ (cells : List Value). length cells ≡ n) columns

@@ -55,7 +55,7 @@ fn take_in(
     match argument {
         Argument::Nothing => states.step_bare(alloc, numbers),
         Argument::Column(column) => states.step_column(alloc, numbers, column),
-        Argument::Rows(rows) => states.step_batch(alloc, numbers, rows),
+        Argument::Columns(columns) => states.step_columns(alloc, numbers, columns.as_slice()),
     }
 }
 

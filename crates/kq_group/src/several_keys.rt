@@ -3,13 +3,15 @@ ghost use Rattle.std.specs.Prelude.{◌≡◌, ◌<◌, ◌+◌, ◌⊎◌, ◌+
 ghost use Rattle.kq_rows.specs.Chunks.{row_at};
 ghost use Rattle.kq_value.specs.Same.{times};
 ghost use Rattle.kq_vector.specs.Vectors.{cells_of};
-ghost use Rattle.kq_group.specs.Columns.{AreNumbersAcross, HaveLength, SameCodes, Tell, across, rows_of};
+ghost use Rattle.kq_agg.specs.Across.{across};
+ghost use Rattle.kq_group.specs.Columns.{AreNumbersAcross, HaveLength, SameCodes, Tell, rows_of};
 ghost use Rattle.kq_group.specs.Keys.{IsTable, Numbers};
 
 use crate::codes::{all_codes, are_same, mixed};
 use crate::hint::Hint;
 use crate::key_table::KeyTable;
-use kq_value::{Memory, Value};
+use kq_agg::row_across;
+use kq_value::Memory;
 use kq_vector::Vector;
 use std::alloc::Global;
 
@@ -88,7 +90,7 @@ impl KeyTable {
         ensures keys { OnOk result ((self.new.keys ≡ self.old.keys) ⊎ ((times (across (map cells_of columns.now) row) self.old.keys ≡ 0) × (self.new.keys ≡ self.old.keys ++ across (map cells_of columns.now) row ∷ []))) }
         ensures width { self.new.width ≡ self.old.width }
     {
-        let key = key_across(alloc, columns, row)?;
+        let key = row_across(alloc, columns, row)?;
         self.number(alloc, key.as_slice())
     }
 }
@@ -103,15 +105,4 @@ fn number_at(codes: &[Vec<i64>], row: usize, numbers: &[u32], place: u32) -> Opt
     } else {
         None
     }
-}
-
-// The cells of a row.
-fn key_across(alloc: Global, columns: &[Vector<'_>], row: usize) -> Result<Vec<Value>, Memory>
-    ensures { IfOk result (λ key. key.items ≡ across (map cells_of columns.now) row) }
-{
-    let mut key = Vec::with_capacity(alloc, columns.len())?;
-    for column in columns {
-        key.push(column.cell(row)?)?;
-    }
-    Ok(key)
 }

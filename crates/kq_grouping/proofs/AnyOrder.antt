@@ -1,5 +1,5 @@
 -- Groups that stand for a body over rows stand for it over the same rows in any other order.
-use Rattle.std.proofs.Common.{◌≡◌, ◌<◌, ℕ, zero, suc, min, Bool, true, false, cond, List, [], ◌∷◌, ◌++◌, length, map, refl, sym, ap, ◌∙◌, subst}
+use Rattle.std.proofs.Common.{◌≡◌, ℕ, zero, suc, min, Bool, true, false, cond, List, [], ◌∷◌, ◌++◌, length, map, refl, sym, ap, ◌∙◌, subst}
 use Rattle.std.specs.List.{All, flat_map}
 use Rattle.std.proofs.lemmas.List.{length-map}
 use Rattle.std.proofs.lemmas.List.Elements.{All-cons, All-head, All-nil, All-tail}
@@ -22,7 +22,7 @@ use Rattle.kq_value.specs.Values.{is_same_row}
 use Rattle.kq_value.specs.declared.ty.Ty.{Ty}
 use Rattle.kq_grouping.proofs.Arguments.{each_parts}
 use Rattle.kq_grouping.specs.Bodies.{StandsFor, alone, behind_source}
-use Rattle.kq_grouping.specs.Grouping.{GroupsOf, arguments_at, arguments_over, keyed}
+use Rattle.kq_grouping.specs.Grouping.{GroupsOf, arguments_at, arguments_over}
 use Rattle.kq_grouping.specs.Steps.{operators_of}
 
 -- ---- what comes of each row

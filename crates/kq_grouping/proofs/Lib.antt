@@ -1,6 +1,8 @@
 pub mod AnyOrder
+pub mod ArgumentColumns
 pub mod Arguments
 pub mod Columns
+pub mod Joining
 pub mod KeyColumns
 pub mod Pieces
 pub mod Regrouped
@@ -8,3 +10,5 @@ pub mod Stepped
 pub mod kq_group
 pub mod kq_scalar
 pub mod kq_stretch
+pub mod kq_agg
+pub mod kq_arithmetic

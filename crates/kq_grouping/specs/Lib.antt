@@ -2,6 +2,8 @@ pub mod Steps
 pub mod Grouping
 pub mod Arriving
 pub mod Bodies
+pub mod Joined
+pub mod Summaries
 pub mod kq_agg
 pub mod kq_stretch
 pub mod kq_piecewise

@@ -1,4 +1,3 @@
 -- What callers of this crate name of `kq_group`.
 pub use Rattle.kq_group.specs.Grouped
 pub use Rattle.kq_group.specs.Groups
-pub use Rattle.kq_group.specs.Typed

@@ -1,6 +1,7 @@
 // Rows as they come through row operators, a piece at a time.
 ghost use Rattle.std.specs.Prelude.{◌≡◌, ◌<◌, ◌≤◌, IfOk, length, map};
 ghost use Rattle.kq_rows.specs.Chunks.{same_width};
+ghost use Rattle.kq_stretch.specs.kq_piecewise.Pieces.{piece_of};
 ghost use Rattle.kq_stretch.specs.kq_scalar.Val.{surroundings};
 ghost use Rattle.kq_stretch.specs.Operators.{rowwise_of};
 ghost use Rattle.kq_stretch.specs.Pieces.{rows_in as piece_rows};
@@ -57,16 +58,18 @@ impl<'a> Flow<'a> {
     pub(crate) fn new(
         alloc: Global,
         place: &'a Place,
+        from: u64,
+        to: u64,
         operators: &'a [Operator<'a>],
         lets: &'a [Value],
         now: i64,
     ) -> Flow<'a>
         requires { IsReadable place.now }
-        ensures { result.to_come ≡ ran (map rowwise_of operators.now) (surroundings now lets.now) (rows_in place.now) }
+        ensures { result.to_come ≡ ran (map rowwise_of operators.now) (surroundings now lets.now) (piece_of (rows_in place.now) from to) }
     {
         Flow {
             alloc,
-            unread: Unread::new(place),
+            unread: Unread::new(place, from, to),
             operators,
             lets,
             now,

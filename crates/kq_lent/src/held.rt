@@ -1,5 +1,6 @@
 // The rows that a query reads.
 ghost use Rattle.std.specs.Prelude.{◌≡◌, ◌<◌, ◌^◌, IfOk, length, map, take};
+ghost use Rattle.kq_stretch.specs.kq_piecewise.Pieces.{piece_of};
 ghost use Rattle.kq_stretch.specs.kq_scalar.Val.{surroundings};
 ghost use Rattle.kq_lent.specs.Gathered.{gathered};
 ghost use Rattle.kq_extent.specs.Wide.{wide_held};
@@ -83,7 +84,22 @@ impl Held {
     ) -> Flow<'a>
         ensures { result.to_come ≡ ran (map rowwise_of operators.now) (surroundings now lets.now) self.now }
     {
-        Flow::new(alloc, &self.place, operators, lets, now)
+        self.flow_between(alloc, 0, self.len(), operators, lets, now)
+    }
+
+    /// The same of the rows from the one of a number on, up to that of another.
+    pub fn flow_between<'a>(
+        &'a self,
+        alloc: Global,
+        from: u64,
+        to: u64,
+        operators: &'a [Operator<'a>],
+        lets: &'a [Value],
+        now: i64,
+    ) -> Flow<'a>
+        ensures { result.to_come ≡ ran (map rowwise_of operators.now) (surroundings now lets.now) (piece_of self.now from to) }
+    {
+        Flow::new(alloc, &self.place, from, to, operators, lets, now)
     }
 
     /// Copies of the first rows, so many or all.

@@ -1,6 +1,6 @@
 // Where the rows that a query reads stand, source by source.
-ghost use Rattle.std.specs.Prelude.{◌≡◌, ◌<◌, IfNone, IfSome, [], Some, length, slice_get};
-ghost use Rattle.kq_lent.specs.Held.{sources_in};
+ghost use Rattle.std.specs.Prelude.{◌≡◌, ◌<◌, IfNone, IfSome, [], Some, drop, length, slice_get};
+ghost use Rattle.kq_lent.specs.Held.{rows_in, sources_in};
 ghost use Rattle.kq_lent.specs.Sources.{source_rows};
 ghost use Rattle.kq_lent.specs.Unread.{BeginsAt, rows_from};
 
@@ -41,6 +41,27 @@ impl Place {
         match self {
             Place::Own(rows) => Source::Rows(rows),
             Place::Lent(extents) => Source::Extent(extents.records_at(at)),
+        }
+    }
+
+    /// The place of the row of this number, or the end where there are fewer.
+    pub fn spot_at(&self, number: u64) -> Spot
+        ensures { rows_from (sources_in self.now) result.source result.row ≡ drop number (rows_in self.now) }
+    {
+        let mut row = number;
+        for source in 0..self.len() {
+            let len = self.source(source).len() as u64;
+            if row < len {
+                return Spot {
+                    source,
+                    row: row as usize,
+                };
+            }
+            row -= len;
+        }
+        Spot {
+            source: self.len(),
+            row: 0,
         }
     }
 

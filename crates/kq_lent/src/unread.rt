@@ -1,5 +1,6 @@
 // Rows that are yet to be read.
 ghost use Rattle.std.specs.Prelude.{◌≡◌};
+ghost use Rattle.kq_stretch.specs.kq_piecewise.Pieces.{piece_of};
 ghost use Rattle.kq_lent.specs.Held.{IsReadable, rows_in};
 ghost use Rattle.kq_lent.specs.ReadParts.{ReadsPart};
 ghost use Rattle.kq_lent.specs.Unread.{width_of};
@@ -10,16 +11,18 @@ use kq_stretch::{Piece, Relation};
 use std::marker::Model;
 
 // The most rows of a part.
-const PART: usize = 4096;
+const PART: u64 = 4096;
 
 // Rows as they are read in parts. Contracts see those that are left, and how many cells each row has.
 #[derive(Drop)]
 pub(crate) struct Unread<'a> {
     place: &'a Place,
     spot: Spot,
+    left: u64,
 }
 
 impl<'a> Model for Unread<'a> {
+    ghost use Rattle.std.specs.Prelude.{take};
     ghost use Rattle.std.specs.Coded.{codes};
     ghost use Rattle.kq_value.specs.contracts.value.Value as cell;
     ghost use Rattle.kq_lent.specs.Unread.{UnreadView};
@@ -31,19 +34,21 @@ impl<'a> Model for Unread<'a> {
     ghost use Rattle.kq_lent.specs.Held.{rows_in, sources_in, IsReadable};
     ghost use Rattle.kq_lent.specs.Unread.{rows_from, width_of};
 
-    ghost view = { λ u. record { rows = rows_from (sources_in u.place.now) u.spot.source u.spot.row; width = width_of (rows_in u.place.now) } };
+    ghost view = { λ u. record { rows = take u.left (rows_from (sources_in u.place.now) u.spot.source u.spot.row); width = width_of (rows_in u.place.now) } };
 
     ghost invariant = { λ u. IsReadable u.place.now };
 }
 
 impl<'a> Unread<'a> {
-    pub fn new(place: &'a Place) -> Unread<'a>
+    /// The rows from the one of a number on, up to that of another.
+    pub fn new(place: &'a Place, from: u64, to: u64) -> Unread<'a>
         requires { IsReadable place.now }
-        ensures rows { result.rows ≡ rows_in place.now }
+        ensures rows { result.rows ≡ piece_of (rows_in place.now) from to }
     {
         Unread {
             place,
-            spot: Spot { source: 0, row: 0 },
+            spot: place.spot_at(from),
+            left: to.saturating_sub(from),
         }
     }
 
@@ -51,10 +56,15 @@ impl<'a> Unread<'a> {
     pub fn next_part(&mut self) -> Option<Piece<Source<'a>>>
         ensures { ReadsPart self.old self.new result }
     {
+        if self.left == 0 {
+            return None;
+        }
         match self.place.seek(self.spot) {
             Some(spot) => {
                 let source = self.place.source(spot.source);
-                let to = source.len().min(spot.row + PART);
+                let most = self.left.min(PART);
+                let to = source.len().min(spot.row + most as usize);
+                self.left -= (to - spot.row) as u64;
                 self.spot = Spot {
                     source: spot.source,
                     row: to,

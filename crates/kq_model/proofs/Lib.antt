@@ -22,3 +22,4 @@ pub mod Tagged
 pub mod Unique
 pub mod Views
 pub mod Wider
+pub mod Edited

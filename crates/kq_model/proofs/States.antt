@@ -16,7 +16,8 @@ use Rattle.kq_model.specs.declared.event.Commit.TheVariants.{CreateTable, SetPol
 use Rattle.kq_model.specs.declared.event.Event.{Event}
 use Rattle.kq_model.specs.declared.event.Operation.{Operation}
 use Rattle.kq_model.specs.declared.event.Operation.TheVariants as operation
-use Rattle.kq_model.specs.Edits.{edited_by, edits_of, item_with, new_extents, with_columns, with_merged, with_records}
+use Rattle.kq_model.specs.Edits.{edits_of, new_extents}
+use Rattle.kq_model.proofs.Edited.{edited_by, item_with, with_columns, with_merged, with_records}
 use Rattle.kq_model.specs.Changed.{changed}
 use Rattle.kq_model.specs.History.{History, Log, log, cursor, tables, widened_table, commits_of}
 use Rattle.kq_model.specs.Lawful.{AreLawful}

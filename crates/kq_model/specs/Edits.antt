@@ -11,40 +11,13 @@ use Rattle.kq_model.specs.declared.event.Commit.TheVariants.{CreateTable, SetPol
 use Rattle.kq_model.specs.declared.table.Table.{Table}
 pub use Rattle.kq_model.specs.Changed.{changed}
 use Rattle.kq_model.specs.History.{table_named, widened_table}
-use Rattle.kq_model.specs.Records.{ExtentItem, ids_of, merged, rows_to}
-use Rattle.kq_model.specs.Tables.{TableState}
-use Rattle.kq_widened.specs.Widened.{widened_records}
+use Rattle.kq_model.specs.Records.{rows_to}
 
 -- a table put last, further columns of a table at a cursor, or an extent of a table put last, with its id, its records and its tags
 pub data Edit : Type 0 where
   NewTable : Table → Edit
   NewColumns : ℕ → ℕ → List Field → Edit
   NewExtent : ℕ → ℕ → List Record → List (List ℕ) → Edit
-
--- a table before it has records
-abbrev pub empty_state : Table → TableState
-empty_state table = record { table = table; records = []; items = [] }
-
-abbrev pub item_with : ℕ → List Record → List (List ℕ) → ExtentItem
-item_with id records tags = record { id = id; records = ids_of records; tags = tags }
-
--- a table with further columns, to which its records are widened
-abbrev pub with_columns : ℕ → List Field → TableState → TableState
-with_columns cursor columns t = record t { table = widened_table cursor columns t.table; records = widened_records (t.table.schema ++ columns) t.records }
-
--- a table with an extent more, whose records are widened to the table's columns
-abbrev pub with_records : ℕ → List Record → List (List ℕ) → TableState → TableState
-with_records id records tags t = record t { records = t.records ++ widened_records t.table.schema records; items = t.items ++ item_with id records tags ∷ [] }
-
-abbrev pub edited : List TableState → Edit → List TableState
-edited ts (NewTable table) = ts ++ empty_state table ∷ []
-edited ts (NewColumns n cursor columns) = changed (with_columns cursor columns) n ts
-edited ts (NewExtent n id records tags) = changed (with_records id records tags) n ts
-
--- one edit after another
-abbrev pub edited_by : List TableState → List Edit → List TableState
-edited_by ts [] = ts
-edited_by ts (e ∷ es) = edited_by (edited ts e) es
 
 -- the extents of batches: ids go on from a number, and ordinals behind the rows that batches before gave the same table
 abbrev pub new_extents : ℕ → ℕ → List Batch → List Batch → List Edit
@@ -75,7 +48,3 @@ tables_after ts (NewExtent n id records tags) = ts
 abbrev pub FitAll : List Table → List Edit → Type 0
 FitAll ts [] = Unit {0}
 FitAll ts (e ∷ es) = FitsTables ts e × FitAll (tables_after ts e) es
-
--- a table after a merge of its extents: its records stay
-abbrev pub with_merged : List ℕ → ℕ → TableState → TableState
-with_merged old new t = record t { items = merged old new t.items }

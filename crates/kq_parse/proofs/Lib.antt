@@ -8,3 +8,4 @@ pub mod QueryLaws
 pub mod SourceLaws
 pub mod TabularLaws
 pub mod UnionLaws
+pub mod Following

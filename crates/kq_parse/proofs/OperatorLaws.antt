@@ -1,6 +1,6 @@
 -- The reader of operators is exact where that of the sources inside is.
 use Rattle.std.proofs.Common.{◌≡◌, ℕ, suc, false, List, [], ◌∷◌, ◌++◌, inl, inr, Option, None, refl, sym, subst, append-nil, arith}
-use Rattle.kq_clause.specs.Following.{names_go_on, items_go_on, key_goes_on, keys_go_on, renamings_go_on, join_keys_go_on}
+use Rattle.kq_clause.proofs.Following.{names_go_on, items_go_on, key_goes_on, keys_go_on, renamings_go_on, join_keys_go_on}
 use Rattle.kq_clause.specs.Reading as clause
 use Rattle.kq_expression.specs.Reading.{expression}
 use Rattle.kq_grammar.specs.declared.clause.JoinKey.{JoinKey}
@@ -9,10 +9,10 @@ use Rattle.kq_grammar.specs.declared.tabular.OperatorKey.{OperatorKey}
 use Rattle.kq_grammar.specs.declared.tabular.OperatorKey.TheVariants as o
 use Rattle.kq_grammar.specs.Clauses as grammar
 use Rattle.kq_grammar.specs.Expressions.{Text, spells}
-use Rattle.kq_grammar.specs.Precedences.{goes_on}
+use Rattle.kq_grammar.proofs.Precedences.{goes_on}
 use Rattle.kq_grammar.specs.Tabulars.{operator_of, operator_key, kind_text, keys_on, tabular_text, union_text, body_text}
 use Rattle.kq_grammar.specs.Trees.{ItemTree, KeyTree, TabularTree, BodyTree, filter, extend, project, project_away, project_rename, take, count, sort, top, distinct, distinct_all, summarize, summarize_by, join, unite, mv_expand}
-use Rattle.kq_parse.specs.Following.{union_goes_on, summarize_goes_on, expansion_goes_on, operator_goes_on, tabular_goes_on}
+use Rattle.kq_parse.proofs.Following.{union_goes_on, summarize_goes_on, expansion_goes_on, operator_goes_on, tabular_goes_on}
 use Rattle.kq_parse.specs.Reading as reading
 use Rattle.kq_syntax.specs.declared.kind.Kind.TheVariants as kind
 use Rattle.kq_syntax.specs.declared.kind.Symbol.{Symbol}
@@ -22,8 +22,9 @@ use Rattle.kq_syntax.specs.declared.word.ReservedWord.TheVariants as r
 use Rattle.kq_syntax.specs.declared.word.Word.TheVariants as word
 use Rattle.kq_syntax.specs.Classes as k
 use Rattle.kq_syntax.specs.Classes.{Class, of}
-use Rattle.kq_syntax.specs.Forms.{Parser, one, some, ◌⨾◌, Then, Image, Maybe, pure, expect, both, ◌<$>◌, skip}
-use Rattle.kq_syntax.specs.Switching.{Keyed}
+use Rattle.kq_syntax.specs.Forms.{Parser, one, some, ◌⨾◌, Maybe, pure, expect, both, ◌<$>◌, skip}
+use Rattle.kq_syntax.proofs.Forms.{Then, Image}
+use Rattle.kq_syntax.proofs.Switching.{Keyed}
 use Rattle.kq_syntax.proofs.ClassLemmas.{apart, within}
 use Rattle.kq_syntax.proofs.Laws.{Exact, Example, nothing, both_exact, image_exact, same_exact, wider_exact, pure_exact, one_exact, skip_exact, skip_example}
 use Rattle.kq_syntax.proofs.SwitchLaws.{keyed_exact}

@@ -1,6 +1,6 @@
 -- The readers of what has no sources inside are exact.
 use Rattle.std.proofs.Common.{◌≡◌, ℕ, Bool, true, false, ◌||◌, List, [], ◌∷◌, ◌++◌, ◌⊎◌, inl, inr, Option, None, refl, sym, subst, arith}
-use Rattle.kq_clause.specs.Following.{names_go_on, item_goes_on, grouping_goes_on, key_goes_on, columns_go_on, cells_go_on, aggregates_go_on, begins_aggregate}
+use Rattle.kq_clause.proofs.Following.{names_go_on, item_goes_on, grouping_goes_on, key_goes_on, columns_go_on, cells_go_on, aggregates_go_on, begins_aggregate}
 use Rattle.kq_clause.specs.Reading as clause
 use Rattle.kq_expression.specs.Reading.{name, bracketed_name, expression}
 use Rattle.kq_grammar.specs.declared.clause.Cell.{Cell}
@@ -9,10 +9,10 @@ use Rattle.kq_grammar.specs.declared.expression.Name.{Name}
 use Rattle.kq_grammar.specs.declared.expression.Name.TheVariants as shown
 use Rattle.kq_grammar.specs.Clauses as grammar
 use Rattle.kq_grammar.specs.Expressions.{Text, name_text, spells}
-use Rattle.kq_grammar.specs.Precedences.{goes_on}
+use Rattle.kq_grammar.proofs.Precedences.{goes_on}
 use Rattle.kq_grammar.specs.Tabulars.{view_text, kind_text, typeof_text, table_text, table_word}
 use Rattle.kq_grammar.specs.Trees.{Tree, FromTree, range as range_tree, datatable as datatable_tree, BodyTree, top as top_tree, distinct, distinct_all, summarize as summarize_tree, summarize_by, mv_expand, ItemTree, KeyTree, AggregateTree, GroupingTree}
-use Rattle.kq_parse.specs.Following.{summarize_goes_on, expansion_goes_on}
+use Rattle.kq_parse.proofs.Following.{summarize_goes_on, expansion_goes_on}
 use Rattle.kq_parse.specs.Reading as reading
 use Rattle.kq_syntax.specs.declared.kind.Kind.TheVariants as kind
 use Rattle.kq_syntax.specs.declared.kind.Quoted.TheVariants as quoted
@@ -24,7 +24,8 @@ use Rattle.kq_token.specs.declared.kind.Operator.TheVariants as operator
 use Rattle.kq_token.specs.declared.kind.Punctuation.TheVariants as sign
 use Rattle.kq_syntax.specs.Classes as k
 use Rattle.kq_syntax.specs.Classes.{Class, of}
-use Rattle.kq_syntax.specs.Forms.{Parser, one, some, ◌⨾◌, Then, Image, Maybe, expect, both, ◌<$>◌, maybe, skip, closed}
+use Rattle.kq_syntax.specs.Forms.{Parser, one, some, ◌⨾◌, Maybe, expect, both, ◌<$>◌, maybe, skip, closed}
+use Rattle.kq_syntax.proofs.Forms.{Then, Image}
 use Rattle.kq_syntax.proofs.ClassLemmas.{apart, within, part}
 use Rattle.kq_syntax.proofs.Laws.{Exact, Example, Follows, Leads, nothing, stops_nothing, stops_starts, both_exact, image_exact, wider_exact, one_exact, choose_exact, maybe_exact, maybe_follows, skip_exact, skip_example, closed_exact, closed_example}
 use Rattle.kq_expression.proofs.NameLaws.{example_of, a_word, starts_part, starts_apart, one_leads, bracketed_text, bracketed_exact, bracketed_leads, name_exact, name_example}

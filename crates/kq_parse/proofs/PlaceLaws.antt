@@ -10,7 +10,8 @@ use Rattle.kq_syntax.specs.declared.cursor.Stop.{Stop}
 use Rattle.kq_syntax.specs.declared.cursor.Stop.TheVariants.{Syntax, Memory}
 use Rattle.kq_syntax.specs.declared.kind.Symbol.{Symbol}
 use Rattle.kq_syntax.specs.Outcomes.{IsOutcome}
-use Rattle.kq_syntax.specs.Forms.{Meets, Parser, Parses, Stuck, Outcome}
+use Rattle.kq_syntax.specs.Forms.{Parser, Outcome}
+use Rattle.kq_syntax.proofs.Forms.{Meets, Parses, Stuck}
 use Rattle.kq_syntax.proofs.Laws.{Exact}
 
 empty_of : (ts : List Symbol) → length ts ≡ 0 → ts ≡ []

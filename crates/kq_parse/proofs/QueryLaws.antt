@@ -4,11 +4,11 @@ use Rattle.kq_expression.specs.Reading.{name, expression}
 use Rattle.kq_grammar.specs.declared.expression.Name.{Name}
 use Rattle.kq_grammar.specs.declared.expression.Name.TheVariants as shown
 use Rattle.kq_grammar.specs.Expressions.{Text, name_text, spells}
-use Rattle.kq_grammar.specs.Precedences.{goes_on}
+use Rattle.kq_grammar.proofs.Precedences.{goes_on}
 use Rattle.kq_grammar.specs.Tabulars.{tabular_text, scalar_right, tabular_right, let_text, query_end, query_text}
 use Rattle.kq_grammar.specs.Trees.{Tree, TabularTree, pipeline, table, no_operator, LetTree, QueryTree}
 use Rattle.kq_grammar.specs.Trees.Tree.{name as name_tree}
-use Rattle.kq_parse.specs.Following.{tabular_goes_on, query_goes_on}
+use Rattle.kq_parse.proofs.Following.{tabular_goes_on, query_goes_on}
 use Rattle.kq_parse.specs.Reading as reading
 use Rattle.kq_syntax.specs.declared.kind.Kind.TheVariants as kind
 use Rattle.kq_syntax.specs.declared.kind.Symbol.{Symbol}
@@ -18,7 +18,8 @@ use Rattle.kq_token.specs.declared.kind.Punctuation.TheVariants as sign
 use Rattle.kq_syntax.specs.Choices.{Right, either, Chosen}
 use Rattle.kq_syntax.specs.Classes as k
 use Rattle.kq_syntax.specs.Classes.{Class, of}
-use Rattle.kq_syntax.specs.Forms.{one, some, ◌⨾◌, Then, Image, Many, Maybe, starts, expect, both, many, maybe, skip, closed}
+use Rattle.kq_syntax.specs.Forms.{one, some, ◌⨾◌, Many, Maybe, starts, expect, both, many, maybe, skip, closed}
+use Rattle.kq_syntax.proofs.Forms.{Then, Image}
 use Rattle.kq_syntax.proofs.ClassLemmas.{apart, within}
 use Rattle.kq_syntax.proofs.Either.{either_meets, decides}
 use Rattle.kq_syntax.proofs.Laws.{Exact, Example, Follows, Leads, nothing, both_exact, image_exact, same_exact, one_exact, many_exact, maybe_exact, maybe_follows, skip_exact, skip_example, closed_exact}

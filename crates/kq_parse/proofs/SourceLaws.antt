@@ -1,14 +1,14 @@
 -- The reader of sources is exact where that of the sources inside is.
 use Rattle.std.proofs.Common.{◌≡◌, ℕ, suc, true, false, List, [], ◌∷◌, ◌++◌, ◌⊎◌, inl, inr, Some, refl, sym, ◌∙◌, ap, subst}
-use Rattle.kq_clause.specs.Following.{items_go_on}
+use Rattle.kq_clause.proofs.Following.{items_go_on}
 use Rattle.kq_clause.specs.Reading as clause
 use Rattle.kq_grammar.specs.declared.expression.Name.TheVariants as shown
 use Rattle.kq_grammar.specs.Clauses as grammar
 use Rattle.kq_grammar.specs.Expressions.{Text}
-use Rattle.kq_grammar.specs.Precedences.{goes_on}
+use Rattle.kq_grammar.proofs.Precedences.{goes_on}
 use Rattle.kq_grammar.specs.Tabulars.{source_key, source_of, source_word, any_source_word, table_text, view_text, tabular_text, source_text, from_text, union_text}
 use Rattle.kq_grammar.specs.Trees.{ItemTree, TabularTree, SourceTree, table, nested, worded, FromTree, view, print, range, datatable, union}
-use Rattle.kq_parse.specs.Following.{union_goes_on, source_goes_on, tabular_goes_on}
+use Rattle.kq_parse.proofs.Following.{union_goes_on, source_goes_on, tabular_goes_on}
 use Rattle.kq_parse.specs.Reading as reading
 use Rattle.kq_syntax.specs.declared.kind.Kind.{Kind}
 use Rattle.kq_syntax.specs.declared.kind.Kind.TheVariants as kind
@@ -18,8 +18,10 @@ use Rattle.kq_syntax.specs.declared.word.SourceWord.TheVariants as s
 use Rattle.kq_syntax.specs.declared.word.Word.TheVariants as word
 use Rattle.kq_syntax.specs.Classes as k
 use Rattle.kq_syntax.specs.Classes.{Class, of}
-use Rattle.kq_syntax.specs.Forms.{Parser, Image, starts, ◌<$>◌, choose}
-use Rattle.kq_syntax.specs.Switching.{Marks, Keyed, keyed}
+use Rattle.kq_syntax.specs.Forms.{Parser, starts, ◌<$>◌, choose}
+use Rattle.kq_syntax.proofs.Forms.{Image}
+use Rattle.kq_syntax.specs.Switching.{Marks, keyed}
+use Rattle.kq_syntax.proofs.Switching.{Keyed}
 use Rattle.kq_syntax.proofs.ClassLemmas.{apart, within, part}
 use Rattle.kq_syntax.proofs.Laws.{Exact, Example, Leads, image_exact, same_exact, wider_exact, choose_exact}
 use Rattle.kq_syntax.proofs.SwitchLaws.{keyed_exact}

@@ -4,15 +4,16 @@ use Rattle.kq_grammar.specs.Expressions.{Text}
 use Rattle.kq_grammar.specs.Tabulars.{operator_of, operator_key, tabular_text, source_text, operators_text, body_text}
 use Rattle.kq_grammar.specs.TabularViews.{operators_of}
 use Rattle.kq_grammar.specs.Trees.{TabularTree, pipeline, SourceTree, Operators, no_operator, and_operator, BodyTree}
-use Rattle.kq_parse.specs.Following.{source_goes_on, operator_goes_on, tabular_goes_on}
+use Rattle.kq_parse.proofs.Following.{source_goes_on, operator_goes_on, tabular_goes_on}
 use Rattle.kq_parse.specs.Reading as reading
 use Rattle.kq_syntax.specs.declared.kind.Kind.TheVariants as kind
 use Rattle.kq_syntax.specs.declared.kind.Symbol.{Symbol}
 use Rattle.kq_token.specs.declared.kind.Punctuation.TheVariants as sign
 use Rattle.kq_syntax.specs.Classes as k
 use Rattle.kq_syntax.specs.Classes.{Class, of}
-use Rattle.kq_syntax.specs.Forms.{Alike, Stuck, Parser, some, ◌⨾◌, Then, Image, Many, starts, both, many, skip}
-use Rattle.kq_syntax.specs.Switching.{Keyed}
+use Rattle.kq_syntax.specs.Forms.{Parser, some, ◌⨾◌, Many, starts, both, many, skip}
+use Rattle.kq_syntax.proofs.Forms.{Alike, Stuck, Then, Image}
+use Rattle.kq_syntax.proofs.Switching.{Keyed}
 use Rattle.kq_syntax.proofs.ClassLemmas.{apart, within}
 use Rattle.kq_syntax.proofs.Laws.{Exact, Example, nothing, both_exact, image_exact, same_exact, many_exact, many_follows, skip_exact, skip_leads}
 use Rattle.kq_expression.proofs.NameLaws.{example_of}

@@ -6,7 +6,7 @@ use Rattle.kq_grammar.specs.Expressions.{Text, name_text}
 use Rattle.kq_grammar.specs.Tabulars.{tabular_text, union_text, arm_text, arms_text}
 use Rattle.kq_grammar.specs.TabularViews.{arms_of}
 use Rattle.kq_grammar.specs.Trees.{TabularTree, UnionTree, arms, ArmTree, named_arm, nested_arm, Arms, no_arm, and_arm}
-use Rattle.kq_parse.specs.Following.{union_goes_on, tabular_goes_on}
+use Rattle.kq_parse.proofs.Following.{union_goes_on, tabular_goes_on}
 use Rattle.kq_parse.specs.Reading as reading
 use Rattle.kq_syntax.specs.declared.kind.Kind.TheVariants as kind
 use Rattle.kq_syntax.specs.declared.kind.Symbol.{Symbol}
@@ -16,7 +16,8 @@ use Rattle.kq_syntax.specs.declared.word.Word.TheVariants as word
 use Rattle.kq_token.specs.declared.kind.Punctuation.TheVariants as sign
 use Rattle.kq_syntax.specs.Classes as k
 use Rattle.kq_syntax.specs.Classes.{Class, of}
-use Rattle.kq_syntax.specs.Forms.{Parser, one, some, ◌⨾◌, Bind, Then, Image, Many, starts, expect, bind, both, ◌<$>◌, skip, closed}
+use Rattle.kq_syntax.specs.Forms.{Parser, one, some, ◌⨾◌, Many, starts, expect, bind, both, ◌<$>◌, skip, closed}
+use Rattle.kq_syntax.proofs.Forms.{Bind, Then, Image}
 use Rattle.kq_syntax.proofs.ClassLemmas.{apart, within, part}
 use Rattle.kq_syntax.proofs.Laws.{Exact, Example, Leads, nothing, starts_stops, bind_exact, both_exact, both_less, image_exact, one_exact, choose_exact, choose_first_exact, many_exact, skip_exact, skip_leads, closed_exact, closed_example}
 use Rattle.kq_expression.proofs.NameLaws.{example_of, starts_apart, one_leads, name_exact, name_example, name_leads}

@@ -1,5 +1,4 @@
 pub mod Depth
-pub mod Following
 pub mod Nests
 pub mod Places
 pub mod Reading

@@ -1,5 +1,5 @@
 -- The columns that a chain reads.
-use Rattle.std.proofs.Common.{◌≡◌, ◌≢◌, ◌<◌, ℕ, false, List, [], ◌∷◌, ◌++◌, map, length, Vec, refl, sym, ap, ◌∙◌, arith}
+use Rattle.std.proofs.Common.{◌≡◌, ◌<◌, ℕ, false, List, [], ◌∷◌, ◌++◌, map, length, Vec, refl, sym, ap, ◌∙◌, arith}
 use Rattle.std.specs.List.{concat}
 use Rattle.std.specs.declared.alloc.Global.{Global}
 use Rattle.std.specs.Prelude.{Box}
@@ -12,7 +12,7 @@ use Rattle.kq_expr.specs.declared.expr.Expr.TheVariants.{Chain, rolls-Chain}
 use Rattle.kq_expr.specs.declared.expr.Link.{Link}
 use Rattle.kq_expr.specs.declared.expr.Link.TheVariants as link
 use Rattle.kq_expr.specs.Operations.{function_of}
-use Rattle.kq_expr.specs.Terms.{Term, call, Terms, no_term, and_term, mapped, linked, chained, link_of, term_of}
+use Rattle.kq_expr.specs.Terms.{Term, call, Terms, no_term, and_term, mapped, chained, link_of, term_of}
 use Rattle.kq_expr.proofs.Chains.{all_mapped, term_of_chain}
 use Rattle.kq_piecewise.specs.Pieces.{reads_link, reads_step, columns_read, is_column}
 

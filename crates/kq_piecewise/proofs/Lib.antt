@@ -6,4 +6,5 @@ pub mod Laws
 pub mod Mapped
 pub mod Reading
 pub mod Standing
+mod ByWord
 pub mod kq_scalar

@@ -1,6 +1,6 @@
 -- Rows made source by source are those made row by row.
 use Rattle.std.proofs.Common.{◌≡◌, ◌<◌, ◌≤◌, ◌+◌, ◌-◌, ℕ, zero, suc, Bool, false, cond, List, [], ◌∷◌, ◌++◌, map, length, get_or, set, take, drop, Ok, Err, refl, sym, ap, ◌∙◌, subst, arith}
-use Rattle.std.proofs.lemmas.List.{map-append, drop-drop, drop-set-lt, take_all}
+use Rattle.std.proofs.lemmas.List.{map-append, length-map, drop-drop, drop-set-lt, take_all}
 use Rattle.std.specs.List.{concat, range_with_len}
 use Rattle.std.specs.Prelude.{Result}
 use Rattle.kq_value.specs.declared.value.Value.{Value}
@@ -127,6 +127,15 @@ made_cells v (r ∷ rows) (c ∷ cs) k h at = λ t. at 0 k (omega arith) t ∷ m
 pub made_gives : (f : List Value → Computed Value) (v : Vector) (rows : List (List Value)) → each f rows ≡ Is (cells_of v) → each f rows ≡ Is (cells_from (Made v) 0 rows)
 made_gives f v rows h =
     h ∙ ap Is (sym (made_cells v rows (cells_of v) 0 (each_long f rows (cells_of v) h) (λ i n is. let back : n ≡ i = omega arith in ap (cell_of (cells_of v)) back)))
+
+column_cells : (j : ℕ) (rows : List (List Value)) (k : ℕ) → cells_from (Column j) k rows ≡ column_of j rows
+column_cells j [] k = refl
+column_cells j (r ∷ rows) k = ap (λ (cs : List Value). cell_of r j ∷ cs) (column_cells j rows (k + 1))
+
+-- a column that is lent gives the cells that stand in it
+pub lent_gives : (v : Vector) (j : ℕ) (rows : List (List Value)) → cells_of v ≡ column_of j rows → cells_from (Made v) 0 rows ≡ cells_from (Column j) 0 rows
+lent_gives v j rows is =
+    made_cells v rows (column_of j rows) 0 (length-map rows (λ (r : List Value). cell_of r j)) (λ i n at. let back : n ≡ i = omega arith in λ t. cell_of (is t) (back t)) ∙ sym (column_cells j rows 0)
 
 -- the source of one of the expressions, over columns that were copied for all
 pub source_stands : (es : List Expr) (i : ℕ) (e : Expr) (s : Surroundings) (columns given : List Vector) (reads places : List ℕ) (rows : List (List Value)) (n : ℕ) → length rows ≡ n

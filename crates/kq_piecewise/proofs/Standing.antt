@@ -19,7 +19,7 @@ use Rattle.kq_columnar.specs.kq_scalar.Val.{Meaning, Surroundings, val, meaning,
 use Rattle.kq_piecewise.specs.Pieces.{Hold, column_of, columns_read, piece_of}
 use Rattle.kq_piecewise.proofs.Reading.{Same, reads_alone}
 
-cell_at_columns : (columns : List Vector) (i j : ℕ) → cell_of (row_at columns i) j ≡ cell_of (get_or (map cells_of columns) j []) i
+pub cell_at_columns : (columns : List Vector) (i j : ℕ) → cell_of (row_at columns i) j ≡ cell_of (get_or (map cells_of columns) j []) i
 cell_at_columns [] zero zero = refl
 cell_at_columns [] zero (suc j) = refl
 cell_at_columns [] (suc i) zero = refl

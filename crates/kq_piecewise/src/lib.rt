@@ -11,6 +11,8 @@ mod reads;
 mod relation;
 mod sources;
 mod values;
+mod worded;
+mod words;
 
 pub use copy::copy_row;
 pub use filter::places_kept;

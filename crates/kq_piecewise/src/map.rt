@@ -7,7 +7,7 @@ ghost use Rattle.kq_rows.specs.Chunks.{HasWidth, row_at};
 ghost use Rattle.kq_columnar.specs.kq_scalar.Val.{surroundings};
 ghost use Rattle.kq_piecewise.specs.Operators.{values_at};
 ghost use Rattle.kq_piecewise.specs.Pieces.{piece_of};
-ghost use Rattle.kq_piecewise.specs.Sources.{GiveBehind, MakeRows, row_from, rows_from};
+ghost use Rattle.kq_piecewise.specs.Sources.{GiveBehind, MakeRows, cells_from, row_from, rows_from};
 
 use crate::columns::columns_in;
 use crate::piece::{PIECE, places_below};
@@ -44,7 +44,7 @@ pub fn map_rows<R: Relation>(
 // A source for each expression, with its values over the rows from a place on, up to another.
 fn sources_of<'v, R: Relation>(
     alloc: Global,
-    relation: &R,
+    relation: &'v R,
     from: usize,
     to: usize,
     exprs: &[Expr],
@@ -60,9 +60,30 @@ fn sources_of<'v, R: Relation>(
     let places = places_below(alloc, to - from)?;
     let mut sources = Vec::new(alloc);
     for expr in exprs {
-        sources.push(source_of(alloc, expr, &columns, &places, lets, now)?)?;
+        let source = source_of(alloc, expr, &columns, &places, lets, now)?;
+        sources.push(lent_source(alloc, relation, from, to, source)?)?;
     }
     Ok(sources)
+}
+
+// The same source; a column that the relation lends is read where it lies.
+fn lent_source<'v, R: Relation>(
+    alloc: Global,
+    relation: &'v R,
+    from: usize,
+    to: usize,
+    source: Source<'v>,
+) -> Result<Source<'v>, Memory>
+    requires { (from ≤ to) × (to ≤ length (R.rows relation.now)) }
+    ensures { IfOk result (λ x. cells_from x 0 (piece_of (R.rows relation.now) from to) ≡ cells_from source.entry 0 (piece_of (R.rows relation.now) from to)) }
+{
+    match source {
+        Source::Column(j) => match relation.lend(alloc, j, from, to)? {
+            Some(column) => Ok(Source::Made(column)),
+            None => Ok(Source::Column(j)),
+        },
+        made => Ok(made),
+    }
 }
 
 // Puts the rows last that the sources give of the rows from a place on, up to another.

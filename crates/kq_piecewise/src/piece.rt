@@ -11,6 +11,7 @@ ghost use Rattle.kq_piecewise.specs.Pieces.{piece_of};
 use crate::columns::columns_in;
 use crate::reads::columns_of;
 use crate::relation::Relation;
+use crate::words::eval_by_word;
 use kq_columnar::{Vector, eval_column, owned};
 use kq_computed::EvalFault;
 use kq_expr::Expr;
@@ -52,6 +53,9 @@ pub(crate) fn eval_owned<'v>(
 ) -> Result<Vector<'v>, EvalFault>
     ensures { AnswersAs cells_of (each (val expr.now (surroundings now lets.now)) (rows_at columns.now places.now)) result }
 {
+    if let Some(values) = eval_by_word(alloc, expr, columns, places, lets, now)? {
+        return Ok(values);
+    }
     match eval_column(alloc, expr, columns, places, lets, now) {
         Ok(vector) => Ok(owned(alloc, vector)?),
         Err(fault) => Err(fault),

@@ -1,5 +1,5 @@
 // The columns that expressions read.
-ghost use Rattle.std.specs.Prelude.{◌≡◌, ◌++◌, ◌<◌, IfOk, MatchOption, OnOk, false, map};
+ghost use Rattle.std.specs.Prelude.{◌≡◌, ◌+◌, ◌++◌, ◌<◌, ◌≤◌, ◌^◌, IfOk, MatchOption, OnErr, OnOk, false, map};
 ghost use Rattle.std.specs.List.{All, concat};
 ghost use Rattle.kq_expr.specs.Terms.{column, mapped, term_of};
 ghost use Rattle.kq_piecewise.specs.Pieces.{columns_copied, columns_read, is_column, reads_link};
@@ -118,7 +118,8 @@ pub(crate) fn width_of(reads: &[usize]) -> Result<usize, Memory>
 }
 
 fn next(j: usize) -> Result<usize, Memory>
-    ensures { IfOk result (λ k. j < k) }
+    ensures ok { IfOk result (λ k. j < k) }
+    ensures err { OnErr result (2 ^ 64 ≤ j + 1) }
 {
     match j.checked_add(1) {
         Some(k) => Ok(k),

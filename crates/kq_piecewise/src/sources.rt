@@ -19,7 +19,7 @@ use kq_value::{Memory, Ty, Value};
 use std::alloc::Global;
 use std::mem;
 
-// A column of the rows themselves, or values that were made of the piece.
+// A column of the rows themselves, cell by cell; or a column of the piece, lent or made.
 #[derive(Drop)]
 pub(crate) enum Source<'v> {
     Column(usize),

@@ -11,6 +11,7 @@ use crate::leaves::Leaves;
 use crate::outcome::{Outcome, take_out};
 use crate::shared::unshared;
 use crate::stretch::{run_stretch, stretch_end};
+use kq_grouping::{Alone, Gatherer};
 use kq_lent::Held;
 use kq_plan::{Plan, Step};
 use kq_rows::Rows;
@@ -29,6 +30,22 @@ pub fn run_plan<L: Leaves>(
     requires fits { FitsWorld (planned_of plan.now) (L.known leaves.now) (L.may_give leaves.now) }
     ensures { IfOk result (Gives (planned_of plan.now) (L.may_give leaves.now) now) }
 {
+    run_plan_by(alloc, plan, leaves, &Alone, now)
+}
+
+/// The same, where this gatherer gathers the groups of each summarize.
+pub fn run_plan_by<L: Leaves, G: Gatherer>(
+    alloc: Global,
+    plan: &Plan,
+    leaves: &L,
+    gatherer: &G,
+    now: i64,
+) -> Result<Outcome, Memory>
+    requires ready { G.ready gatherer.now }
+    requires moment { IsMoment now }
+    requires fits { FitsWorld (planned_of plan.now) (L.known leaves.now) (L.may_give leaves.now) }
+    ensures { IfOk result (Gives (planned_of plan.now) (L.may_give leaves.now) now) }
+{
     let marks = unshared(alloc, plan)?;
     run_steps(
         alloc,
@@ -36,19 +53,22 @@ pub fn run_plan<L: Leaves>(
         plan.output,
         marks.as_slice(),
         leaves,
+        gatherer,
         now,
     )
 }
 
 // The same of a plan's steps, whose unshared rows are marked.
-fn run_steps<L: Leaves>(
+fn run_steps<L: Leaves, G: Gatherer>(
     alloc: Global,
     steps: &[Step],
     output: usize,
     marks: &[bool],
     leaves: &L,
+    gatherer: &G,
     now: i64,
 ) -> Result<Outcome, Memory>
+    requires ready { G.ready gatherer.now }
     requires moment { IsMoment now }
     requires fits { FitsWorld (planned_by steps.now output) (L.known leaves.now) (L.may_give leaves.now) }
     requires marks { AreUnshared (planned_by steps.now output) marks.now }
@@ -64,6 +84,7 @@ fn run_steps<L: Leaves>(
             &steps[at..end],
             done.as_slice(),
             leaves,
+            gatherer,
             now,
         )?;
         if outcome.is_fault() {

@@ -1,5 +1,5 @@
 // What takes the rows that come through row operators.
-ghost use Rattle.std.specs.Prelude.{◌≡◌, ◌<◌, ◌+◌, ◌^◌, ◌∷◌, [], IfOk, false, length, map, pos};
+ghost use Rattle.std.specs.Prelude.{◌≡◌, ◌<◌, ◌≤◌, ◌+◌, ◌^◌, ◌∷◌, [], IfOk, OnErr, false, map, pos};
 ghost use Rattle.std.specs.List.{All};
 ghost use Rattle.kq_expr.specs.Terms.{term_of};
 ghost use Rattle.kq_grouping.specs.kq_group.Groups.{EndsWide, HasAllGroups, rows_from};
@@ -8,17 +8,15 @@ ghost use Rattle.kq_grouping.specs.kq_scalar.Val.{surroundings};
 ghost use Rattle.kq_value.specs.declared.value.Value.TheVariants.{Long};
 ghost use Rattle.kq_pipe.specs.declared.outcome.Outcome.TheVariants as outcome;
 ghost use Rattle.kq_pipe.specs.Ended.{EndsAs, EndsInGroups};
-ghost use Rattle.kq_grouping.specs.Grouping.{all_made};
+ghost use Rattle.kq_grouping.specs.Summaries.{IsAsked, ran_of};
 ghost use Rattle.kq_pipe.specs.Operators.{in_stage, tally};
 
 use crate::outcome::Outcome;
 use kq_computed::EvalFault;
-use kq_expr::Expr;
-use kq_grouping::{Arrived, Groups, Relation, gather_groups};
+use kq_grouping::{Arrived, Gatherer, Groups, Relation, Summarize};
 use kq_lent::{Flow, Held, Next};
-use kq_plan::Aggregate;
 use kq_rows::Rows;
-use kq_value::{Field, Memory, Value};
+use kq_value::{Memory, Value};
 use std::alloc::{AllocError, Global};
 
 // What became of rows that came, or the number of the operator that failed, from 0.
@@ -66,6 +64,7 @@ fn counted_with(count: u64, more: usize) -> Result<u64, Memory>
     requires more { more < 2 ^ 63 }
     ensures sum { IfOk result (λ sum. sum ≡ count + more) }
     ensures small { IfOk result (λ sum. sum < 2 ^ 63) }
+    ensures err { OnErr result (2 ^ 63 ≤ count + more) }
 {
     let sum = count + more as u64;
     if sum > i64::MAX as u64 {
@@ -88,21 +87,19 @@ fn tally_of(alloc: Global, count: u64) -> Result<Outcome, Memory>
     })
 }
 
-// A row for each group of them, or an overflow at this stage.
-pub(crate) fn group_all(
+// A row for each group of those that come to a summarize, or an overflow at this stage.
+pub(crate) fn group_all<G: Gatherer>(
     alloc: Global,
-    flow: &mut Flow,
+    gatherer: &G,
+    asked: &Summarize,
+    rows: &Held,
     stage: u32,
-    keys: &[Expr],
-    aggregates: &[Aggregate],
-    columns: &[Field],
-    lets: &[Value],
-    now: i64,
 ) -> Result<Ended, Memory>
-    requires { length columns.now ≡ length keys.now + all_made (map aggregating_of aggregates.now) }
-    ensures { IfOk result (EndsInGroups (map term_of keys.now) (map aggregating_of aggregates.now) columns.now stage (surroundings now lets.now) flow.old.to_come) }
+    requires ready { G.ready gatherer.now }
+    requires asked { IsAsked asked.now }
+    ensures { IfOk result (EndsInGroups (map term_of asked.now.keys.now) (map aggregating_of asked.now.aggregates.now) asked.now.columns.now stage (surroundings asked.now.moment asked.now.lets.now) (ran_of asked.now rows.now)) }
 {
-    match gather_groups(alloc, flow, keys, aggregates, columns, lets, now)? {
+    match gatherer.gather(alloc, asked, rows)? {
         Arrived::Groups(groups) => Ok(Ended::Gave(rows_of(alloc, stage, &groups)?)),
         Arrived::Overflow => Ok(Ended::Gave(Outcome::Overflow { stage })),
         Arrived::Failed(n) => Ok(Ended::Failed(n)),

@@ -2,6 +2,8 @@
 ghost use Rattle.std.specs.Prelude.{◌≡◌, ◌-◌, ◌<◌, ℕ, IfOk, Some, false, true, length, map};
 ghost use Rattle.kq_plan.specs.Plans.{counted, doing_of, stepping_of};
 ghost use Rattle.kq_grouping.specs.kq_scalar.Val.{surroundings};
+ghost use Rattle.kq_grouping.specs.kq_stretch.Operators.{rowwise_of};
+ghost use Rattle.kq_grouping.specs.kq_stretch.Ran.{ran};
 ghost use Rattle.kq_pipe.specs.declared.outcome.Outcome.TheVariants as outcome;
 ghost use Rattle.kq_pipe.specs.Ended.{EndsAs};
 ghost use Rattle.kq_pipe.specs.Gives.{around};
@@ -15,8 +17,8 @@ use crate::outcome::{Outcome, cells, order_at, rows_at};
 use crate::single::tally_row;
 use crate::sinks::{Ended, count_all, group_all, keep_all};
 use crate::step::run_step;
-use kq_grouping::{operators, stage_in};
-use kq_lent::{Flow, Held};
+use kq_grouping::{Gatherer, Summarize, operators, stage_in};
+use kq_lent::{Held, Operator};
 use kq_plan::{Step, Work};
 use kq_rows::Rows;
 use kq_value::{Memory, Value};
@@ -77,33 +79,37 @@ fn goes_on(steps: &[Step], unshared: &[bool], end: usize) -> bool
 }
 
 // What a stretch gives behind these steps, which gave these outcomes: what its last step gives, or the first fault.
-pub(crate) fn run_stretch<L: Leaves>(
+pub(crate) fn run_stretch<L: Leaves, G: Gatherer>(
     alloc: Global,
     before: &[Step],
     stretch: &[Step],
     done: &[Outcome],
     leaves: &L,
+    gatherer: &G,
     now: i64,
 ) -> Result<Outcome, Memory>
+    requires ready { G.ready gatherer.now }
     requires next { AreNext (L.known leaves.now) (L.may_give leaves.now) (map stepping_of before.now) done.now (map stepping_of stretch.now) }
     requires linked { Linked (length done.now) (map stepping_of stretch.now) }
     ensures { IfOk result (FollowsToEnd (L.may_give leaves.now) now before.now done.now stretch.now) }
 {
     let first = &stretch[0];
     match input(first) {
-        Some(i) => flow_from(alloc, stretch, i, done, now),
+        Some(i) => flow_from(alloc, stretch, i, done, gatherer, now),
         None => run_step(alloc, before, first, done, leaves, now),
     }
 }
 
 // The same where rows of the step i flow into it.
-fn flow_from(
+fn flow_from<G: Gatherer>(
     alloc: Global,
     stretch: &[Step],
     i: usize,
     done: &[Outcome],
+    gatherer: &G,
     now: i64,
 ) -> Result<Outcome, Memory>
+    requires ready { G.ready gatherer.now }
     requires linked { Linked (length done.now) (map stepping_of stretch.now) }
     requires columns { HasColumns (last_of (map stepping_of stretch.now)).doing (last_of (map stepping_of stretch.now)).columns }
     ensures { IfOk result (MakesOf (map stepping_of stretch.now) (around now done.now) (order_of done.now i) (rows_of done.now i)) }
@@ -120,6 +126,7 @@ fn flow_from(
         rows,
         order_at(done, i),
         lets.as_slice(),
+        gatherer,
         now,
     )
 }
@@ -142,27 +149,30 @@ fn count(alloc: Global, rows: &Held) -> Result<Outcome, Memory>
 }
 
 // The rows flow by pieces through the row-wise steps, and what comes out into the last.
-fn flow(
+fn flow<G: Gatherer>(
     alloc: Global,
     stretch: &[Step],
     rows: &Held,
     ordered: bool,
     lets: &[Value],
+    gatherer: &G,
     now: i64,
 ) -> Result<Outcome, Memory>
+    requires ready { G.ready gatherer.now }
     requires some { 0 < length stretch.now }
     requires columns { HasColumns (last_of (map stepping_of stretch.now)).doing (last_of (map stepping_of stretch.now)).columns }
     ensures { IfOk result (MakesOf (map stepping_of stretch.now) (surroundings now lets.now) ordered rows.now) }
 {
     let operators = operators(alloc, stretch)?;
-    let mut flow = rows.flow(alloc, operators.as_slice(), lets, now);
     let last = &stretch[stretch.len() - 1];
     let ended = close(
         alloc,
-        &mut flow,
+        rows,
+        operators.as_slice(),
         last,
         keeps_order(stretch, ordered),
         lets,
+        gatherer,
         now,
     )?;
     match ended {
@@ -185,30 +195,66 @@ fn keeps_order(stretch: &[Step], ordered: bool) -> bool
     ordered
 }
 
-// What the last step makes of the rows that come to it.
-fn close(
+// What the last step makes of the rows that come to it through the operators.
+fn close<G: Gatherer>(
     alloc: Global,
-    flow: &mut Flow,
+    rows: &Held,
+    operators: &[Operator],
     last: &Step,
+    ordered: bool,
+    lets: &[Value],
+    gatherer: &G,
+    now: i64,
+) -> Result<Ended, Memory>
+    requires ready { G.ready gatherer.now }
+    requires columns { HasColumns (doing_of last.now.work) last.now.columns.items }
+    ensures { IfOk result (EndsAs (Closes (doing_of last.now.work) last.now.stage last.now.columns.items (surroundings now lets.now) ordered) (ran (map rowwise_of operators.now) (surroundings now lets.now) rows.now)) }
+{
+    match &last.work {
+        Work::Count(..) => count_through(alloc, rows, operators, lets, now),
+        Work::Summarize(_, keys, aggregates) => group_all(
+            alloc,
+            gatherer,
+            &Summarize {
+                operators,
+                keys: keys.as_slice(),
+                aggregates: aggregates.as_slice(),
+                columns: last.columns.as_slice(),
+                lets,
+                moment: now,
+            },
+            rows,
+            last.stage,
+        ),
+        _ => keep_through(alloc, rows, operators, ordered, lets, now),
+    }
+}
+
+// How many come through the operators.
+fn count_through(
+    alloc: Global,
+    rows: &Held,
+    operators: &[Operator],
+    lets: &[Value],
+    now: i64,
+) -> Result<Ended, Memory>
+    ensures { IfOk result (EndsAs (λ rows o. o ≡ outcome.Table false (tally rows)) (ran (map rowwise_of operators.now) (surroundings now lets.now) rows.now)) }
+{
+    let mut flow = rows.flow(alloc, operators, lets, now);
+    count_all(alloc, &mut flow)
+}
+
+// The rows that come through the operators.
+fn keep_through(
+    alloc: Global,
+    rows: &Held,
+    operators: &[Operator],
     ordered: bool,
     lets: &[Value],
     now: i64,
 ) -> Result<Ended, Memory>
-    requires columns { HasColumns (doing_of last.now.work) last.now.columns.items }
-    ensures { IfOk result (EndsAs (Closes (doing_of last.now.work) last.now.stage last.now.columns.items (surroundings now lets.now) ordered) flow.old.to_come) }
+    ensures { IfOk result (EndsAs (λ rows o. o ≡ outcome.Table ordered rows) (ran (map rowwise_of operators.now) (surroundings now lets.now) rows.now)) }
 {
-    match &last.work {
-        Work::Count(..) => count_all(alloc, flow),
-        Work::Summarize(_, keys, aggregates) => group_all(
-            alloc,
-            flow,
-            last.stage,
-            keys.as_slice(),
-            aggregates.as_slice(),
-            last.columns.as_slice(),
-            lets,
-            now,
-        ),
-        _ => keep_all(alloc, flow, ordered),
-    }
+    let mut flow = rows.flow(alloc, operators, lets, now);
+    keep_all(alloc, &mut flow, ordered)
 }

@@ -120,7 +120,7 @@ pub(crate) fn serve_all<
 }
 
 // Serves one session, by its own source or by a generated script.
-fn serve_one<R: Wait, S: Source, K: Sink, C: Clock, G: Gate, E: Exporter>(
+fn serve_one<R: Threads + Wait + Sync, S: Source, K: Sink, C: Clock, G: Gate, E: Exporter>(
     rt: &R,
     alloc: Global,
     shared: &Shared,
@@ -175,7 +175,7 @@ fn serve_one<R: Wait, S: Source, K: Sink, C: Clock, G: Gate, E: Exporter>(
 }
 
 // Serves one session by the generated script of so many rows. Its own source is handed back as it is.
-fn serve_script<R: Wait, S: Source, K: Sink, C: Clock, G: Gate, E: Exporter>(
+fn serve_script<R: Threads + Wait + Sync, S: Source, K: Sink, C: Clock, G: Gate, E: Exporter>(
     rt: &R,
     alloc: Global,
     shared: &Shared,

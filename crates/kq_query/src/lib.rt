@@ -8,4 +8,5 @@ mod views;
 
 pub use answering::answer;
 pub use catalogue::Catalogue;
+pub use kq_pipe::{Alone, Gatherer};
 pub use views::{columns_read, view_rows_of};

@@ -1,5 +1,5 @@
 // Rows in one buffer.
-ghost use Rattle.std.specs.Prelude.{◌≡◌, ◌↔◌, ◌<◌, ◌^◌, List, [], ◌∷◌, ◌++◌, length, map, take, IfOk, IsTrue, OnOk, OnErr, slice_get, Some};
+ghost use Rattle.std.specs.Prelude.{◌≡◌, ◌↔◌, ◌+◌, ◌<◌, ◌≤◌, ◌^◌, List, [], ◌∷◌, ◌++◌, length, map, take, IfOk, IsTrue, OnOk, OnErr, slice_get, Some};
 ghost use Rattle.std.specs.List.{All};
 ghost use Rattle.kq_rows.specs.Chunks.{HasWidth, same_width, row_at};
 
@@ -101,9 +101,7 @@ impl Rows {
         ensures left { OnOk result (row.new.items ≡ []) }
         ensures err { OnErr result (self.new ≡ self.old) }
     {
-        if self.count >= MOST {
-            return Err(AllocError);
-        }
+        room(self.count, 1)?;
         let width = row.len();
         self.cells.append(row)?;
         self.width = width;
@@ -117,9 +115,7 @@ impl Rows {
         ensures ok { OnOk result (self.new ≡ self.old ++ row.now ∷ []) }
         ensures err { OnErr result (self.new ≡ self.old) }
     {
-        if self.count >= MOST {
-            return Err(AllocError);
-        }
+        room(self.count, 1)?;
         append_copies(&mut self.cells, row)?;
         self.width = row.len();
         self.count += 1;
@@ -145,9 +141,7 @@ impl Rows {
         if other.count == 0 {
             return Ok(());
         }
-        if self.count > MOST - other.count {
-            return Err(AllocError);
-        }
+        room(self.count, other.count)?;
         self.cells.append(&mut other.cells)?;
         self.width = other.width;
         self.count += other.count;
@@ -176,4 +170,17 @@ impl Rows {
             count: self.count,
         })
     }
+}
+
+// Whether so many rows more may stand in a buffer.
+fn room(count: usize, more: usize) -> Result<(), Memory>
+    requires before { count < 2 ^ 63 }
+    requires more { more < 2 ^ 63 }
+    ensures ok { OnOk result (count + more < 2 ^ 63) }
+    ensures err { OnErr result (2 ^ 63 ≤ count + more) }
+{
+    if count > MOST - more {
+        return Err(AllocError);
+    }
+    Ok(())
 }

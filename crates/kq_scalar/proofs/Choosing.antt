@@ -10,7 +10,7 @@ use Rattle.kq_value.specs.Typed.{HasType}
 use Rattle.kq_value.proofs.Fields.{same_ty-Decides}
 use Rattle.kq_computed.specs.Computed.{Computed, Is, Overflow, and_then}
 use Rattle.kq_fn.specs.Table.{when, of_length, choice_type, choice_fits, alike_type, all_same}
-use Rattle.kq_arithmetic.specs.Numbers.{GivesType}
+use Rattle.kq_arithmetic.proofs.Typed.{GivesType}
 use Rattle.kq_arithmetic.specs.Logic.{is_yes}
 use Rattle.kq_texts.specs.kq_conversions.Converted.{empty_test}
 use Rattle.kq_scalar.specs.Val.{Surroundings, Meaning, first_chosen, first_present}

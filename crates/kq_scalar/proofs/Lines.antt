@@ -11,7 +11,7 @@ use Rattle.kq_value.specs.Typed.{type_of, IsProper, HasType}
 use Rattle.kq_value.proofs.Fields.{same_ty-Decides}
 use Rattle.kq_fn.specs.declared.function.Function.{Function}
 use Rattle.kq_fn.specs.Table.{Signature, Typing, lines, typing, first_line, same_types, when, of_length, equal_type, text_type, all_comparable, all_texts}
-use Rattle.kq_arithmetic.specs.Numbers.{GivesType}
+use Rattle.kq_arithmetic.proofs.Typed.{GivesType}
 use Rattle.kq_scalar.specs.Applied.{applied}
 use Rattle.kq_scalar.proofs.Choosing.{AllHaveType, both, let_through, of_length-is, two_long}
 

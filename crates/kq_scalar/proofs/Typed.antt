@@ -16,9 +16,7 @@ use Rattle.kq_expr.specs.declared.expr.Expr.{Expr}
 use Rattle.kq_expr.specs.Terms.{term_of, Term, literal, column, cell, call, Terms, no_term, and_term}
 use Rattle.kq_expr.specs.HasType.{IsPlace, Has, Have, HoldsProper, AllHoldProper}
 use Rattle.kq_arithmetic.specs.Comparing.{equal}
-use Rattle.kq_arithmetic.specs.Numbers.{GivesType}
-use Rattle.kq_arithmetic.proofs.Typed.{plus-typed, minus-typed, times-typed, divided-typed, remainder-typed, bin_of-typed, negated-typed, absolute-typed}
-use Rattle.kq_arithmetic.proofs.Typed.{compared-typed, equal-typed, unequal-typed, conjunction-typed, disjunction-typed, negation-typed, in_list-typed, between_of-typed}
+use Rattle.kq_arithmetic.proofs.Typed.{GivesType, plus-typed, minus-typed, times-typed, divided-typed, remainder-typed, bin_of-typed, negated-typed, absolute-typed, compared-typed, equal-typed, unequal-typed, conjunction-typed, disjunction-typed, negation-typed, in_list-typed, between_of-typed}
 use Rattle.kq_arithmetic.specs.Logic.{between_of}
 use Rattle.kq_calendar.specs.kq_time.TheVariants.{Hour, Day, Week, Month, Year}
 use Rattle.kq_calendar.specs.Calendar.{start_of_day, start_of_week, start_of_month, start_of_year}

@@ -12,25 +12,25 @@ use Rattle.kq_command.specs.declared.command.Export.{Export}
 use Rattle.kq_command.specs.declared.command.CommandFault.{CommandFault}
 use Rattle.kq_command.specs.declared.command.CommandFault.TheVariants.{NotText, Syntax, Deep, Unsupported, Memory}
 use Rattle.kq_command.specs.Reads.{ReadsAs}
-use Rattle.kq_reply.specs.Number.{number_of}
+use Rattle.kq_reply.specs.Number.{kind_of, number_of}
 use Rattle.kq_reply.specs.declared.refusal.Refusal.{Refusal}
 use Rattle.kq_reply.specs.declared.refusal.Refusal.TheVariants as refusals
 use Rattle.kq_reply.specs.declared.reply.Reply.{Reply}
 use Rattle.kq_reply.specs.declared.reply.Reply.TheVariants as replies
 use Rattle.kq_engine.specs.declared.work.Outcome.{Outcome}
-use Rattle.kq_engine.specs.Merges.{IsStill}
-use Rattle.kq_engine.specs.Fits.{MayMake}
+use Rattle.kq_engine.specs.kq_look.Merges.{IsStill}
+use Rattle.kq_engine.specs.kq_look.Fits.{MayMake, event_by}
 use Rattle.kq_engine.specs.Shared.{Applies, PassView, commit_count}
 use Rattle.kq_engine.specs.declared.work.Work.{Work}
-use Rattle.kq_engine.proofs.Accepting.{granted_kind}
+use Rattle.kq_engine.proofs.kq_look.Accepting.{granted_kind}
 use Rattle.kq_model.specs.declared.event.Operation.{Operation}
 use Rattle.kq_command.specs.declared.command.Command.{Command}
 use Rattle.kq_script.specs.Script.{Block, command, too_long}
 use Rattle.kq_engine.proofs.Advancing.{Fits-append}
-use Rattle.kq_engine.proofs.Telling.{refused_still, still_names}
+use Rattle.kq_engine.proofs.kq_look.Telling.{refused_still, still_names}
 use Rattle.kq_exporter.specs.Due.{AnswersHolding, ExporterView, Holding}
 use Rattle.kq_exporter.proofs.Replies.{IsOfExports, of_exports}
-use Rattle.kq_session.specs.Blocks.{RefusesAlone, FitsExport, FitsRead, FitsBlock, AnswersBlock, AnswersExport, GoesOn, IsBeside, is_early, refusal_of, serves_to}
+use Rattle.kq_session.specs.Blocks.{RefusesAlone, FitsExport, FitsRead, FitsBlock, AnswersBlock, AnswersExport, GoesOn, MakesFor, MayMakeFor, is_early, refusal_of, serves_to}
 
 RefusesAlone-append : (h more : History) (place : ℕ) (own : Bool) (reply : Reply) (r : Refusal) → RefusesAlone h place own reply r → RefusesAlone (h ++ more) place own reply r
 RefusesAlone-append h more place own reply r refuses = record {
@@ -84,7 +84,7 @@ AnswersBlock-refused limits p e by block now r outcome behind is early fits = su
   seen = IsPrefix-refl p.seen;
   operation = None;
   added = sym (append-nil p.added);
-  beside = tt;
+  may_make = tt;
   made = sym (add-zero p.made);
   takes = [];
   taken = sym (append-nil p.taken);
@@ -147,7 +147,7 @@ AnswersBlock-export limits old new held holds by text asked now outcome serves r
       seen = answers.seen;
       operation = None;
       added = ap (λ (p : PassView). p.added) answers.pass ∙ sym (append-nil old.added);
-      beside = tt;
+      may_make = tt;
       made = ap (λ (p : PassView). p.made) answers.pass ∙ sym (add-zero old.made) ∙ ap (λ (own : Bool). old.made + commit_count own) (sym answers.own);
       takes = length new.seen ∷ [];
       taken = ap (λ (p : PassView). p.taken) answers.pass;
@@ -167,9 +167,14 @@ AnswersBlock-export limits old new held holds by text asked now outcome serves r
       within = (let place = answers.place in omega (arith, place));
     }
 
-may_beside : (limits : Limits) (old : History) (asked : Command) (reply : Reply) (made : Option Operation) → MayMake limits old asked reply made → IsBeside reply made
-may_beside limits old asked reply None may = tt
-may_beside limits old asked reply (Some made) may = granted_kind reply may.0
+may_make_for : (limits : Limits) (seen found : History) (by : By) (text : List ℕ) (asked : Command) (reply : Reply) (made : Option Operation) → ReadsAs text (Ok (Engine asked)) → seen ≡ found ++ event_by by made → MayMake limits found asked reply made → MayMakeFor limits seen by (command text) reply made
+may_make_for limits seen found by text asked reply None reads last may = tt
+may_make_for limits seen found by text asked reply (Some made) reads last may = (asked, reads, found, last, may)
+
+-- such a reply is no refusal
+pub makes_granted : (limits : Limits) (seen : History) (by : By) (block : Block) (reply : Reply) (made : Operation) → MakesFor limits seen by block reply made → kind_of reply ≡ 0
+makes_granted limits seen by (command text) reply made (asked, reads, found, last, may) = granted_kind reply may.0
+makes_granted limits seen by (too_long bytes) reply made never = absurd never
 
 -- a command that the engine answered
 pub AnswersBlock-applied : (limits : Limits) (old new : PassView) (e : ExporterView) (work : Work) (text : List ℕ) (outcome : Outcome) → IsPrefix e.seen old.seen → ReadsAs text (Ok (Engine work.command)) → Applies limits old new work outcome → AnswersBlock limits old new e e work.by (command text) work.now outcome
@@ -179,7 +184,7 @@ AnswersBlock-applied limits old new e work text outcome behind reads applies = r
   seen = applies.seen;
   operation = applies.last.appends.made;
   added = applies.last.added;
-  beside = may_beside limits applies.last.found work.command outcome.reply applies.last.appends.made applies.last.appends.may_make;
+  may_make = may_make_for limits new.seen applies.last.found work.by text work.command outcome.reply applies.last.appends.made reads applies.last.appends.appended applies.last.appends.may_make;
   made = applies.made;
   takes = applies.takes.first ∷ applies.takes.more;
   taken = applies.takes.gains;

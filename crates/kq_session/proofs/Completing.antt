@@ -19,9 +19,9 @@ use Rattle.kq_reply.specs.declared.refusal.Refusal.TheVariants as refusals
 use Rattle.kq_reply.specs.declared.reply.Reply.{Reply}
 use Rattle.kq_reply.specs.declared.reply.Reply.TheVariants as replies
 use Rattle.kq_script.specs.Script.{Block, command, too_long}
-use Rattle.kq_engine.specs.Fits.{FitsNow, IsDue}
+use Rattle.kq_engine.specs.kq_look.Fits.{FitsNow, IsDue}
 use Rattle.kq_engine.specs.Shared.{commit_count}
-use Rattle.kq_engine.proofs.Accepting.{Accept-commit}
+use Rattle.kq_engine.proofs.kq_look.Accepting.{Accept-commit}
 use Rattle.kq_session.specs.declared.end.End.{End}
 use Rattle.kq_session.specs.declared.end.End.TheVariants.{Finished, Short, SourceFault, SinkFault, InputLimit}
 use Rattle.kq_session.specs.declared.receipt.Receipt.{Receipt}

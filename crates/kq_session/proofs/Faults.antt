@@ -15,7 +15,7 @@ use Rattle.kq_reply.specs.declared.refusal.Refusal.TheVariants as refusals
 use Rattle.kq_reply.specs.declared.reply.Reply.{Reply}
 use Rattle.kq_reply.specs.declared.reply.Reply.TheVariants as replies
 use Rattle.kq_script.specs.Script.{Block, command, too_long}
-use Rattle.kq_engine.proofs.Failing.{Fits-tells_none}
+use Rattle.kq_engine.proofs.kq_look.Failing.{Fits-tells_none}
 use Rattle.kq_exporter.specs.Due.{Holding, tells_fault}
 use Rattle.kq_session.specs.declared.receipt.Receipt.{Receipt}
 use Rattle.kq_session.specs.Blocks.{FitsRead, FitsBlock, refusal_of}

@@ -12,6 +12,7 @@ use Rattle.kq_world.specs.Told.{Adds}
 use Rattle.kq_world.specs.Outside.{Contents, Delivers}
 use Rattle.kq_world.proofs.Told.{Adds-none, Adds-trans, Delivers-none, Delivers-trans}
 use Rattle.kq_model.specs.declared.limits.Limits.{Limits}
+use Rattle.kq_model.specs.declared.event.By.{By}
 use Rattle.kq_model.specs.declared.event.Event.{Event}
 use Rattle.kq_model.specs.declared.event.Operation.{Operation}
 use Rattle.kq_model.specs.History.{History}
@@ -21,19 +22,19 @@ use Rattle.kq_printed.specs.Text.{text_of}
 use Rattle.kq_script.specs.Script.{Block, script_blocks}
 use Rattle.kq_script.specs.Reading.{IsReading, IsPrefix as Begins}
 use Rattle.kq_script.specs.declared.reader.ScriptReader.{ScriptReader}
-use Rattle.kq_engine.specs.Fits.{event_by}
-use Rattle.kq_engine.specs.Merges.{NamesAll}
+use Rattle.kq_engine.specs.kq_look.Fits.{event_by}
+use Rattle.kq_engine.specs.kq_look.Merges.{NamesAll}
 use Rattle.kq_engine.specs.Shared.{PassView, commit_count}
-use Rattle.kq_engine.proofs.Telling.{NamesAll-since}
+use Rattle.kq_engine.proofs.kq_look.Telling.{NamesAll-since}
 use Rattle.kq_session.specs.declared.end.End.{End}
 use Rattle.kq_session.specs.declared.end.End.TheVariants.{Finished, Short, SourceFault, SinkFault, InputLimit}
 use Rattle.kq_session.specs.declared.receipt.Receipt.{Receipt}
 use Rattle.kq_exporter.specs.Due.{ExporterView, Holding, nothing_held}
-use Rattle.kq_session.specs.Blocks.{FitsBlock, AnswersBlock, AreTakes, GoesOn, IsBeside}
+use Rattle.kq_session.specs.Blocks.{FitsBlock, AnswersBlock, AreTakes, GoesOn, MayMakeFor}
 use Rattle.kq_session.specs.Objects.{SessionView}
 use Rattle.kq_session.specs.Session.{Exchange, IsExchange, ComesAfter, AreExchanges, AreLinked, AreWritten, SessionEnds, Explained, PassGoesOn, artefact_faults, blocks_of, moments_of, texts_of, owns, is_receipted, AreTaken, command_bytes, input_bytes}
 use Rattle.kq_session.specs.Exchanges.{State, Progress, Went, Idle, ExchangeBy, SessionComesTo}
-use Rattle.kq_session.proofs.Blocks.{FitsBlock-append}
+use Rattle.kq_session.proofs.Blocks.{FitsBlock-append, makes_granted}
 use Rattle.kq_session.proofs.Exchanging.{given_at_end, open_still}
 use Rattle.kq_session.proofs.Faults.{faults-push}
 
@@ -112,12 +113,12 @@ is_receipted-last actor n receipts r made number granted =
     let some : list_any (is_of n) (receipts ++ r ∷ []) ≡ true = list_any-append (is_of n) receipts (r ∷ []) ∙ or_second (list_any (is_of n) receipts) (list_any (is_of n) (r ∷ [])) (or_first (is_of n r) false last) in
     and_both (nat_eq actor actor) (list_any (is_of n) (receipts ++ r ∷ [])) (eq-eqb actor actor refl) some
 
-event_receipted : (actor n : ℕ) (receipts : List Receipt) (r : Receipt) (reply : Reply) (made : Option Operation) → r.number ≡ n → r.kind ≡ kind_of reply → IsBeside reply made
+event_receipted : (limits : Limits) (seen : History) (by : By) (block : Block) (actor n : ℕ) (receipts : List Receipt) (r : Receipt) (reply : Reply) (made : Option Operation) → r.number ≡ n → r.kind ≡ kind_of reply → MayMakeFor limits seen by block reply made
     → All (λ (e : Event). is_receipted actor (receipts ++ r ∷ []) e ≡ true) (event_by (record { actor = actor; number = n }) made)
-event_receipted actor n receipts r reply None number kind beside = All-nil (λ (e : Event). is_receipted actor (receipts ++ r ∷ []) e ≡ true)
-event_receipted actor n receipts r reply (Some made) number kind beside =
+event_receipted limits seen by block actor n receipts r reply None number kind may = All-nil (λ (e : Event). is_receipted actor (receipts ++ r ∷ []) e ≡ true)
+event_receipted limits seen by block actor n receipts r reply (Some made) number kind may =
     let e : Event = record { by = record { actor = actor; number = n }; operation = made } in
-    All-cons (λ (x : Event). is_receipted actor (receipts ++ r ∷ []) x ≡ true) e [] (is_receipted-last actor n receipts r made number (kind ∙ beside)) (All-nil (λ (x : Event). is_receipted actor (receipts ++ r ∷ []) x ≡ true))
+    All-cons (λ (x : Event). is_receipted actor (receipts ++ r ∷ []) x ≡ true) e [] (is_receipted-last actor n receipts r made number (kind ∙ makes_granted limits seen by block reply made may)) (All-nil (λ (x : Event). is_receipted actor (receipts ++ r ∷ []) x ≡ true))
 
 -- no receipt yet
 pub PassGoesOn-none : (actor : ℕ) (p : PassView) → PassGoesOn actor p p []
@@ -145,7 +146,7 @@ PassGoesOn-push limits first old new held holds actor n block receipts r reply g
   added = step.added ∙ ap (λ (h : History). h ++ event_by (record { actor = actor; number = n }) step.operation) goes_on.added ∙ append_assoc first.added goes_on.events (event_by (record { actor = actor; number = n }) step.operation);
   receipted = All-append (λ (e : Event). is_receipted actor (receipts ++ r ∷ []) e ≡ true) goes_on.events (event_by (record { actor = actor; number = n }) step.operation)
       (All-weaker (λ (e : Event). is_receipted actor receipts e ≡ true) (λ (e : Event). is_receipted actor (receipts ++ r ∷ []) e ≡ true) (is_receipted-more actor receipts r) goes_on.events goes_on.receipted)
-      (event_receipted actor n receipts r reply step.operation number kind step.beside);
+      (event_receipted limits new.seen (record { actor = actor; number = n }) block actor n receipts r reply step.operation number kind step.may_make);
   made = omega (arith, step.made, goes_on.made, owns-push receipts r);
   more = goes_on.more ++ step.takes;
   taken = step.taken ∙ ap (λ (l : List ℕ). l ++ step.takes) goes_on.taken ∙ append_assoc first.taken goes_on.more step.takes;

@@ -8,6 +8,7 @@ use Rattle.kq_model.specs.declared.limits.Limits.{Limits}
 use Rattle.kq_model.specs.History.{History}
 use Rattle.kq_command.specs.declared.command.Asked.{Asked}
 use Rattle.kq_command.specs.declared.command.Asked.TheVariants.{Engine, Exporter}
+use Rattle.kq_command.specs.declared.command.Command.{Command}
 use Rattle.kq_command.specs.declared.command.CommandFault.{CommandFault}
 use Rattle.kq_command.specs.declared.command.CommandFault.TheVariants.{NotText, Syntax, Deep, Unsupported, Memory}
 use Rattle.kq_command.specs.declared.command.Export.{Export}
@@ -20,8 +21,8 @@ use Rattle.kq_reply.specs.declared.reply.Reply.TheVariants as replies
 use Rattle.kq_reply.specs.Number.{kind_of, number_of}
 use Rattle.kq_script.specs.Script.{Block, command, too_long}
 use Rattle.kq_engine.specs.declared.work.Outcome.{Outcome}
-use Rattle.kq_engine.specs.Fits.{Fits, event_by}
-use Rattle.kq_engine.specs.Merges.{NamesAll}
+use Rattle.kq_engine.specs.kq_look.Fits.{Fits, MayMake, event_by}
+use Rattle.kq_engine.specs.kq_look.Merges.{NamesAll}
 use Rattle.kq_engine.specs.Shared.{PassView, commit_count}
 
 -- refused for the text alone, or for want of memory
@@ -81,10 +82,15 @@ abbrev pub AreTakes : ℕ → ℕ → List ℕ → Type 0
 AreTakes kind place [] = is_early kind ≡ true
 AreTakes kind place (first ∷ more) = (first ≤ place) × (length more ≤ 1)
 
--- an event was made only beside a reply that is no refusal
-abbrev pub IsBeside : Reply → Option Operation → Type 0
-IsBeside reply None = Unit {0}
-IsBeside reply (Some made) = kind_of reply ≡ 0
+-- the block is a command of the engine, which may make the operation beside this reply over the history whose last event it then is
+abbrev pub MakesFor : Limits → History → By → Block → Reply → Operation → Type 0
+MakesFor limits seen by (command text) reply made = (asked : Command) × ReadsAs text (Ok (Engine asked)) × (found : History) × (seen ≡ found ++ event_by by (Some made)) × MayMake limits found asked reply (Some made)
+MakesFor limits seen by (too_long bytes) reply made = ⊥
+
+-- such an operation, or none
+abbrev pub MayMakeFor : Limits → History → By → Block → Reply → Option Operation → Type 0
+MayMakeFor limits seen by block reply None = Unit {0}
+MayMakeFor limits seen by block reply (Some made) = MakesFor limits seen by block reply made
 
 -- an exporter goes on: it serves or not as before, and what it was asked over begins what was seen
 pub record GoesOn (seen : History) (old new : ExporterView) : Type 0 where
@@ -99,7 +105,7 @@ pub record AnswersBlock (limits : Limits) (old new : PassView) (held holds : Exp
   pub seen : IsPrefix old.seen new.seen
   pub operation : Option Operation
   pub added : new.added ≡ old.added ++ event_by by operation
-  pub beside : IsBeside outcome.reply operation
+  pub may_make : MayMakeFor limits new.seen by block outcome.reply operation
   pub made : new.made ≡ old.made + commit_count outcome.own
   pub takes : List ℕ
   pub taken : new.taken ≡ old.taken ++ takes

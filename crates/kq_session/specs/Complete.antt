@@ -14,7 +14,7 @@ use Rattle.kq_reply.specs.declared.refusal.Refusal.TheVariants as refusals
 use Rattle.kq_reply.specs.declared.reply.Reply.TheVariants as replies
 use Rattle.kq_script.specs.Script.{Block, command, too_long, script_blocks}
 use Rattle.kq_script.specs.Reading.{IsPrefix as Begins}
-use Rattle.kq_engine.specs.Fits.{IsDue}
+use Rattle.kq_engine.specs.kq_look.Fits.{IsDue}
 use Rattle.kq_engine.specs.Shared.{commit_count}
 use Rattle.kq_session.specs.declared.end.End.{End}
 use Rattle.kq_session.specs.declared.end.End.TheVariants.{Finished, Short, SourceFault, SinkFault, InputLimit}

@@ -14,8 +14,8 @@ use Rattle.kq_printed.specs.Text.{text_of}
 use Rattle.kq_script.specs.Script.{Block, script_blocks}
 use Rattle.kq_script.specs.Reading.{IsPrefix as Begins}
 use Rattle.kq_script.specs.State.{IsAtEnd}
-use Rattle.kq_engine.specs.Fits.{own_commit}
-use Rattle.kq_engine.specs.Merges.{NamesAll}
+use Rattle.kq_engine.specs.kq_look.Fits.{own_commit}
+use Rattle.kq_engine.specs.kq_look.Merges.{NamesAll}
 use Rattle.kq_engine.specs.Shared.{PassView}
 use Rattle.kq_exporter.specs.Due.{Holding, nothing_held}
 use Rattle.kq_session.specs.declared.end.End.{End}

@@ -17,9 +17,10 @@ use kq_script::Item;
 use kq_value::Bytes;
 use kq_world::Gate;
 use std::sync::Wait;
+use std::thread::Threads;
 
 // The outcome of a block: what the engine answers to its command, or the refusal of its text.
-pub(crate) fn answer<R: Wait, G: Gate, E: Exporter>(
+pub(crate) fn answer<R: Threads + Wait + Sync, G: Gate, E: Exporter>(
     service: &Service<R, G>,
     pass: &mut Pass,
     exporter: &mut E,
@@ -43,7 +44,7 @@ pub(crate) fn answer<R: Wait, G: Gate, E: Exporter>(
     }
 }
 
-fn answer_text<R: Wait, G: Gate, E: Exporter>(
+fn answer_text<R: Threads + Wait + Sync, G: Gate, E: Exporter>(
     service: &Service<R, G>,
     pass: &mut Pass,
     exporter: &mut E,

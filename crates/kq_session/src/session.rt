@@ -25,6 +25,7 @@ use kq_script::{Item, ScriptFault, ScriptReader};
 use kq_world::{Clock, Failed, Gate, Parts, Point, Sink, Source};
 use std::alloc::Global;
 use std::sync::Wait;
+use std::thread::Threads;
 
 // The most bytes of a command.
 const COMMAND_BYTES: u64 = 16_777_216;
@@ -44,7 +45,7 @@ pub(crate) struct Session<S: Drop, K: Drop, C: Drop, E: Drop> {
 
 /// Serves a session to its end. Others may be served at the same time, each with a pass of its own. Session 0 alone has
 /// an exporter that serves, which no one has asked yet. It waits.
-pub fn serve<R: Wait, S: Source, K: Sink, C: Clock, G: Gate, E: Exporter>(
+pub fn serve<R: Threads + Wait + Sync, S: Source, K: Sink, C: Clock, G: Gate, E: Exporter>(
     rt: &R,
     alloc: Global,
     shared: &Shared,
@@ -99,7 +100,7 @@ pub fn serve<R: Wait, S: Source, K: Sink, C: Clock, G: Gate, E: Exporter>(
     }
 }
 
-fn serve_session<R: Wait, S: Source, K: Sink, C: Clock, G: Gate, E: Exporter>(
+fn serve_session<R: Threads + Wait + Sync, S: Source, K: Sink, C: Clock, G: Gate, E: Exporter>(
     service: &Service<R, G>,
     actor: u32,
     session: &mut Session<S, K, C, E>,
@@ -123,7 +124,7 @@ fn serve_session<R: Wait, S: Source, K: Sink, C: Clock, G: Gate, E: Exporter>(
     }
 }
 
-fn serve_script<R: Wait, S: Source, K: Sink, C: Clock, G: Gate, E: Exporter>(
+fn serve_script<R: Threads + Wait + Sync, S: Source, K: Sink, C: Clock, G: Gate, E: Exporter>(
     service: &Service<R, G>,
     actor: u32,
     reader: &mut ScriptReader,
@@ -151,7 +152,7 @@ fn serve_script<R: Wait, S: Source, K: Sink, C: Clock, G: Gate, E: Exporter>(
 }
 
 // One block, or the end.
-fn exchange<R: Wait, S: Source, K: Sink, C: Clock, G: Gate, E: Exporter>(
+fn exchange<R: Threads + Wait + Sync, S: Source, K: Sink, C: Clock, G: Gate, E: Exporter>(
     service: &Service<R, G>,
     by: By,
     reader: &mut ScriptReader,
@@ -188,7 +189,7 @@ fn exchange<R: Wait, S: Source, K: Sink, C: Clock, G: Gate, E: Exporter>(
 }
 
 // Answers a block, keeps the receipt, for which there is room, and writes the reply.
-fn reply<R: Wait, S: Source, K: Sink, C: Clock, G: Gate, E: Exporter>(
+fn reply<R: Threads + Wait + Sync, S: Source, K: Sink, C: Clock, G: Gate, E: Exporter>(
     service: &Service<R, G>,
     by: By,
     item: Item,

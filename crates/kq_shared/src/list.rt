@@ -1,5 +1,5 @@
 // Lists that are shared in pieces.
-ghost use Rattle.std.specs.Prelude.{◌≡◌, ◌↔◌, ◌≤◌, ◌++◌, ◌<◌, ◌^◌, ◌∷◌, [], length, map, drop, IfOk, IsTrue, OnOk, OnErr, Some, slice_get, slice_set};
+ghost use Rattle.std.specs.Prelude.{◌≡◌, ◌↔◌, ◌+◌, ◌≤◌, ◌++◌, ◌<◌, ◌^◌, ◌∷◌, [], length, map, drop, IfOk, IsTrue, OnOk, OnErr, Some, slice_get, slice_set};
 ghost use Rattle.std.specs.Arc.{arc_value};
 ghost use Rattle.kq_shared.specs.Standing.{StandsAt};
 
@@ -87,9 +87,7 @@ impl<T: Drop> SharedList<T> {
         ensures ok { OnOk result (self.new ≡ self.old ++ arc_value item ∷ []) }
         ensures err { OnErr result (self.new ≡ self.old) }
     {
-        if self.len == MOST {
-            return Err(AllocError);
-        }
+        room(self.len)?;
         if self.tail.len() >= LEAF {
             let alloc = *self.tail.allocator();
             seal(alloc, &mut self.parts, &mut self.tail)?;
@@ -143,4 +141,15 @@ impl<T: Drop> SharedList<T> {
             len: self.len,
         })
     }
+}
+
+// Whether one item more may stand in a list.
+fn room(len: usize) -> Result<(), Memory>
+    ensures ok { OnOk result (len + 1 < 2 ^ 63) }
+    ensures err { OnErr result (2 ^ 63 ≤ len + 1) }
+{
+    if len >= MOST {
+        return Err(AllocError);
+    }
+    Ok(())
 }

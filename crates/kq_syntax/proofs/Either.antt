@@ -2,7 +2,8 @@
 use Rattle.std.proofs.Common.{◌≡◌, ℕ, ◌≤◌, Bool, true, false, nat_lt, if◌then◌else◌, List, [], ◌∷◌, ◌++◌, ◌⊎◌, inl, inr, length, Ok, Err, refl, sym, ◌∙◌, ap, subst, append_assoc, append-nil, length-append, arith}
 use Rattle.std.proofs.lemmas.Bool.Decides.{nat_tests}
 use Rattle.kq_syntax.specs.Choices.{Right, scalar, table, either, Chosen, combine}
-use Rattle.kq_syntax.specs.Forms.{Stops, Alike, Parses, Stuck, Outcome, Parser, Meets}
+use Rattle.kq_syntax.specs.Forms.{Outcome, Parser}
+use Rattle.kq_syntax.proofs.Forms.{Stops, Alike, Parses, Stuck, Meets}
 use Rattle.kq_syntax.proofs.Laws.{Exact, nothing, stops_nothing, alike_front}
 
 -- ---- lists

@@ -1,6 +1,7 @@
 -- What the readers of forms do, form by form.
 use Rattle.std.proofs.Common.{◌≡◌, ℕ, zero, suc, ◌≤◌, ◌+◌, ◌-◌, Bool, true, false, if◌then◌else◌, List, [], ◌∷◌, ◌++◌, ◌⊎◌, inl, inr, length, Ok, Err, Option, Some, None, refl, sym, ◌∙◌, ap, subst, append_assoc, length-append, arith}
-use Rattle.kq_syntax.specs.Forms.{Stops, Alike, Parses, Stuck, Outcome, Parser, Meets, one, some, ◌⨾◌, Bind, Then, Image, Many, Maybe, and_then, pure, starts, expect, bind, both, ◌<$>◌, choose, maybe, many, ◌>>=◌, skip, closed, separated, Separated}
+use Rattle.kq_syntax.specs.Forms.{Outcome, Parser, one, some, ◌⨾◌, Many, Maybe, and_then, pure, starts, expect, bind, both, ◌<$>◌, choose, maybe, many, ◌>>=◌, skip, closed, separated, Separated}
+use Rattle.kq_syntax.proofs.Forms.{Stops, Alike, Parses, Stuck, Meets, Bind, Then, Image}
 
 pub alike_front : {T : Type 0} (f r s : List T) → Alike r s → Alike (f ++ r) (f ++ s)
 alike_front [] r s h = h

@@ -5,3 +5,5 @@ pub mod OtherwiseLaws
 pub mod LocatedLaws
 pub mod SwitchLaws
 pub mod Turns
+pub mod Forms
+pub mod Switching

@@ -2,7 +2,8 @@
 use Rattle.std.proofs.Common.{◌≡◌, ℕ, ◌<◌, ◌-◌, Bool, true, false, List, [], ◌∷◌, ◌++◌, inl, inr, length, take, Ok, Err, Some, refl, sym, ◌∙◌, ap, subst, length-append, arith}
 use Rattle.std.proofs.Math.Seq.{take-append_seam}
 use Rattle.std.proofs.lemmas.Option.{slice_get_cases}
-use Rattle.kq_syntax.specs.Forms.{Parses, Outcome, Parser, Meets, starts}
+use Rattle.kq_syntax.specs.Forms.{Outcome, Parser, starts}
+use Rattle.kq_syntax.proofs.Forms.{Parses, Meets}
 use Rattle.kq_syntax.specs.Located.{Located, first_of, last_of, SpellsLocated, located_at, with_place, located}
 use Rattle.kq_syntax.proofs.Either.{cancel_back, same_length}
 use Rattle.kq_syntax.proofs.Laws.{Exact, Example}

@@ -1,6 +1,7 @@
 -- A choice whose second form may have texts that begin as the first one's do: those are read as the first.
 use Rattle.std.proofs.Common.{◌≡◌, ℕ, Bool, true, false, if◌then◌else◌, List, [], ◌∷◌, ◌++◌, ◌⊎◌, Ok, Err, refl, sym, ◌∙◌, ap}
-use Rattle.kq_syntax.specs.Forms.{Stops, Alike, Stuck, Outcome, Parser, Meets, starts, choose}
+use Rattle.kq_syntax.specs.Forms.{Outcome, Parser, starts, choose}
+use Rattle.kq_syntax.proofs.Forms.{Stops, Alike, Stuck, Meets}
 use Rattle.kq_syntax.proofs.Laws.{Exact, Example, Leads, apart_cases, choose_left, choose_right, starts_stops}
 
 module _ {T A : Type 0} (is : T → Bool) (form : A → List T → Type 0) (more : T → Bool) where

@@ -1,7 +1,9 @@
 -- A choice by a word is exact where each of its arms is.
 use Rattle.std.proofs.Common.{◌≡◌, ℕ, Bool, List, [], ◌∷◌, ◌++◌, Option, Some, None, refl, sym, ◌∙◌, ap, subst, arith}
-use Rattle.kq_syntax.specs.Forms.{Alike, Parser, Meets, ◌⨾◌, Bind, Image, bind}
-use Rattle.kq_syntax.specs.Switching.{Key, expect_key_at, expect_key, switch, Marks, Keyed, expect_mark_at, expect_mark, keyed}
+use Rattle.kq_syntax.specs.Forms.{Parser, ◌⨾◌, bind}
+use Rattle.kq_syntax.proofs.Forms.{Alike, Meets, Bind, Image}
+use Rattle.kq_syntax.specs.Switching.{Marks, expect_mark_at, expect_mark, keyed}
+use Rattle.kq_syntax.proofs.Switching.{Key, expect_key_at, expect_key, switch, Keyed}
 use Rattle.kq_syntax.proofs.Laws.{Exact, Example, nothing, stops_nothing, bind_exact, image_exact, same_exact}
 
 module _ {T K : Type 0} (key_of : T → Option K) (t₀ : T) (k₀ : K) (is_t₀ : key_of t₀ ≡ Some k₀) (more : T → Bool) where

@@ -1,29 +1,11 @@
 -- A word that says which form comes, and then that form.
 use Rattle.std.specs.Prelude.{◌≡◌, List, [], ◌∷◌, Option, Some, None, Ok, Err}
-use Rattle.kq_syntax.specs.Forms.{Language, ◌⨾◌, Outcome, Parser, bind, ◌<$>◌}
-
--- a token that is the key
-abbrev pub Key : {T K : Type 0} → (T → Option K) → K → Language T
-Key {T = T} key_of key ts = (t : T) × (key_of t ≡ Some key) × (ts ≡ t ∷ [])
-
-abbrev pub expect_key_at : {T K : Type 0} → Option K → T → List T → Outcome T K
-expect_key_at (Some key) t ts = Ok (key, ts)
-expect_key_at None t ts = Err (t ∷ ts)
-
-abbrev pub expect_key : {T K : Type 0} → (T → Option K) → Parser T K
-expect_key key_of [] = Err []
-expect_key key_of (t ∷ ts) = expect_key_at (key_of t) t ts
-
-abbrev pub switch : {T K A : Type 0} → (T → Option K) → (K → Parser T A) → Parser T A
-switch key_of arm = (λ p. p.1) <$> bind (expect_key key_of) arm
+use Rattle.kq_syntax.specs.Forms.{Language, Outcome, Parser, bind, ◌<$>◌}
 
 -- ---- the same with the token kept
 
 abbrev pub Marks : {T K : Type 0} → (T → Option K) → T × K → Language T
 Marks key_of p ts = (key_of p.0 ≡ Some p.1) × (ts ≡ p.0 ∷ [])
-
-abbrev pub Keyed : {T K A : Type 0} → (T → Option K) → (A → K) → (A → Language T) → T × A → Language T
-Keyed key_of key body p = Marks key_of (p.0, key p.1) ⨾ body p.1
 
 abbrev pub expect_mark_at : {T K : Type 0} → Option K → T → List T → Outcome T (T × K)
 expect_mark_at (Some key) t ts = Ok ((t, key), ts)

@@ -1,5 +1,6 @@
 pub mod Bags
 pub mod Codes
+pub mod Contents
 pub mod Falls
 pub mod Hash
 pub mod RecordIds

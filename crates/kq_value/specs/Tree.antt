@@ -63,7 +63,3 @@ items_of (item t ts) = t ∷ items_of ts
 abbrev pub keys_of : Entries → List (List ℕ)
 keys_of no_entries = []
 keys_of (entry k t es) = k ∷ keys_of es
-
-abbrev pub values_of : Entries → List Tree
-values_of no_entries = []
-values_of (entry k t es) = t ∷ values_of es

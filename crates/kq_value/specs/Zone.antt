@@ -1,13 +1,10 @@
 -- When a row meets the tests of columns.
-use Rattle.std.specs.Prelude.{Bool, not, ◌&&◌, List, slice_index_or}
-use Rattle.std.specs.List.{list_all}
+use Rattle.std.specs.Prelude.{Bool, not, ◌&&◌}
 use Rattle.std.specs.declared.cmp.Ordering.{Ordering}
 use Rattle.std.specs.Ordering.{is_eq, is_lt, is_le, is_gt, is_ge}
 use Rattle.kq_value.specs.Values.{value_cmp}
 use Rattle.kq_value.specs.Typed.{is_null}
-use Rattle.kq_value.specs.declared.ty.Ty.TheVariants as ty
 use Rattle.kq_value.specs.declared.value.Value.{Value}
-use Rattle.kq_value.specs.declared.value.Value.TheVariants.{Null}
 use Rattle.kq_value.specs.declared.zone.ZoneOp.{ZoneOp}
 use Rattle.kq_value.specs.declared.zone.ZoneOp.TheVariants as op
 use Rattle.kq_value.specs.declared.zone.ZoneTest.{ZoneTest}
@@ -22,7 +19,3 @@ allows op.AtLeast o = is_ge o
 -- the cell isn't null, and stands so to the value
 abbrev pub is_met_by : ZoneTest → Value → Bool
 is_met_by t cell = not (is_null cell) && allows t.op (value_cmp cell t.value)
-
--- the row's cells meet all tests; a column that the row lacks meets none
-abbrev pub meets_all : List ZoneTest → List Value → Bool
-meets_all tests row = list_all (λ t. is_met_by t (slice_index_or row t.column (Null ty.Long))) tests

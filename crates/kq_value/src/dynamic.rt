@@ -8,7 +8,7 @@ ghost use Rattle.kq_value.specs.Hash.{tree_hash, trees_hash, entries_hash};
 
 use crate::Memory;
 use crate::hash::{step, step_bytes};
-use crate::items::room_for;
+use crate::items::{room_for, room_for_first};
 use crate::text::Text;
 use std::alloc::Global;
 use std::cmp::Ordering;
@@ -335,6 +335,7 @@ impl DynBag {
         ensures ok { OnOk result (self.new ≡ push_entry self.old member.key (tree_of member.value)) }
         ensures err { OnErr result (self.new ≡ self.old) }
     {
+        room_for_first(&mut self.members)?;
         self.members.push(member)?;
         Ok(())
     }

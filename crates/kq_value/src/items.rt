@@ -26,3 +26,13 @@ pub(crate) fn room_for<T>(items: &Vec<T>) -> Result<Vec<T>, Memory>
 {
     Vec::with_capacity(*items.allocator(), items.len())
 }
+
+// Makes room for one item where there are none yet. A push would make room for four, and many bags that are made by pushes keep the one.
+pub(crate) fn room_for_first<T>(items: &mut Vec<T>) -> Result<(), Memory>
+    ensures { items.new.items ≡ items.old.items }
+{
+    if items.is_empty() {
+        items.reserve_exact(1)?;
+    }
+    Ok(())
+}

@@ -3,6 +3,7 @@
 #![tactic(auto)]
 
 mod bytes;
+mod content;
 mod dyn_box;
 mod dynamic;
 mod hash;

@@ -12,7 +12,7 @@ use Rattle.kq_model.specs.History.{History, commits_of}
 use Rattle.kq_reply.specs.declared.reply.Reply.{Reply}
 use Rattle.kq_engine.specs.declared.upkeep.Upkeep.{Upkeep}
 use Rattle.kq_engine.specs.declared.upkeep.Upkeep.TheVariants as upkeeps
-use Rattle.kq_engine.specs.Fits.{event_by}
+use Rattle.kq_engine.specs.kq_look.Fits.{event_by}
 use Rattle.kq_engine.specs.Shared.{PassView}
 use Rattle.kq_engine.specs.Upkeeps.{IsWanted, MakesOwn}
 use Rattle.kq_workers.specs.declared.worker.Worker.{Worker}

@@ -19,11 +19,11 @@ use Rattle.kq_reply.specs.declared.reply.Reply.TheVariants as replies
 use Rattle.kq_engine.specs.declared.upkeep.Upkeep.{Upkeep}
 use Rattle.kq_engine.specs.declared.upkeep.Upkeep.TheVariants as upkeeps
 use Rattle.kq_engine.specs.declared.work.Outcome.{Outcome}
-use Rattle.kq_engine.specs.Folds.{FoldsView, OverflowsBeyond}
-use Rattle.kq_engine.specs.Merges.{MergesTable, NamesAll}
+use Rattle.kq_engine.specs.kq_look.Folds.{FoldsView, OverflowsBeyond}
+use Rattle.kq_engine.specs.kq_look.Merges.{MergesTable, NamesAll}
 use Rattle.kq_engine.specs.Shared.{PassView}
 use Rattle.kq_engine.specs.Upkeeps.{IsIdle, IsThere, KeepsUp, TellsUpkeep}
-use Rattle.kq_engine.proofs.Telling.{cursor_take}
+use Rattle.kq_engine.proofs.kq_look.Telling.{cursor_take}
 use Rattle.kq_engine.proofs.Upholding.{there_later}
 use Rattle.kq_workers.specs.Kept.{AreKept, IsForward, IsKept, IsLate, IsMerged}
 use Rattle.kq_workers.specs.Rounds.{SeenGoesOn, wants_memory}

@@ -1,6 +1,6 @@
 -- What is kept up of what stood at a history's end, once it has gone on.
 use Rattle.std.specs.Prelude.{◌≡◌, ◌⊎◌, ◌<◌, ◌≤◌, ℕ, List, ◌∷◌, ◌++◌, length, take}
-use Rattle.kq_engine.specs.Folds.{OverflowsBeyond}
+use Rattle.kq_engine.specs.kq_look.Folds.{OverflowsBeyond}
 use Rattle.kq_engine.specs.Upkeeps.{IsThere}
 use Rattle.kq_engine.specs.declared.upkeep.Upkeep.{Upkeep}
 use Rattle.kq_engine.specs.declared.upkeep.Upkeep.TheVariants as upkeeps

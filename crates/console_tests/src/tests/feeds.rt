@@ -5,9 +5,9 @@ ghost use Rattle.kq_world.specs.World.{IsFresh};
 use super::steps::work;
 use super::worlds::{cursor_of, feed, parts, served};
 use kq_catalog::Catalog;
-use kq_engine::{Prepared, Ready, begin};
 use kq_program::Run;
 use kq_reply::Reply;
+use kq_steps::{Found, Prepared, begin};
 use kq_value::{Bytes, Memory};
 use kq_world::{Feed, HoldGate, MemoryWorld, OpenGate};
 use std::alloc::Global;
@@ -134,10 +134,10 @@ fn rows_prepared(prepared: Prepared) -> Option<Bytes> {
     let Prepared {
         work: _,
         place: _,
-        ready,
+        found,
     } = prepared;
-    match ready {
-        Ready::Answered(reply) => rows_of(reply),
+    match found {
+        Found::Says(reply) => rows_of(reply),
         _ => None,
     }
 }

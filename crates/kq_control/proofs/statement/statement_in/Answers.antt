@@ -1,7 +1,7 @@
 use Rattle.kq_control.specs.ControlReading as reading
 use Rattle.kq_control.specs.Controls.{statement_text}
 use Rattle.kq_control.specs.ControlViews.{statement_of}
-use Rattle.kq_control.specs.Following.{statement_goes_on}
+use Rattle.kq_control.proofs.Following.{statement_goes_on}
 use Rattle.kq_syntax.specs.Classes.{of}
 use Rattle.kq_control.proofs.StatementLaws.{statement_exact}
 use Rattle.kq_parse.proofs.PlaceLaws.{whole_answers}

@@ -5,13 +5,13 @@ use Rattle.kq_catalog.specs.Seen.{CatalogView, hist}
 use Rattle.kq_reply.specs.declared.refusal.Refusal.TheVariants as refusals
 use Rattle.kq_reply.specs.declared.reply.Reply.TheVariants as replies
 use Rattle.kq_engine.specs.declared.work.Outcome.{Outcome}
-use Rattle.kq_engine.specs.Fits.{Acts, outcome_of}
-use Rattle.kq_engine.specs.Found.{IsReady, is_as_read}
-use Rattle.kq_engine.specs.Folds.{IsFoldingFor}
-use Rattle.kq_engine.specs.Merges.{IsMergingFor}
+use Rattle.kq_engine.specs.Acts.{Acts, outcome_of}
+use Rattle.kq_look.specs.Found.{IsReady, is_as_read}
+use Rattle.kq_look.specs.Folds.{IsFoldingFor}
+use Rattle.kq_look.specs.Merges.{IsMergingFor}
 use Rattle.kq_engine.proofs.Advancing.{Advances-acts, Advances-decided}
 use Rattle.kq_engine.proofs.Bringing.{Acts-fold, folding_made}
-use Rattle.kq_engine.proofs.Lasting.{Offered-still}
+use Rattle.kq_look.proofs.Lasting.{Offered-still}
 use Rattle.kq_engine.proofs.Uniting.{Acts-merge}
 use Rattle.kq_engine.proofs.on_catalog.conclude.Goals as goal
 
@@ -19,18 +19,18 @@ pub commit-requires-clause-due : goal.commit-requires-clause-due
 commit-requires-clause-due c =
     let now = c.args.catalog.now in
     let work = c.args.work.now in
-    let ready = subst (IsReady now.limits (take c.args.place (hist now)) work.now work.command) c.in-ToCommit.is c.requires.ready in
-    let still : is_as_read (drop c.args.place (hist now)) (log (hist now)) c.in-ToCommit.offer.unless ≡ true =
-    ap (λ (v : CatalogView). is_as_read (drop c.args.place (hist v)) (log (hist v)) c.in-ToCommit.offer.unless) (sym c.present.ensures) ∙ sym c.is_as_read.ensures ∙ c.if-is_as_read.true in
-    Offered-still now.limits (hist now) c.args.place work.command c.in-ToCommit.offer ready.0 ready.1 still
+    let ready = subst (IsReady now.limits (take c.args.place (hist now)) work.now work.command) c.in-Commits.is c.requires.ready in
+    let still : is_as_read (drop c.args.place (hist now)) (log (hist now)) c.in-Commits.offer.unless ≡ true =
+    ap (λ (v : CatalogView). is_as_read (drop c.args.place (hist v)) (log (hist v)) c.in-Commits.offer.unless) (sym c.present.ensures) ∙ sym c.is_as_read.ensures ∙ c.if-is_as_read.true in
+    Offered-still now.limits (hist now) c.args.place work.command c.in-Commits.offer ready.0 ready.1 still
 
 pub fold-requires : goal.fold-requires
 fold-requires c =
     let now = c.args.catalog.now in
     let work = c.args.work.now in
-    let ready : IsFoldingFor (take c.args.place (hist now)) work.command c.in-ToFold.folding =
-    subst (IsReady now.limits (take c.args.place (hist now)) work.now work.command) c.in-ToFold.is c.requires.ready in
-    folding_made (hist now) c.args.place work.command c.in-ToFold.folding ready
+    let ready : IsFoldingFor (take c.args.place (hist now)) work.command c.in-Folds.folding =
+    subst (IsReady now.limits (take c.args.place (hist now)) work.now work.command) c.in-Folds.is c.requires.ready in
+    folding_made (hist now) c.args.place work.command c.in-Folds.folding ready
 
 pub returns-then-is_as_read-clause-step : goal.returns-then-is_as_read-clause-step
 returns-then-is_as_read-clause-step c =
@@ -50,10 +50,10 @@ returns-in-Ok-clause-step c =
     let old = hist now in
     let work = c.args.work.now in
     let within = c.requires.within in
-    let ready : IsMergingFor (take c.args.place old) work.command c.in-ToMerge.merging = subst (IsReady now.limits (take c.args.place old) work.now work.command) c.in-ToMerge.is c.requires.ready in
+    let ready : IsMergingFor (take c.args.place old) work.command c.in-Merges.merging = subst (IsReady now.limits (take c.args.place old) work.now work.command) c.in-Merges.is c.requires.ready in
     let new = hist c.merge.new.catalog in
     Advances-acts now.limits old new work c.args.place c.in-Ok.outcome within
-    (Acts-merge now.limits old new work c.args.place c.in-ToMerge.merging c.in-Ok.outcome within ready c.in-Ok.ensures.puts)
+    (Acts-merge now.limits old new work c.args.place c.in-Merges.merging c.in-Ok.outcome within ready c.in-Ok.ensures.puts)
 
 pub returns-in-Err-Moved-clause-step : goal.returns-in-Err-Moved-clause-step
 returns-in-Err-Moved-clause-step c =
@@ -67,16 +67,16 @@ returns-in-Err-Moved-clause-step c =
     let acts = subst (λ (v : CatalogView). Acts mid.limits (hist v) new work (length (hist v)) outcome) c.in-Err-Moved.ensures.kept c.decide-in-Err-Moved.ensures.acts in
     Advances-decided now.limits old new work c.args.place outcome within (subst (λ (l : Limits). Acts l old new work (length old) outcome) c.in-Err-Moved.ensures.limits acts)
 
-pub returns-in_ok-fold-in-ToFold-clause-step : goal.returns-in_ok-fold-in-ToFold-clause-step
-returns-in_ok-fold-in-ToFold-clause-step c =
+pub returns-in_ok-fold-in-Folds-clause-step : goal.returns-in_ok-fold-in-Folds-clause-step
+returns-in_ok-fold-in-Folds-clause-step c =
     let now = c.args.catalog.now in
     let old = hist now in
     let work = c.args.work.now in
     let within = c.requires.within in
-    let ready : IsFoldingFor (take c.args.place old) work.command c.in-ToFold.folding = subst (IsReady now.limits (take c.args.place old) work.now work.command) c.in-ToFold.is c.requires.ready in
+    let ready : IsFoldingFor (take c.args.place old) work.command c.in-Folds.folding = subst (IsReady now.limits (take c.args.place old) work.now work.command) c.in-Folds.is c.requires.ready in
     let new = hist c.fold.new.catalog in
     Advances-acts now.limits old new work c.args.place _ within
-    (Acts-fold now.limits old new work c.args.place c.in-ToFold.folding _ within ready c.in_ok-fold-in-ToFold.ensures.puts)
+    (Acts-fold now.limits old new work c.args.place c.in-Folds.folding _ within ready c.in_ok-fold-in-Folds.ensures.puts)
 
 pub returns-in-Pending-clause-step : goal.returns-in-Pending-clause-step
 returns-in-Pending-clause-step c =

@@ -4,13 +4,13 @@ use Rattle.std.proofs.lemmas.List.{take_all}
 use Rattle.kq_model.specs.History.{History, cursor, log}
 use Rattle.kq_catalog.specs.Intents.{commit_of}
 use Rattle.kq_catalog.specs.Seen.{CatalogView, hist}
-use Rattle.kq_engine.specs.Fits.{IsDue}
-use Rattle.kq_engine.specs.Folds.{IsFoldingFor}
-use Rattle.kq_engine.specs.Found.{IsCommitDue, IsFound}
-use Rattle.kq_engine.specs.Merges.{IsSettled}
+use Rattle.kq_look.specs.Fits.{IsDue}
+use Rattle.kq_look.specs.Folds.{IsFoldingFor}
+use Rattle.kq_look.specs.Found.{IsCommitDue, IsFound}
+use Rattle.kq_look.specs.Merges.{IsSettled}
 use Rattle.kq_engine.proofs.Acting.{Acts-answer}
 use Rattle.kq_engine.proofs.Bringing.{Acts-fold, folding_made}
-use Rattle.kq_engine.proofs.Wanting.{commit_finds, due_finds}
+use Rattle.kq_look.proofs.Wanting.{commit_finds, due_finds}
 use Rattle.kq_engine.proofs.on_catalog.decide.Goals as goal
 
 pub put_in-requires-clause-due : goal.put_in-requires-clause-due
@@ -71,3 +71,8 @@ returns-in_ok-fold-in-Folds-clause-acts c =
     let here = subst (λ (v : CatalogView). IsFoldingFor v.history work.command f) c.present.ensures found in
     let whole : take (length h) h ≡ h = take_all (length h) h (omega arith) in
     Acts-fold now.limits h (hist c.fold.new.catalog) work (length h) f _ (omega arith) (subst (λ (g : History). IsFoldingFor g work.command f) (sym whole) here) c.in_ok-fold-in-Folds.ensures.puts
+
+pub unreachable-requires : goal.unreachable-requires
+unreachable-requires c =
+    let command = c.args.work.now.command in
+    subst (IsFound c.present.result.now.limits c.present.result.now.history (to_z w64 (of_z w64 c.args.work.now.now)) command) c.in-Pending.is c.in_ok-reply.ensures.found

@@ -4,7 +4,7 @@ use Rattle.kq_model.specs.History.{History}
 use Rattle.kq_catalog.specs.declared.merging.MergeFault.{MergeFault}
 use Rattle.kq_catalog.specs.Merges.{IsGone, Moves}
 use Rattle.kq_catalog.specs.Seen.{hist}
-use Rattle.kq_engine.specs.Merges.{IsMergingFor}
+use Rattle.kq_look.specs.Merges.{IsMergingFor}
 use Rattle.kq_engine.proofs.Uniting.{Acts-merge, merging_picked, not_gone}
 use Rattle.kq_engine.proofs.on_catalog.merge_now.Goals as goal
 

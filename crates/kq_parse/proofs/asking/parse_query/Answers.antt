@@ -1,6 +1,6 @@
 use Rattle.kq_grammar.specs.Tabulars.{query_text}
 use Rattle.kq_grammar.specs.TabularViews.{query_of}
-use Rattle.kq_parse.specs.Following.{query_goes_on}
+use Rattle.kq_parse.proofs.Following.{query_goes_on}
 use Rattle.kq_parse.specs.Reading as reading
 use Rattle.kq_syntax.specs.Classes.{of}
 use Rattle.kq_parse.proofs.PlaceLaws.{whole_answers}

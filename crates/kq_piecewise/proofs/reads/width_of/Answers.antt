@@ -6,7 +6,7 @@ use Rattle.kq_piecewise.proofs.reads.width_of.Goals.{then-j-width+in_ok-width, e
 pub loop-j-preserved : goal.loop-j-preserved
 loop-j-preserved c =
     elim c.if-j-width.branch [
-      | then-j-width+in_ok-width w ↦ below_more _ _ (λ k h. let old = c.loop-j.invariant k h in omega arith) (omega arith)
+      | then-j-width+in_ok-width w ↦ (let more = w.in_ok-width.ensures.ok in below_more _ _ (λ k h. let old = c.loop-j.invariant k h in omega (arith, more)) (omega (arith, more)))
       | else-j-width w ↦ below_more _ _ (λ k h. let old = c.loop-j.invariant k h in omega arith) (omega arith)
     ]
 

@@ -3,6 +3,7 @@ use denote.Param.Send.{IsSend, IsSync, sendable}
 use Rattle.std.proofs.Crossing.{crosses}
 use Rattle.std.proofs.Common.{arith, rules, length, ◌≡◌, ◌≤◌, ◌+◌, ◌++◌, ◌∷◌, [], ap, ◌∙◌}
 use Rattle.std.proofs.lemmas.List.{length_push}
+use Rattle.kq_workers.specs.kq_engine.Shared.{PassView}
 use Rattle.kq_workers.proofs.kq_engine.Crossing.{pass_send, shared_sync}
 use Rattle.kq_program.proofs.Serving.{empty_of, served_count, ServedAll-first, ServedAll-more}
 use Rattle.kq_program.proofs.together.+fn-serve_all-join+arg3+serve_all.Goals as goal
@@ -31,6 +32,19 @@ join-one-requires-send-A g t c κs within =
     let clock : IsSend (param 3 g.row.C) = search (rules, c.requires-raw) parts 8 in
     let gate : IsSync (param 4 g.row.G) = search (rules, c.requires-raw) parts 8 in
     search (pass_send, sendable, crosses) depth 60 fits 20000
+
+pub join-one-requires-after_bounds : goal.join-one-requires-after_bounds
+join-one-requires-after_bounds g t c κs within =
+    let rt : IsSync (param 0 g.row.R) = search (rules, c.requires-raw) parts 8 in
+    let source : IsSend (param 1 g.row.S) = search (rules, c.requires-raw) parts 8 in
+    let sink : IsSend (param 2 g.row.K) = search (rules, c.requires-raw) parts 8 in
+    let clock : IsSend (param 3 g.row.C) = search (rules, c.requires-raw) parts 8 in
+    let gate : IsSync (param 4 g.row.G) = search (rules, c.requires-raw) parts 8 in
+    let whole : length c.args.feeds.items ≡ length c.pop.new.self.items + 1 = ap length c.in-Some.ensures.items ∙ length_push c.pop.new.self.items c.in-Some.last in
+    let first = ap (λ (p : PassView). p.worth) c.split-rest.ensures.first in
+    let mine : c.split-rest.result.1.of ≡ c.args.shared.now.turn = ap (λ (p : PassView). p.of) c.split-rest.ensures.second ∙ c.requires.of in
+    let rest : c.split-rest.result.0.of ≡ c.args.shared.now.turn = ap (λ (p : PassView). p.of) c.split-rest.ensures.first ∙ c.requires.of in
+    ((mine, (omega arith, (search (sendable, crosses) depth 60 fits 20000, search (sendable, crosses) depth 60 fits 20000, search (sendable, crosses) depth 60 fits 20000, search (sendable, crosses) depth 60 fits 20000, search (sendable, crosses) depth 60 fits 20000))), (search rules, ((λ a m. m), ((λ a m. m), ((λ a m. m), ((λ a m. m), ((λ a m. m), ((λ a m. m), (rest, (c.requires.exporter, (omega (arith, whole, first, c.requires.worth), (omega (arith, whole, c.requires.few), (c.requires.empty, (omega (arith, whole, c.requires.room), (source, sink, clock, rt, gate)))))))))))))))
 
 pub push_reserved-requires-2 : goal.push_reserved-requires-2
 push_reserved-requires-2 g t c =

@@ -7,14 +7,14 @@ use Rattle.kq_query.specs.Worlds.{MayGive, known_in}
 use Rattle.kq_query.proofs.Reading.{world_typed}
 use Rattle.kq_query.proofs.answering.answer_plan.Goals as goal
 
-pub run_plan-requires-clause-fits : goal.run_plan-requires-clause-fits
-run_plan-requires-clause-fits c =
+pub run_plan_by-requires-clause-fits : goal.run_plan_by-requires-clause-fits
+run_plan_by-requires-clause-fits g c =
     let h = c.args.catalogue.now.snapshot.now.history in
     let p = planned_of c.args.plan in
     record { columns = columns_given p; typed = world_typed h; fits = c.requires.fits }
 
 pub show-requires : goal.show-requires
-show-requires c =
+show-requires g c =
     let h = c.args.catalogue.now.snapshot.now.history in
     let p = planned_of c.args.plan in
     let same : to_z w64 (of_z w64 c.args.now) ≡ c.args.now = search (rules, to_z-of_z) in

@@ -5,7 +5,7 @@ use Rattle.kq_session.proofs.Serving.{SessionComesTo-none}
 use Rattle.kq_session.proofs.session.serve_session.Goals as goal
 
 pub serve_script-requires-clause-reading : goal.serve_script-requires-clause-reading
-serve_script-requires-clause-reading g c = c.in-Ok.ensures.reading (g.S.Source.told c.args.session.now.parts.source)
+serve_script-requires-clause-reading g c κs within = c.in-Ok.ensures.reading (g.S.Source.told c.args.session.now.parts.source)
 
 pub returns-in-Err : goal.returns-in-Err
 returns-in-Err g c = record {

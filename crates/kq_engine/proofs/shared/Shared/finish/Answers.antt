@@ -6,8 +6,10 @@ use Rattle.kq_model.specs.declared.limits.Limits.{Limits}
 use Rattle.kq_catalog.specs.Grown.{numbers_of}
 use Rattle.kq_catalog.proofs.Grown.{same_limits}
 use Rattle.kq_engine.specs.declared.work.Outcome.{Outcome}
-use Rattle.kq_engine.specs.Fits.{Advances, event_by}
-use Rattle.kq_engine.specs.Found.{IsReady, WantsToFinish}
+use Rattle.kq_engine.specs.Acts.{Advances}
+use Rattle.kq_look.specs.Fits.{event_by}
+use Rattle.kq_look.specs.Found.{IsReady}
+use Rattle.kq_engine.specs.Acts.{WantsToFinish}
 use Rattle.kq_reply.specs.declared.refusal.Refusal.TheVariants as refusals
 use Rattle.kq_reply.specs.declared.reply.Reply.TheVariants as replies
 use Rattle.kq_engine.proofs.Preparing.{ready_wants}
@@ -21,11 +23,11 @@ conclude-answer-requires-clause-ready g c =
     let pass = c.pass.inside.pass in
     let taken = c.take-catalog.result in
     let place = c.pass.inside.seen in
-    let ready : IsReady limits pass.seen work.now work.command c.args.ready = rw (← c.pass.view_is) at c.requires.ready in
+    let ready : IsReady limits pass.seen work.now work.command c.args.found = rw (← c.pass.view_is) at c.requires.ready in
     let fixed : numbers_of taken.limits ≡ numbers_of limits = search rules in
     let first : take place (hist taken) ≡ pass.seen = ap (λ (n : ℕ). take n (hist taken)) c.pass.invariant.1 ∙ take-IsPrefix pass.seen (hist taken) c.take-catalog.ensures.seen in
-    subst (λ (l : Limits). IsReady l (take place (hist taken)) work.now work.command c.args.ready) (sym (same_limits _ _ fixed))
-    (subst (λ (h : History). IsReady limits h work.now work.command c.args.ready) (sym first) ready)
+    subst (λ (l : Limits). IsReady l (take place (hist taken)) work.now work.command c.args.found) (sym (same_limits _ _ fixed))
+    (subst (λ (h : History). IsReady limits h work.now work.command c.args.found) (sym first) ready)
 
 pub give-requires-clause-begins : goal.give-requires-clause-begins
 give-requires-clause-begins g c =
@@ -42,7 +44,7 @@ returns g c =
     let fixed : numbers_of c.take-catalog.result.limits ≡ numbers_of c.args.self.now.limits = search rules in
     let told = subst (λ (o : Outcome). Advances c.take-catalog.result.limits old new work began o) (sym c.told-outcome.ensures) c.conclude-answer.ensures.step in
     let step = subst (λ (l : Limits). Advances l old new work began c.told-outcome.result) (same_limits _ _ fixed) told in
-    let ready : IsReady c.args.self.now.limits pass.seen work.now work.command c.args.ready = rw (← c.pass.view_is) at c.requires.ready in
-    let wants_to = subst (λ (o : Outcome). WantsToFinish began new work.command c.args.ready o) (sym c.told-outcome.ensures) c.conclude-answer.ensures.memory in
-    let takes = λ (wants : c.told-outcome.result.reply ≡ replies.Refused refusals.Memory). ready_wants c.args.self.now.limits pass.seen began (take c.told-outcome.result.place new) work.now work.command c.args.ready ready (wants_to wants) in
+    let ready : IsReady c.args.self.now.limits pass.seen work.now work.command c.args.found = rw (← c.pass.view_is) at c.requires.ready in
+    let wants_to = subst (λ (o : Outcome). WantsToFinish began new work.command c.args.found o) (sym c.told-outcome.ensures) c.conclude-answer.ensures.memory in
+    let takes = λ (wants : c.told-outcome.result.reply ≡ replies.Refused refusals.Memory). ready_wants c.args.self.now.limits pass.seen began (take c.told-outcome.result.place new) work.now work.command c.args.found ready (wants_to wants) in
     rw (← c.pass.view_is, c.give.ensures.pass, c.take-catalog.ensures.pass) (Finishes-step c.args.self.now.limits pass.of pass.seen old new pass.added pass.worth pass.taken work began c.told-outcome.result c.pass.invariant.1 c.take-catalog.ensures.seen step takes)

@@ -1,7 +1,8 @@
 use Rattle.std.proofs.Common.{◌∙◌, ◌+◌, arith, map, subst, take}
 use Rattle.std.proofs.lemmas.List.{take_all}
 use Rattle.kq_vector.specs.Vectors.{cells_of}
-use Rattle.kq_group.specs.Columns.{across, rows_of}
+use Rattle.kq_agg.specs.Across.{across}
+use Rattle.kq_group.specs.Columns.{rows_of}
 use Rattle.kq_group.specs.Keys.{Numbers}
 use Rattle.kq_group.proofs.Columns.{length-rows_of, numbers_so_far, take_rows, told_first}
 use Rattle.kq_group.proofs.Tables.{Numbers-step}

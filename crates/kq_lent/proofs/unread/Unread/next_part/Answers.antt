@@ -1,4 +1,4 @@
-use Rattle.std.proofs.Common.{◌≤◌, length, subst, arith}
+use Rattle.std.proofs.Common.{◌≡◌, ◌≤◌, ◌+◌, ◌-◌, length, subst, arith}
 use Rattle.kq_stretch.specs.kq_piecewise.Pieces.{piece_of}
 use Rattle.kq_lent.specs.Sources.{source_rows}
 use Rattle.kq_lent.specs.Unread.{IsRead, UnreadView}
@@ -11,6 +11,9 @@ returns-in-Some c =
     let rows = source_rows c.source-source.result in
     let at = c.in-Some.spot in
     let to = c.min-to.result in
+    let before = c.self.inside.left in
+    let left = before - (to - at.row) in
     let within : to ≤ length rows = omega (arith, c.min-to.ensures, c.len.ensures.count) in
-    subst (λ (u : UnreadView). IsRead u (piece_of rows at.row to) (left_at place at.source to)) c.self.view_is
-    (part_read place c.self.inside.spot.source c.self.inside.spot.row at.source at.row to rows c.in-Some.ensures.some c.source-source.ensures (λ here. omega (arith, c.min-to.ensures, c.len.ensures.count, here)) within c.self.invariant)
+    let is : before ≡ (to - at.row) + left = omega (arith, c.min-to.ensures, c.min-most.ensures) in
+    subst (λ (u : UnreadView). IsRead u (piece_of rows at.row to) (left_at place at.source to left)) c.self.view_is
+    (part_read place c.self.inside.spot.source c.self.inside.spot.row at.source at.row to before left rows c.in-Some.ensures.some c.source-source.ensures (λ here. omega (arith, c.min-to.ensures, c.min-most.ensures, c.len.ensures.count, here)) within is c.self.invariant)

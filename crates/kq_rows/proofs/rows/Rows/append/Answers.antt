@@ -11,7 +11,7 @@ invariant_of-self-2 c =
     let both : chunks s.count s.width s.cells.items ++ chunks o.count o.width o.cells.items ≡ c.args.self.now ++ c.args.other = λ i. c.self.view_is i ++ c.other.view_is i in
     let wide = subst (λ (rs : List (List Value)). same_width rs) (sym both) c.requires in
     let items : c.append.new.self.items ≡ s.cells.items ++ o.cells.items = c.in_ok-append.ensures.items in
-    (rw items (long_append s.count s.width o.count o.width s.cells.items o.cells.items (omega arith) c.self.invariant.0 c.other.invariant.0 wide), omega arith)
+    (rw items (long_append s.count s.width o.count o.width s.cells.items o.cells.items (omega arith) c.self.invariant.0 c.other.invariant.0 wide), omega (arith, c.in_ok-room.ensures.ok))
 
 pub returns-clause-ok : goal.returns-clause-ok
 returns-clause-ok c =

@@ -12,7 +12,7 @@ invariant_of-self-2 c =
     let v : chunks s.count s.width s.cells.items ≡ c.args.self.now = c.self.view_is in
     let wide = subst (λ (rs : List (List Value)). All (HasWidth (length row)) rs) (sym v) c.requires in
     let items : c.append_copies.new.items.items ≡ s.cells.items ++ row = (c.in_ok-append_copies.ensures.ok (λ x y e. e)) in
-    (rw (items) (long_push s.count s.width s.cells.items row c.self.invariant.0 wide), omega arith)
+    (rw (items) (long_push s.count s.width s.cells.items row c.self.invariant.0 wide), omega (arith, c.in_ok-room.ensures.ok))
 
 pub returns-clause-ok : goal.returns-clause-ok
 returns-clause-ok c =

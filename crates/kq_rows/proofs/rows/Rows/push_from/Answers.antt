@@ -13,7 +13,7 @@ invariant_of-self-2 c =
     let wide = subst (λ (rs : List (List Value)). All (HasWidth (length row)) rs) (sym v) c.requires in
     let items : c.append.new.self.items ≡ s.cells.items ++ row = c.in_ok-append.ensures.items in
     let w : c.len-width.result ≡ length row = search rules in
-    (rw (items, w) (long_push s.count s.width s.cells.items row c.self.invariant.0 wide), omega arith)
+    (rw (items, w) (long_push s.count s.width s.cells.items row c.self.invariant.0 wide), omega (arith, c.in_ok-room.ensures.ok))
 
 pub returns-clause-ok : goal.returns-clause-ok
 returns-clause-ok c =

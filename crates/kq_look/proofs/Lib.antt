@@ -1,0 +1,15 @@
+pub mod Accepting
+pub mod Behind
+pub mod Defining
+pub mod Dues
+pub mod Entering
+pub mod Failing
+pub mod Fit
+pub mod Folded
+pub mod Gaining
+pub mod Keeping
+pub mod Lasting
+pub mod Picking
+pub mod Telling
+pub mod Texts
+pub mod Wanting

@@ -1,0 +1,165 @@
+-- What threads share while they gather groups may be shared, and what they hand back may go to another thread. The lemma on each type is found from those on its
+-- parts; where a type is seen as another, from that on what is inside.
+use denote.Param.Send.{IsSend, IsSync, sendable}
+use denote.Ref.{NamedLft}
+use Rattle.std.proofs.Crossing.{crosses}
+use Rattle.kq_value.proofs.dynamic.DynBag.TheLaws.TheKnot as dynamic_knot
+use Rattle.kq_value.specs.contracts.text.Text as text
+use Rattle.kq_value.specs.contracts.dynamic.Dyn as dynamic
+use Rattle.kq_value.specs.contracts.dyn_box.DynBox as boxed
+use Rattle.kq_value.specs.contracts.value.Value as value
+use Rattle.kq_value.specs.contracts.schema.Field as field
+use Rattle.kq_value.specs.contracts.row.Row as row
+use Rattle.kq_fn.specs.contracts.function.Function as function
+use Rattle.kq_expr.proofs.expr.Expr.TheLaws.TheKnot as expr_knot
+use Rattle.kq_expr.specs.contracts.expr.Expr as expr
+use Rattle.kq_plan.specs.contracts.work.Aggregate as aggregate
+use Rattle.kq_agg.specs.contracts.element.Element as element
+use Rattle.kq_agg.specs.contracts.element.Element.TheInside as element_inside
+use Rattle.kq_agg.specs.contracts.set.Set as sets
+use Rattle.kq_agg.specs.contracts.set.Set.TheInside as sets_inside
+use Rattle.kq_agg.specs.contracts.states.States as states
+use Rattle.kq_agg.specs.contracts.states.States.TheInside as states_inside
+use Rattle.kq_chain.proofs.added.Added.TheLaws.TheKnot as added_knot
+use Rattle.kq_chain.specs.contracts.added.Added as added
+use Rattle.kq_chain.specs.contracts.chain.Chain as chain
+use Rattle.kq_chain.specs.contracts.chain.Chain.TheInside as chain_inside
+use Rattle.kq_rows.specs.contracts.rows.Rows as rows
+use Rattle.kq_rows.specs.contracts.rows.Rows.TheInside as rows_inside
+use Rattle.kq_group.specs.contracts.groups.Groups as groups
+use Rattle.kq_group.specs.contracts.groups.Groups.TheInside as groups_inside
+use Rattle.kq_extent.proofs.Sent.{held_sync as extents_sync}
+use Rattle.kq_stretch.specs.contracts.operator.Operator as operator
+use Rattle.kq_value.specs.contracts.schema.Schema as schema
+use Rattle.kq_value.specs.contracts.schema.Schema.TheInside as schema_inside
+use Rattle.kq_lent.specs.contracts.lending.Lending as lending
+use Rattle.kq_lent.specs.contracts.lending.Lending.TheInside as lending_inside
+use Rattle.kq_lent.specs.contracts.held.Held as held
+use Rattle.kq_lent.specs.contracts.held.Held.TheInside as held_inside
+use Rattle.kq_grouping.specs.contracts.arriving.Arrived as arrived
+use Rattle.kq_parallel.specs.contracts.asked.Asked as asked
+
+-- ---- values and rows
+
+text_send : IsSend text.the_row
+text_send = search (sendable, crosses) depth 60 fits 20000
+
+text_sync : IsSync text.the_row
+text_sync = search (sendable, crosses) depth 60 fits 20000
+
+dynamic_send : IsSend dynamic.the_row
+dynamic_send = search (dynamic_knot.crosses, sendable, crosses) depth 60 fits 20000
+
+dynamic_sync : IsSync dynamic.the_row
+dynamic_sync = search (dynamic_knot.crosses, sendable, crosses) depth 60 fits 20000
+
+boxed_send : IsSend boxed.the_row
+boxed_send = search (dynamic_send, dynamic_sync, sendable, crosses) depth 60 fits 20000
+
+boxed_sync : IsSync boxed.the_row
+boxed_sync = search (dynamic_send, dynamic_sync, sendable, crosses) depth 60 fits 20000
+
+value_send : IsSend value.the_row
+value_send = search (text_send, boxed_send, sendable, crosses) depth 60 fits 20000
+
+value_sync : IsSync value.the_row
+value_sync = search (text_sync, boxed_sync, sendable, crosses) depth 60 fits 20000
+
+value_field_sync : IsSync value.the_field.row
+value_field_sync = search (text_sync, boxed_sync, sendable, crosses) depth 60 fits 20000
+
+row_send : IsSend row.the_row
+row_send = search (value_send, sendable, crosses) depth 60 fits 20000
+
+rows_inside_send : IsSend rows_inside.the_row
+rows_inside_send = search (value_send, sendable, crosses) depth 60 fits 20000
+
+rows_inside_sync : IsSync rows_inside.the_row
+rows_inside_sync = search (value_sync, sendable, crosses) depth 60 fits 20000
+
+rows_send : IsSend rows.the_row
+rows_send = search (rows_inside_send, sendable, crosses) depth 60 fits 20000
+
+rows_sync : IsSync rows.the_row
+rows_sync = search (rows_inside_sync, sendable, crosses) depth 60 fits 20000
+
+pub field_sync : IsSync field.the_row
+field_sync = search (text_sync, sendable, crosses) depth 60 fits 20000
+
+-- ---- rows
+
+schema_inside_sync : IsSync schema_inside.the_row
+schema_inside_sync = search (field_sync, sendable, crosses) depth 60 fits 20000
+
+schema_sync : IsSync schema.the_row
+schema_sync = search (schema_inside_sync, sendable, crosses) depth 60 fits 20000
+
+lending_inside_sync : IsSync lending_inside.the_row
+lending_inside_sync = search (extents_sync, schema_sync, sendable, crosses) depth 60 fits 20000
+
+lending_sync : IsSync lending.the_row
+lending_sync = search (lending_inside_sync, sendable, crosses) depth 60 fits 20000
+
+held_inside_sync : IsSync held_inside.the_row
+held_inside_sync = search (rows_sync, lending_sync, sendable, crosses) depth 60 fits 20000
+
+held_sync : IsSync held.the_row
+held_sync = search (held_inside_sync, sendable, crosses) depth 60 fits 20000
+
+-- ---- what is asked
+
+function_sync : IsSync function.the_field.row
+function_sync = search (sendable, crosses) depth 400 fits 100000
+
+expr_sync : IsSync expr.the_row
+expr_sync = search (expr_knot.crosses, text_sync, boxed_sync, function_sync, sendable, crosses) depth 400 fits 100000
+
+expr_field_sync : IsSync expr.the_field.row
+expr_field_sync = search (expr_knot.crosses, value_field_sync, function_sync, sendable, crosses) depth 400 fits 100000
+
+aggregate_sync : IsSync aggregate.the_row
+aggregate_sync = search (expr_field_sync, sendable, crosses) depth 60 fits 20000
+
+operator_sync : (l : NamedLft) → IsSync (operator.the_row l)
+operator_sync l = search (expr_sync, sendable, crosses) depth 60 fits 20000
+
+pub asked_sync : (l : NamedLft) → IsSync (asked.the_row l)
+asked_sync l = search (operator_sync, expr_sync, aggregate_sync, field_sync, value_sync, held_sync, sendable, crosses) depth 60 fits 20000
+
+-- ---- what comes of it
+
+element_inside_send : IsSend element_inside.the_row
+element_inside_send = search (text_send, boxed_send, sendable, crosses) depth 60 fits 20000
+
+element_send : IsSend element.the_row
+element_send = search (element_inside_send, sendable, crosses) depth 60 fits 20000
+
+sets_inside_send : IsSend sets_inside.the_row
+sets_inside_send = search (element_send, sendable, crosses) depth 60 fits 20000
+
+sets_send : IsSend sets.the_row
+sets_send = search (sets_inside_send, sendable, crosses) depth 60 fits 20000
+
+states_inside_send : IsSend states_inside.the_row
+states_inside_send = search (sets_send, row_send, value_send, sendable, crosses) depth 60 fits 20000
+
+states_send : IsSend states.the_row
+states_send = search (states_inside_send, sendable, crosses) depth 60 fits 20000
+
+added_send : IsSend added.the_row
+added_send = search (added_knot.crosses, crosses, sendable) depth 60 fits 20000
+
+chain_inside_send : IsSend chain_inside.the_row
+chain_inside_send = search (added_send, added_knot.crosses, sendable, crosses) depth 60 fits 20000
+
+chain_send : IsSend chain.the_row
+chain_send = search (chain_inside_send, sendable, crosses) depth 60 fits 20000
+
+groups_inside_send : IsSend groups_inside.the_row
+groups_inside_send = search (chain_send, rows_send, states_send, sendable, crosses) depth 60 fits 20000
+
+groups_send : IsSend groups.the_row
+groups_send = search (groups_inside_send, sendable, crosses) depth 60 fits 20000
+
+pub arrived_send : IsSend arrived.the_row
+arrived_send = search (groups_send, sendable, crosses) depth 60 fits 20000

@@ -1,0 +1,37 @@
+// Threads that gather groups beside each other.
+ghost use Rattle.std.specs.Prelude.{◌<◌};
+
+use crate::halves::gather_in_parts;
+use kq_grouping::{Arrived, Gatherer, Held, Summarize};
+use kq_value::Memory;
+use std::alloc::Global;
+use std::thread::Threads;
+
+/// As many rows as are worth a thread.
+pub const PIECE: u64 = 8192;
+
+/// Threads that gather groups beside each other, each of at least so many rows.
+#[derive(Drop)]
+pub struct Crew<'a, R> {
+    rt: &'a R,
+    piece: u64,
+    ghost some: { 0 < piece },
+}
+
+impl<'a, R: Threads + Sync> Crew<'a, R> {
+    pub fn new(rt: &'a R, piece: u64) -> Crew<'a, R>
+        requires { 0 < piece }
+    {
+        Crew { rt, piece }
+    }
+}
+
+impl<R: Threads + Sync> Gatherer for Crew<'_, R> {
+    ghost use Rattle.std.specs.Thread.{IsSync};
+
+    ghost ready = { λ c. IsSync R.row };
+
+    fn gather(&self, alloc: Global, asked: &Summarize, rows: &Held) -> Result<Arrived, Memory> {
+        gather_in_parts(self.rt, alloc, asked, rows, self.piece)
+    }
+}
