@@ -1,7 +1,8 @@
 #!/usr/bin/env bash
 # Asks what one asks of an access log, over 1,000,000 lines of 10 columns from a generator with a fixed seed, and lets sqlite3 ask the
 # same of the same lines in memory, with the indexes that a user would make (Timestamp; Host and Status; Path; Address). Prints the time
-# of each query, its part of sqlite3's, and the greatest resident set behind it. Usage: bench/logs.sh [LINES]. The program has to be
+# of each query, its part of sqlite3's, and the greatest resident set behind it. Then both put the lines in with something behind the table: the program
+# with a policy and a view, sqlite3 with an index and a trigger. Usage: bench/logs.sh [LINES]. The program has to be
 # built (.ci/run does it), and sqlite3 installed.
 set -eu
 top=$(cd "$(dirname "$0")/.." && pwd)
@@ -73,6 +74,14 @@ def peak(pid):
     return 0.0
 
 
+# The lines again, with what stands behind the table: a policy and a view, against an index and a trigger.
+behind = (".create table Failed (Timestamp:datetime, Host:string, Path:string)\n\n"
+          """.alter table Failed policy update @'[{"IsEnabled":true,"Source":"A","Query":"A | where Status >= 500 | project Timestamp, Host, Path","""
+          """"IsTransactional":true,"PropagateIngestionProperties":false}]'\n\n"""
+          ".create materialized-view Hosts on table A { A | summarize n = count(), s = sum(Bytes) by Host }\n\n")
+triggered = ("create index t on a (Timestamp); create table failed (Timestamp text, Host text, Path text);"
+             "create trigger f after insert on a when new.Status >= 500 begin insert into failed values (new.Timestamp, new.Host, new.Path); end;")
+
 mine, peer = asked.engine(program), asked.sqlite()
 loaded = mine.ask("".join(load))
 held = peak(mine.child.pid)
@@ -84,4 +93,9 @@ print(f"{'load, ' + str(raw >> 20) + ' MiB of CSV':>40} {loaded:>8.3f} {put:>8.3
 for name, (kql, theirs) in queries.items():
     ours, its = mine.best(kql, 3), peer.best(theirs, 3)
     print(f"{name:>40} {ours:>8.4f} {its:>8.4f} {ours / its:>6.2f} {peak(mine.child.pid):>9.0f}")
+mine.end(), peer.end()
+mine, peer = asked.engine(program), asked.sqlite()
+loaded = mine.ask("".join([load[0], behind, *load[1:]]))
+put = peer.ask("\n".join([inserts[0], triggered, "begin;", *inserts[1:], "commit;"]))
+print(f"{'load with a policy and a view':>40} {loaded:>8.3f} {put:>8.3f} {loaded / put:>6.2f} {peak(mine.child.pid):>9.0f}")
 PY

@@ -1,5 +1,6 @@
 #!/usr/bin/env bash
-# Asks summarizes over rows of two longs, held to one, to two and to four processors by `taskset`: the least of five times from one reply to the next.
+# Asks summarizes, counts and rows over rows of two longs, held to one, to two and to four processors by `taskset`: the least of five times from one reply
+# to the next.
 # The program has to be built (.ci/run does it).
 set -eu
 top=$(cd "$(dirname "$0")/.." && pwd)
@@ -20,6 +21,10 @@ queries = {
     "by 1000 keys": "E | summarize count(), sum(v) by g = v % 1000 | count",
     "by 100,000 keys": "E | summarize count(), sum(v) by g = v % 100000 | count",
     "by each v": "E | summarize count(), sum(v) by v | count",
+    "where, count": "E | where v % 7 == 3 | count",
+    "where, extend, count": "E | where v % 7 == 3 | extend w = v * 2 + k | where w % 2 == 1 | count",
+    "where, kept": "E | where v % 7 == 3 | take 1 | count",
+    "extend, kept": "E | extend w = v * 2 + k | take 1 | count",
     "by 10 keys, behind a take of 16,384": "E | take 16384 | summarize count(), sum(v) by g = k % 10 | count",
 }
 held = {"one": "0", "two": "0,1", "four": "0-3"}

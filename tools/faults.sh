@@ -14,7 +14,11 @@
 #   - the files that replies name are there, with just the bytes that their ranges give, so that each record up to an export's last range is in one of them;
 #   - nothing else is left but the beginning of a file, under its name with `.part`, and the whole file of the one command that has no reply;
 #   - each file was synced before it got its name.
-# The last line of each of the two counts its runs. It needs a C compiler and python3, and the proved program, which .ci/run builds; KQ_PROGRAM names another one.
+# Before these it runs the scripts of tools/faults, in which rows of every type are put in and queries are asked of 100,000 rows, so that several threads
+# gather them: once for each allocation, or with 3000 of them at even distances. The allocation is refused. After each run it looks whether
+#   - at most one reply is `refused Memory`, and the others are those that the script without that command is answered;
+#   - the status is 1 where a reply says so or is lacking, and else 0, or 1 where all was answered and no room found to go on.
+# The last line of each of the three counts its runs. It needs a C compiler and python3, and the proved program, which .ci/run builds; KQ_PROGRAM names another one.
 set -eu
 top=$(cd "$(dirname "$0")/.." && pwd)
 program=${KQ_PROGRAM:-$top/crates/kq_console/out/kq_console}
@@ -33,6 +37,7 @@ print "feed"
 Seen | count
 FEED
 status=0
+python3 "$top/tools/faults_scripts.py" "$program" "$folder/faults.so" "$top"/tools/faults/*.kql || status=1
 python3 "$top/tools/faults_exports.py" "$program" "$folder/faults.so" || status=1
 python3 "$top/tools/faults.py" "$program" "$folder/faults.so" "$top/scripts/workers/device_log.kql" "$folder/feed.kql" "${1:-3}" || status=1
 exit $status

@@ -1,6 +1,7 @@
 mod exports;
 mod faults;
 mod feeds;
+mod parts;
 mod query;
 mod scripts;
 mod steps;

@@ -7,7 +7,7 @@ ghost use Rattle.kq_model.specs.Typed.{IsLead, IsTyped};
 ghost use Rattle.kq_value.specs.Typed.{HasTypes};
 ghost use Rattle.kq_widened.specs.Widened.{widened};
 
-use crate::batch::BatchRows;
+use crate::batch::{BatchRows, Given};
 use crate::tables::{QueryFault, Tables};
 use kq_answer::Cause;
 use kq_model::Due;
@@ -53,7 +53,11 @@ pub(crate) fn next_batch<T: Tables>(
     ensures typed { IfOk result (IsTyped (T.rules tables.now).columns) }
 {
     let rows = widen_all(alloc, tables.columns(due.target), given)?;
-    Ok(BatchRows::new(due.target, rows, tags_for(alloc, due, batch.tags())?))
+    Ok(BatchRows::new(
+        due.target,
+        Given::Rows(rows),
+        tags_for(alloc, due, batch.tags())?,
+    ))
 }
 
 fn tags_for(alloc: Global, due: Due, tags: &Tags) -> Result<Tags, Memory>

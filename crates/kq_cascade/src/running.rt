@@ -5,13 +5,13 @@ ghost use Rattle.kq_cascade.specs.Makes.{Makes, RefusesBy};
 ghost use Rattle.kq_cascade.specs.Runs.{FailsWhole, IsReady, FaultIsWhole, RunsDue};
 ghost use Rattle.kq_cascade.specs.Steps.{FallsTo, IsLaid, state_of};
 
-use crate::batch::BatchRows;
+use crate::batch::{BatchRows, Given};
 use crate::progress::Progress;
 use crate::query::{next_batch, query};
 use crate::tables::{QueryFault, Tables};
 use kq_answer::Cause;
+use kq_extent::Columns;
 use kq_model::{Due, Failures};
-use kq_rows::Rows;
 use kq_value::{Memory, Tags};
 use std::alloc::{AllocFailed, Global};
 
@@ -61,7 +61,7 @@ pub fn cascade<T: Tables>(
     tables: &T,
     limit: u64,
     table: u32,
-    rows: Rows,
+    rows: Columns,
     tags: Tags,
 ) -> Result<Derived, CascadeFault>
     requires { All (HasTypes ((T.rules tables.now).columns table)) rows }
@@ -69,7 +69,7 @@ pub fn cascade<T: Tables>(
     ensures refused { IfErr result (RefusesBy limit (T.rules tables.now) (T.gives tables.now) (record { table = table; rows = rows; tags = tags })) }
 {
     let dues = tables.dues();
-    let mut progress = Progress::new(alloc, BatchRows::new(table, rows, tags))?;
+    let mut progress = Progress::new(alloc, BatchRows::new(table, Given::Columns(rows), tags))?;
     let mut asked = Vec::new(alloc);
     while let Some(due) = progress.next(dues) {
         if asked.len() as u64 >= limit {

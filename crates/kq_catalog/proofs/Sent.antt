@@ -4,11 +4,10 @@ use denote.Param.Send.{IsSend, IsSync, sendable}
 use Rattle.std.proofs.Crossing.{crosses}
 use Rattle.kq_value.specs.contracts.text.Text as text
 use Rattle.kq_value.specs.contracts.tags.Tags as tags
-use Rattle.kq_rows.proofs.Sent.{recorded_send, recorded_sync}
 use Rattle.kq_shared.proofs.Sent.{list_send, list_sync}
 use Rattle.kq_shared.specs.contracts.list.SharedList as list
 use Rattle.kq_names.specs.contracts.names.Names as names
-use Rattle.kq_extent.proofs.Sent.{held_send, held_sync}
+use Rattle.kq_extent.proofs.Sent.{held_send, held_sync, recorded_send, recorded_sync}
 use Rattle.kq_tagged.proofs.Sent.{index_send, index_sync}
 use Rattle.kq_model.specs.contracts.batch.Noted as noted
 use Rattle.kq_model.specs.contracts.event.Event as event

@@ -1,7 +1,3 @@
 pub mod Chains
-pub mod Places
 pub mod Search
-pub mod SlotLinks
-pub mod SlotLists
-pub mod Slots
 pub mod Walks

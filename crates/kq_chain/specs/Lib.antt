@@ -1,4 +1,2 @@
 pub mod Added
 pub mod Chain
-pub mod Links
-pub mod SlotList

@@ -1,5 +1,6 @@
 pub mod Cellwise
 pub mod Coded
+pub mod Grown
 pub mod Joined
 pub mod Lent
 pub mod Marked

@@ -5,6 +5,7 @@ ghost use Rattle.kq_column.specs.Bounds.{AreBounds};
 ghost use Rattle.kq_column.specs.Cells.{cells_present, column_of, IsAtMost, IsWider};
 ghost use Rattle.kq_vector.specs.Vectors.{cells_of};
 
+use crate::builder::Builder;
 use crate::form::Form;
 use kq_rows::Rows;
 use kq_value::{Memory, Ty, Value};
@@ -44,6 +45,15 @@ impl Column {
         ensures { IfOk result (λ c. c ≡ column_of column rows.now) }
     {
         let form = Form::build(alloc, ty, rows, column)?;
+        let zone = form.zone()?;
+        Ok(Column { form, zone })
+    }
+
+    /// The cells that a builder was given.
+    pub fn built(builder: Builder) -> Result<Column, Memory>
+        ensures { IfOk result (λ c. c ≡ builder.cells) }
+    {
+        let form = builder.into_form()?;
         let zone = form.zone()?;
         Ok(Column { form, zone })
     }

@@ -1,7 +1,8 @@
 // Columns whose words repeat.
-ghost use Rattle.std.specs.Prelude.{◌≡◌, ◌<◌, ◌≤◌, ◌-◌, ◌^◌, ◌∷◌, ◌++◌, All, flat_map, get_or, length, map, take, drop, IfOk, IfSome, OnOk, Some, slice_get};
+ghost use Rattle.std.specs.Prelude.{◌≡◌, ◌<◌, ◌≤◌, ◌-◌, ◌^◌, ◌∷◌, ◌++◌, All, flat_map, get_or, length, map, take, drop, IfOk, IfSome, OnErr, OnOk, Some, slice_get};
 ghost use Rattle.kq_column.specs.Built.{AreCoded};
 ghost use Rattle.kq_column.specs.Cells.{column_of, IsWider};
+ghost use Rattle.kq_column.specs.Words.{word_at};
 ghost use Rattle.kq_vector.specs.Vectors.{cell_of, cells_of};
 
 use crate::cells::cell_at;
@@ -14,10 +15,10 @@ use std::alloc::Global;
 use std::marker::Model;
 
 // Fewer rows than these keep their values as they are.
-const FEWEST_ROWS: usize = 64;
+pub(crate) const FEWEST_ROWS: usize = 64;
 
 // A dictionary has at most so many words, and one more for each four rows.
-const FEW_WORDS: usize = 64;
+pub(crate) const FEW_WORDS: usize = 64;
 
 // So many words of a bucket are looked at, so that words whose hashes are made to meet cost no long walks. A word further back is put in again.
 const LONGEST_WALK: usize = 64;
@@ -61,22 +62,31 @@ fn find(words: &[Value], hint: &Hint, cell: &Value, hash: u64) -> Option<u32>
 }
 
 // The code of a cell, which is put among the words where it isn't found.
-fn code_of(words: &mut Vec<Value>, hint: &mut Hint, cell: &Value) -> Result<u32, Memory>
+pub(crate) fn code_of(words: &mut Vec<Value>, hint: &mut Hint, cell: &Value) -> Result<u32, Memory>
     requires { length words.old.items < 2 ^ 32 }
     ensures code { IfOk result (λ code. slice_get words.new.items code ≡ Some cell.now) }
     ensures words { OnOk result (take (length words.old.items) words.new.items ≡ words.old.items) }
+    ensures err { OnErr result (words.new.items ≡ words.old.items) }
 {
     let hash = cell.hash64();
     if let Some(code) = find(words.as_slice(), hint, cell, hash) {
         return Ok(code);
     }
     let code = words.len() as u32;
-    words.push(cell.clone_in()?)?;
+    let word = cell.clone_in()?;
     hint.add(hash)?;
+    words.push(word)?;
     Ok(code)
 }
 
 impl Dictionary {
+    pub fn from_parts(words: Vec<Value>, codes: Vec<u32>) -> Dictionary
+        requires { All (λ code. code < length words.items) codes.items }
+        ensures { result ≡ map (word_at words.items) codes.items }
+    {
+        Dictionary { words, codes }
+    }
+
     /// The cells of a column of rows; None where they repeat so little that a dictionary doesn't pay.
     pub fn build(alloc: Global, rows: &Rows, column: usize) -> Result<Option<Dictionary>, Memory>
         requires { All (IsWider column) rows.now }

@@ -1,5 +1,5 @@
 // Columns of numbers.
-ghost use Rattle.std.specs.Prelude.{◌≡◌, ◌<◌, ◌≤◌, ◌-◌, ◌^◌, ◌||◌, ◌++◌, ◌∷◌, [], All, Bool, List, flat_map, false, length, map, replicate, FitsSigned, IfOk, IfSome, IsTrue, OnOk, Some, slice_get, take, drop};
+ghost use Rattle.std.specs.Prelude.{◌≡◌, ◌<◌, ◌≤◌, ◌-◌, ◌^◌, ◌||◌, ◌++◌, ◌∷◌, [], All, Bool, List, flat_map, false, length, map, replicate, FitsSigned, IfOk, IfSome, IsTrue, OnErr, OnOk, Some, slice_get, take, drop};
 ghost use Rattle.std.specs.Int.{w32};
 ghost use Rattle.kq_value.specs.declared.ty.Ty.TheVariants.{Int};
 ghost use Rattle.kq_value.specs.declared.value.Value.{Value as Cell};
@@ -77,6 +77,13 @@ fn numbers_zone(ty: Ty, numbers: &[i64], nulls: &[bool]) -> Option<(Value, Value
 }
 
 impl Numbers {
+    pub fn from_parts(ty: Ty, numbers: Vec<i64>, nulls: Vec<bool>) -> Numbers
+        requires { AreNumbers ty nulls.items numbers.items }
+        ensures { result ≡ map (number_cell ty) (marked nulls.items numbers.items) }
+    {
+        Numbers { ty, numbers, nulls }
+    }
+
     /// The cells of a column of rows.
     pub fn build(alloc: Global, ty: Ty, rows: &Rows, column: usize) -> Result<Numbers, Memory>
         requires numbers { IsOfNumbers ty }
@@ -233,8 +240,8 @@ fn add_each(
     Ok(any)
 }
 
-// The same of one cell.
-fn add_cell(
+// The same of one cell. Where memory is refused all stays as it was.
+pub(crate) fn add_cell(
     ty: Ty,
     cell: &Value,
     numbers: &mut Vec<i64>,
@@ -242,11 +249,14 @@ fn add_cell(
 ) -> Result<bool, Memory>
     requires numbers { IsOfNumbers ty }
     requires typed { HasType ty cell.now }
-    ensures { IfOk result (λ null. (any : Bool) (cells : List Cell) → AreBuilt ty nulls.old.items numbers.old.items any cells → AreBuilt ty nulls.new.items numbers.new.items (any || null) (cells ++ cell.now ∷ [])) }
+    ensures ok { IfOk result (λ null. (any : Bool) (cells : List Cell) → AreBuilt ty nulls.old.items numbers.old.items any cells → AreBuilt ty nulls.new.items numbers.new.items (any || null) (cells ++ cell.now ∷ [])) }
+    ensures numbers { OnErr result (numbers.new.items ≡ numbers.old.items) }
+    ensures marks { OnErr result (nulls.new.items ≡ nulls.old.items) }
 {
     let number = number_of(ty, cell);
+    numbers.reserve(1)?;
     nulls.push(number.is_none())?;
-    numbers.push(number.unwrap_or(0))?;
+    numbers.push_reserved(number.unwrap_or(0));
     Ok(number.is_none())
 }
 

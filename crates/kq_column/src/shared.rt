@@ -31,6 +31,12 @@ impl Model for Shared {
 }
 
 impl Shared {
+    pub fn from_vec(cells: Vec<Value>) -> Shared
+        ensures { result ≡ cells.items }
+    {
+        Shared { cells }
+    }
+
     /// The cells of a column of rows.
     pub fn build(alloc: Global, rows: &Rows, column: usize) -> Result<Shared, Memory>
         requires { All (IsWider column) rows.now }

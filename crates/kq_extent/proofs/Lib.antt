@@ -1,6 +1,7 @@
 pub mod Across
 pub mod Bounded
 pub mod Columnwise
+pub mod Coming
 pub mod Filters
 pub mod Lent
 pub mod Named

@@ -2,13 +2,20 @@
 use denote.Param.Send.{IsSend, IsSync, sendable}
 use Rattle.std.proofs.Crossing.{crosses}
 use Rattle.kq_column.proofs.Sent.{column_send, column_sync}
-use Rattle.kq_rows.proofs.Sent.{recorded_send, recorded_sync}
 use Rattle.kq_shared.proofs.Sent.{list_send, list_sync, queue_send, queue_sync}
 use Rattle.kq_shared.specs.contracts.list.SharedList as list
 use Rattle.kq_shared.specs.contracts.queue.SharedQueue as queue
 use Rattle.kq_extent.specs.contracts.extent.Extent as extent
 use Rattle.kq_extent.specs.contracts.draft.Draft as draft
 use Rattle.kq_extent.specs.contracts.table_extents.TableExtents as held
+use Rattle.kq_extent.specs.contracts.recorded.RecordedRows as recorded
+use Rattle.kq_extent.proofs.seen.Seen.TheLaws.TheKnot as knot
+
+pub recorded_send : IsSend recorded.the_row
+recorded_send = search (knot.crosses, crosses, sendable) depth 60 fits 20000
+
+pub recorded_sync : IsSync recorded.the_row
+recorded_sync = search (knot.crosses, crosses, sendable) depth 60 fits 20000
 
 pub extent_send : IsSend extent.the_row
 extent_send = search (column_send, sendable, crosses) depth 40 fits 5000

@@ -18,9 +18,9 @@ use kq_widened::{missing_cell, widen};
 use std::alloc::Global;
 use std::marker::Model;
 
-// The columns of rows, and how many rows there are. Contracts see the list of the rows.
+/// Rows in columns. Contracts see the list of the rows.
 #[derive(Drop)]
-pub(crate) struct Columns {
+pub struct Columns {
     columns: Vec<Column>,
     count: usize,
 }
@@ -66,14 +66,14 @@ fn missing_or_null(alloc: Global, fields: &[Field], column: usize) -> Result<Val
 
 impl Columns {
     /// The rows that have these cells.
-    pub fn from_parts(columns: Vec<Column>, count: usize) -> Columns
+    pub(crate) fn from_parts(columns: Vec<Column>, count: usize) -> Columns
         requires { AreWhole columns.items count }
         ensures { result ≡ rows_across columns.items count }
     {
         Columns { columns, count }
     }
 
-    pub fn build(alloc: Global, schema: &Schema, rows: &Rows) -> Result<Columns, Memory>
+    pub(crate) fn build(alloc: Global, schema: &Schema, rows: &Rows) -> Result<Columns, Memory>
         requires { All (HasTypes schema.now) rows.now }
         ensures { IfOk result (λ c. c ≡ rows.now) }
     {
@@ -92,7 +92,7 @@ impl Columns {
     }
 
     /// The least and the greatest cell of a column, nulls aside.
-    pub fn zone(&self, column: usize) -> Option<(&Value, &Value)>
+    pub(crate) fn zone(&self, column: usize) -> Option<(&Value, &Value)>
         ensures none { IsNone result ↔ (cells_of column self.now ≡ []) }
         ensures bounds { IfSome result (λ zone. AreBounds IsAtMost (cells_of column self.now) zone.0.now zone.1.now) }
     {
@@ -104,7 +104,7 @@ impl Columns {
     }
 
     /// The cell of a row in a column, or none where there is no such column.
-    pub fn cell(&self, index: usize, column: usize) -> Result<Option<Value>, Memory>
+    pub(crate) fn cell(&self, index: usize, column: usize) -> Result<Option<Value>, Memory>
         requires { index < length self.now }
         ensures { IfOk result (λ cell. cell ≡ slice_get (row_at self.now index) column) }
     {
@@ -116,7 +116,7 @@ impl Columns {
     }
 
     /// The cell of a row in a column, or what stands there under these columns where the row has none.
-    pub fn cell_under(
+    pub(crate) fn cell_under(
         &self,
         fields: &[Field],
         index: usize,
@@ -132,7 +132,7 @@ impl Columns {
     }
 
     /// The cells that the rows from a place on, up to another, have in a column under these columns; lent, where the rows have such a column.
-    pub fn lend(
+    pub(crate) fn lend(
         &self,
         fields: &[Field],
         column: usize,
@@ -178,8 +178,18 @@ impl Columns {
         Ok(())
     }
 
+    /// The rows, side by side.
+    pub fn to_rows(&self) -> Result<Rows, Memory>
+        requires { same_width self.now }
+        ensures { IfOk result (λ rows. rows ≡ self.now) }
+    {
+        let mut rows = Rows::new(*self.columns.allocator());
+        self.push_rows(&[], &mut rows)?;
+        Ok(rows)
+    }
+
     /// Adds all rows, widened to the columns, behind others.
-    pub fn add_rows(&self, fields: &[Field], rows: &mut Rows) -> Result<(), Memory>
+    pub(crate) fn add_rows(&self, fields: &[Field], rows: &mut Rows) -> Result<(), Memory>
         requires { same_width (rows.old ++ map (widened fields.now) self.now) }
         ensures ok { OnOk result (rows.new ≡ rows.old ++ map (widened fields.now) self.now) }
         ensures err { OnErr result (rows.new ≡ rows.old) }

@@ -6,9 +6,10 @@ ghost use Rattle.kq_rows.specs.Numbered.{numbered};
 
 use crate::columns::Columns;
 use crate::extent::Extent;
+use crate::recorded::RecordedRows;
 use crate::run::Run;
 use crate::runs::Runs;
-use kq_rows::{RecordedRows, Rows};
+use kq_rows::Rows;
 use kq_value::{Memory, Schema, Tags};
 use std::alloc::Global;
 use std::marker::Model;
@@ -44,12 +45,19 @@ impl Draft {
         requires { All (HasTypes schema.now) rows.now }
         ensures { IfOk result (λ d. d ≡ record { rows = rows.now; tags = tags }) }
     {
-        let columns = Columns::build(alloc, schema, rows)?;
+        Draft::of(alloc, Columns::build(alloc, schema, rows)?, tags)
+    }
+
+    /// The same of rows that are laid out.
+    pub fn of(alloc: Global, columns: Columns, tags: Tags) -> Result<Draft, Memory>
+        ensures { IfOk result (λ d. d ≡ record { rows = columns; tags = tags }) }
+    {
         let runs = Vec::with_capacity(alloc, 1)?;
+        let recorded = RecordedRows::of(&columns);
         Ok(Draft {
             runs,
             columns,
-            recorded: RecordedRows::of(rows),
+            recorded,
             tags,
         })
     }

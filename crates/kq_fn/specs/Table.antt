@@ -227,7 +227,3 @@ when_widened false o = None
 -- the arguments as they are, or else with each int widened
 abbrev pub chosen : Function → List Ty → Option TypedCall
 chosen f ts = as_it_is (given (typing f) ts) (when_widened (widens (typing f)) (given (typing f) (map widened ts)))
-
--- the type of what a call gives
-abbrev pub result_type : Function → List Ty → Option Ty
-result_type f ts = option_map (λ (c : TypedCall). c.1) (chosen f ts)

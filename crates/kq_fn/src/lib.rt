@@ -10,4 +10,4 @@ pub use function::Function;
 pub use kq_strings::{FindKind, find_text};
 pub use kq_value::{Field, Schema, Text, Ty, Value};
 pub use names::find;
-pub use typing::{Choice, choose, result_type};
+pub use typing::{Choice, choose};

@@ -4,7 +4,7 @@ ghost use Rattle.std.specs.Option.{option_map};
 ghost use Rattle.kq_value.specs.declared.ty.Ty.TheVariants.{Text, Bool, Dynamic};
 ghost use Rattle.kq_value.specs.Ty.{same_ty};
 ghost use Rattle.kq_fn.specs.Table.{same_types, first_line, is_plain, is_comparable, all_comparable, is_text, all_texts, all_same, choice_fits};
-ghost use Rattle.kq_fn.specs.Table.{when, equal_type, text_type, choice_type, alike_type, given, widened, widens, chosen, result_type};
+ghost use Rattle.kq_fn.specs.Table.{when, equal_type, text_type, choice_type, alike_type, given, widened, widens, chosen};
 ghost use Rattle.kq_fn.specs.Seen.{signature_of, rule_of, choice_of, seen};
 
 use crate::function::Function;
@@ -39,16 +39,6 @@ pub fn choose(function: Function, args: &[Ty]) -> Option<Choice>
         widened: true,
         gives,
     })
-}
-
-/// The type of what a call with arguments of these types gives; None where no line takes them. Takes no memory.
-pub fn result_type(function: Function, args: &[Ty]) -> Option<Ty>
-    ensures { result ≡ result_type function args.now }
-{
-    match choose(function, args) {
-        Some(choice) => Some(choice.gives),
-        None => None,
-    }
 }
 
 fn widens(rule: Rule) -> bool

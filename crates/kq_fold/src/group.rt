@@ -6,7 +6,7 @@ ghost use Rattle.kq_fold.specs.Folds.{Arrives, GroupsTo};
 
 use crate::body::{aggregates_in, behind_source, keys_in, last_step};
 use kq_group::Groups;
-use kq_grouping::{Arrived, Held, gather_groups, operators, stage_in};
+use kq_grouping::{Arrived, Gatherer, Held, Summarize, operators, stage_in};
 use kq_plan::Plan;
 use kq_value::Memory;
 use std::alloc::Global;
@@ -19,12 +19,18 @@ pub enum GroupFault {
     Memory,
 }
 
-/// The groups of rows of a body's table.
-pub fn group_rows(alloc: Global, body: &Plan, rows: &Held) -> Result<Groups, GroupFault>
-    requires { IsViewBody (planned_of body.now) }
+/// The groups of rows of a body's table, which this gatherer gathers.
+pub fn group_rows<G: Gatherer>(
+    alloc: Global,
+    body: &Plan,
+    rows: &Held,
+    gatherer: &G,
+) -> Result<Groups, GroupFault>
+    requires ready { G.ready gatherer.now }
+    requires body { IsViewBody (planned_of body.now) }
     ensures { GroupsTo (planned_of body.now) rows.now result }
 {
-    match arrived(alloc, body, rows) {
+    match arrived(alloc, body, rows, gatherer) {
         Ok(Arrived::Groups(groups)) => Ok(groups),
         Ok(Arrived::Overflow) => Err(GroupFault::Overflow {
             stage: last_step(body).stage,
@@ -37,20 +43,25 @@ pub fn group_rows(alloc: Global, body: &Plan, rows: &Held) -> Result<Groups, Gro
 }
 
 // What the rows come to.
-fn arrived(alloc: Global, body: &Plan, rows: &Held) -> Result<Arrived, Memory>
-    requires { IsViewBody (planned_of body.now) }
+fn arrived<G: Gatherer>(
+    alloc: Global,
+    body: &Plan,
+    rows: &Held,
+    gatherer: &G,
+) -> Result<Arrived, Memory>
+    requires ready { G.ready gatherer.now }
+    requires body { IsViewBody (planned_of body.now) }
     ensures { IfOk result (Arrives (planned_of body.now) rows.now) }
 {
     let operators = operators(alloc, behind_source(body))?;
-    let mut flow = rows.flow(alloc, operators.as_slice(), &[], 0);
     let last = last_step(body);
-    gather_groups(
-        alloc,
-        &mut flow,
-        keys_in(last),
-        aggregates_in(last),
-        last.columns.as_slice(),
-        &[],
-        0,
-    )
+    let asked = Summarize {
+        operators: operators.as_slice(),
+        keys: keys_in(last),
+        aggregates: aggregates_in(last),
+        columns: last.columns.as_slice(),
+        lets: &[],
+        moment: 0,
+    };
+    gatherer.gather(alloc, &asked, rows)
 }

@@ -1,5 +1,6 @@
 pub mod ColumnKeys
 pub mod Columns
+pub mod Finding
 pub mod Finishing
 pub mod Gathering
 pub mod Groupings

@@ -334,3 +334,13 @@ known_places count i d h = let long = length-range_with_len 0 count in let at = 
 
 pub once_all : (keys : List Key) (ns : List ℕ) → ns ≡ range_with_len 0 (length keys) → Once keys → Once (map (row_at keys) ns)
 once_all keys ns is once = rw (is, all_rows) once
+
+-- the same of all groups of the other
+pub Merges-all : (other old new : Grouping) (ns places : List ℕ)
+    → HasAllGroups old → HasAllGroups other → new.width ≡ old.width → other.width ≡ old.width → length new.states ≡ length old.states → map shape_of other.states ≡ map shape_of old.states
+    → Once new.keys → All (HasWidth old.width) new.keys → Once other.keys → Numbers old.keys new.keys ns other.keys → places ≡ range_with_len 0 (length other.keys) → length ns ≡ length places
+    → AbsorbAll ns places other.states (length new.keys) old.states new.states → Merges other old new
+Merges-all other old new ns places whole whole2 width width2 long shapes2 once wide apart g all along absorbs =
+    let same : map (row_at other.keys) places ≡ other.keys = ap (map (row_at other.keys)) all ∙ all_rows other.keys in
+    subst (λ (o : Grouping). Merges o old new) (ap (λ (ps : List ℕ). picked ps other) all ∙ picked_all other whole2)
+    (Merges-piece other old new ns places whole width width2 long shapes2 once wide (subst Once (sym same) apart) (subst (Numbers old.keys new.keys ns) (sym same) g) along absorbs)

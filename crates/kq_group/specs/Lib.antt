@@ -1,5 +1,6 @@
 pub mod Arguments
 pub mod Columns
+pub mod Found
 pub mod Grouped
 pub mod Groups
 pub mod Keys

@@ -70,13 +70,26 @@ impl KeyTable {
         ensures numbers { IfOk result (λ v. Numbers self.old.keys self.new.keys v.items (each_alone (map (cell_as reading) values.now))) }
         ensures width { self.new.width ≡ self.old.width }
     {
-        hint.widen(alloc, self.keys.len())?;
+        if hint.widen(alloc, self.keys.len())? {
+            self.note_all(reading, hint);
+        }
         let mut numbers = Vec::with_capacity(alloc, values.len())?;
         for i in 0..values.len() {
             let number = self.number_by_hint(alloc, reading, values[i], hint)?;
             numbers.push(number)?;
         }
         Ok(numbers)
+    }
+
+    // Notes the numbers of all keys, which a hint with more buckets has forgotten.
+    fn note_all(&self, reading: Reading, hint: &mut Hint)
+        requires { IsTable self.now }
+    {
+        for number in 0..self.keys.len() {
+            if let Some(value) = value_of(self.keys.row(number), reading) {
+                hint.note(value, number as u32);
+            }
+        }
     }
 
     // Where the hint names a number, the key there is compared, and no hash is taken.
@@ -212,6 +225,16 @@ impl KeyTable {
     {
         let cell = column.cell(i)?;
         self.number(alloc, from_ref(&cell))
+    }
+}
+
+// The number that a key is, read so.
+fn value_of(key: &[Value], reading: Reading) -> Option<i64> {
+    match (reading, key) {
+        (Reading::Long, [Value::Long(value)]) => Some(*value),
+        (Reading::Moment, [Value::Moment(value)]) => Some(*value),
+        (Reading::Span, [Value::Span(value)]) => Some(*value),
+        _ => None,
     }
 }
 

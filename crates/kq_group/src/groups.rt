@@ -11,6 +11,7 @@ ghost use Rattle.kq_vector.specs.Vectors.{cells_of};
 ghost use Rattle.kq_group.specs.Grouped.{AreKeys, FitArgs, IsGrouped};
 ghost use Rattle.kq_value.specs.Same.{times};
 ghost use Rattle.kq_group.specs.Groups.{AddsRows, EndsWide, HasAllGroups, Starts, cells_from, rows_from, shape_of};
+ghost use Rattle.kq_group.specs.Found.{FoundBetween};
 ghost use Rattle.kq_group.specs.Keys.{IsTable, key_hash};
 ghost use Rattle.kq_group.specs.Merges.{Lacks, Merges, picked};
 
@@ -233,7 +234,7 @@ impl Groups {
         requires once { (k : List Value) → times k (map (row_at other.now.keys) places.now) ≤ 1 }
         ensures { OnOk result (Merges (picked places.now other.now) self.old self.new) }
     {
-        let numbers = self.keys.numbers_at(alloc, &other.keys.keys, places)?;
+        let numbers = self.keys.numbers_at(alloc, &other.keys, places)?;
         let count = self.keys.keys.len();
         absorb_all(
             alloc,
@@ -242,6 +243,49 @@ impl Groups {
             numbers.as_slice(),
             other.states.as_slice(),
             places,
+        )
+    }
+
+    /// Where the groups of another are among these, by their keys: those whose numbers go from one up to another. It changes nothing, so that several threads may
+    /// each look for some.
+    pub fn find_between(
+        &self,
+        alloc: Global,
+        other: &Groups,
+        from: usize,
+        to: usize,
+    ) -> Result<Vec<Option<u32>>, Memory>
+        requires order { from ≤ to }
+        requires within { to ≤ length other.now.keys }
+        ensures { IfOk result (λ v. FoundBetween self.now.keys other.now.keys from to v.items) }
+    {
+        self.keys.find_between(alloc, &other.keys, from, to)
+    }
+
+    /// As `merge`, where it is known which of the other's groups are among these.
+    pub fn merge_found(
+        &mut self,
+        alloc: Global,
+        other: &Groups,
+        found: &[Option<u32>],
+    ) -> Result<(), Memory>
+        requires whole { HasAllGroups self.old }
+        requires other_whole { HasAllGroups other.now }
+        requires width { other.now.width ≡ self.old.width }
+        requires shapes { map shape_of other.now.states ≡ map shape_of self.old.states }
+        requires found { FoundBetween self.old.keys other.now.keys 0 (length other.now.keys) found.now }
+        ensures { OnOk result (Merges other.now self.old self.new) }
+    {
+        let places = all_places(alloc, other.len())?;
+        let numbers = self.keys.numbers_found(alloc, &other.keys, found)?;
+        let count = self.keys.keys.len();
+        absorb_all(
+            alloc,
+            self.states.as_mut_slice(),
+            count,
+            numbers.as_slice(),
+            other.states.as_slice(),
+            places.as_slice(),
         )
     }
 

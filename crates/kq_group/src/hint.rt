@@ -22,20 +22,23 @@ impl Hint {
         }
     }
 
-    // Has more buckets where there are as many keys. What was noted is gone then.
-    pub(crate) fn widen(&mut self, alloc: Global, keys: usize) -> Result<(), Memory> {
+    // Has more buckets where there are as many keys. Answers whether what was noted is gone.
+    pub(crate) fn widen(&mut self, alloc: Global, keys: usize) -> Result<bool, Memory> {
         let buckets = self.numbers.len();
         if buckets == 0 {
             self.numbers = vec![in alloc; u32::MAX; FIRST_BUCKETS]?;
         } else if buckets <= keys && buckets < MOST_BUCKETS {
             self.numbers = vec![in alloc; u32::MAX; buckets * 4]?;
+        } else {
+            return Ok(false);
         }
-        Ok(())
+        Ok(true)
     }
 
+    // By the upper bits of the product, which part numbers in a row; its middle bits let many of them share a bucket.
     fn bucket(&self, value: i64) -> usize {
         let spread = value.cast_unsigned().wrapping_mul(SPREAD) >> 32;
-        spread as usize & self.numbers.len().wrapping_sub(1)
+        (spread.wrapping_mul(self.numbers.len() as u64) >> 32) as usize
     }
 
     pub(crate) fn of(&self, value: i64) -> u32 {

@@ -6,6 +6,7 @@ mod argument;
 mod cells;
 mod codes;
 mod column_keys;
+mod found;
 mod gathered;
 mod groups;
 mod hint;

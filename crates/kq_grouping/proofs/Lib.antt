@@ -2,6 +2,7 @@ pub mod AnyOrder
 pub mod ArgumentColumns
 pub mod Arguments
 pub mod Columns
+pub mod Coming
 pub mod Joining
 pub mod KeyColumns
 pub mod Pieces

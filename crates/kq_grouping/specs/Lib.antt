@@ -3,6 +3,7 @@ pub mod Grouping
 pub mod Arriving
 pub mod Bodies
 pub mod Joined
+pub mod Pipelines
 pub mod Summaries
 pub mod kq_agg
 pub mod kq_stretch

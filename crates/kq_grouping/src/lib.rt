@@ -1,21 +1,27 @@
-//! Groups of the rows that come through row operators: their keys, the arguments of aggregates over a piece of rows, and the groups that all pieces come to, in one thread or by whoever gathers some of the rows beside others, of which what each came to is joined. What a view's body is, and when groups stand for it, is defined here.
+//! Groups of the rows that come through row operators: their keys, the arguments of aggregates over a piece of rows, and the groups that all pieces come to, in one thread or by whoever gathers some of the rows beside others, of which what each came to is joined. So are the rows that come, and their number. What a view's body is, and when groups stand for it, is defined here.
 //! How rows come through operators is left to `kq_stretch` and `kq_lent`, what groups keep to `kq_group`, and what becomes of them to the crates above.
 #![tactic(auto)]
 
 mod arriving;
 mod both;
+mod collecting;
+mod counting;
 mod gatherer;
 mod grouping;
 mod laws;
+mod pipeline;
 mod steps;
 mod summarize;
 
 pub use arriving::{Arrived, gather_groups};
 pub use both::joined;
+pub use collecting::{Collected, collect_between, collected_together};
+pub use counting::{Counted, count_between, counted_together};
 pub use gatherer::{Alone, Gatherer, gather_between};
 pub use grouping::{add_piece, typed};
 pub use kq_group::Groups;
 pub use kq_lent::{Held, Relation, eval_row};
 pub use laws::groups_have_no_order;
+pub use pipeline::Pipeline;
 pub use steps::{operators, stage_in};
 pub use summarize::Summarize;

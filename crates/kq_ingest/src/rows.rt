@@ -1,8 +1,9 @@
-// The records of a body, read as rows.
-ghost use Rattle.std.specs.Prelude.{◌≡◌, ◌≢◌, ◌<◌, ◌^◌, [], ◌∷◌, ◌++◌, true, false, length, Some, None, IfOk, IfErr, OnOk};
+// The records of a body, read as rows that lie in columns.
+ghost use Rattle.std.specs.Prelude.{◌≡◌, ◌≢◌, ◌<◌, [], true, false, length, Some, None, IfOk, IfErr, OnOk};
 ghost use Rattle.std.specs.List.{All};
 ghost use Rattle.csv.specs.Reading.{ReadRecord, error_kind, stops_reader};
 ghost use Rattle.csv.specs.Records.{fields_of};
+ghost use Rattle.kq_extent.specs.Coming.{types_of, with_row};
 ghost use Rattle.kq_value.specs.Typed.{HasTypes};
 ghost use Rattle.kq_ingest.specs.Reading.{HasText, IsPlain, known};
 ghost use Rattle.kq_ingest.specs.Ingestion.{IsFaultAt, first_fault, is_wide, row_of, rows_of};
@@ -12,7 +13,7 @@ use crate::fault::IngestFault;
 use crate::shared::{Kept, Texts};
 use csv::{Error, ErrorKind, Reader, ReaderBuilder, StringRecord};
 use json::Scratch;
-use kq_rows::Rows;
+use kq_extent::{Columns, ColumnsBuilder};
 use kq_value::{Memory, Schema, Value};
 use std::alloc::Global;
 
@@ -34,24 +35,24 @@ fn fill_row(
     Ok(())
 }
 
-// Adds the record's row, unless it is too wide or one row too many. The row is read into `row` and moves on from there.
+// Adds the record's row, unless it is too wide or one row too many. The row is read into `row`, and its cells go to their columns from there.
 fn add_row(
     alloc: Global,
     kept: &mut Kept,
-    rows: &mut Rows,
+    rows: ColumnsBuilder,
     row: &mut Vec<Value>,
     cells: &StringRecord,
     schema: &Schema,
     skip_first: bool,
     limit: u64,
-) -> Result<(), IngestFault>
-    requires typed { All (HasTypes schema.now) rows.old }
+) -> Result<ColumnsBuilder, IngestFault>
+    requires types { rows.types ≡ types_of schema.now }
     requires empty { row.old.items ≡ [] }
-    ensures added { OnOk result (rows.new ≡ rows.old ++ row_of schema.now (fields_of cells.now) ∷ []) }
+    ensures added { IfOk result (λ more. more ≡ with_row rows (row_of schema.now (fields_of cells.now))) }
     ensures left { OnOk result (row.new.items ≡ []) }
     ensures narrow { OnOk result (is_wide schema.now (fields_of cells.now) ≡ false) }
-    ensures room { OnOk result (length rows.old < limit) }
-    ensures fault { IfErr result (λ e. IsFaultAt schema.now skip_first limit (length rows.old) (fields_of cells.now) e) }
+    ensures room { OnOk result (length rows.rows < limit) }
+    ensures fault { IfErr result (λ e. IsFaultAt schema.now skip_first limit (length rows.rows) (fields_of cells.now) e) }
 {
     let before = rows.len() as u64;
     if cells.len() > schema.len() {
@@ -63,8 +64,9 @@ fn add_row(
         return Err(IngestFault::Full { limit });
     }
     fill_row(alloc, kept, row, cells, schema)?;
-    rows.push_from(row)?;
-    Ok(())
+    let more = rows.push(row.as_slice())?;
+    row.clear();
+    Ok(more)
 }
 
 // Records of any number of cells, from a text, are refused for want of memory alone. A slice has no error of its own to give, but
@@ -93,7 +95,7 @@ fn read_record(reader: &mut Reader<&[u8]>, cells: &mut StringRecord) -> Result<b
     }
 }
 
-/// Reads the rows of a body of CSV as RFC 4180 has it, with any number of cells in a record. Where `skip_first` is set,
+/// Reads the rows of a body of CSV as RFC 4180 has it, with any number of cells in a record, into columns. Where `skip_first` is set,
 /// the first record is no row, whatever it holds, but it counts in the number of a row that is too wide.
 ///
 /// An error is the first in the order of the records, unless it is want of memory.
@@ -103,7 +105,7 @@ pub fn read_rows(
     schema: &Schema,
     skip_first: bool,
     limit: u64,
-) -> Result<Rows, IngestFault>
+) -> Result<Columns, IngestFault>
     ensures rows { IfOk result (λ rows. rows ≡ rows_of schema.now skip_first body.now) }
     ensures typed { IfOk result (λ rows. All (HasTypes schema.now) rows) }
     ensures sound { OnOk result (first_fault schema.now skip_first limit body.now ≡ None) }
@@ -119,17 +121,17 @@ pub fn read_rows(
         scratch: Scratch::new(alloc),
         entries: 0,
     };
-    let mut rows = Rows::new(alloc);
+    let mut rows = ColumnsBuilder::new(alloc, schema)?;
     let mut row = Vec::new(alloc);
     let mut skip = skip_first;
     while read_record(&mut reader, &mut cells)? {
         if skip {
             skip = false;
         } else {
-            add_row(
-                alloc, &mut kept, &mut rows, &mut row, &cells, schema, skip_first, limit,
+            rows = add_row(
+                alloc, &mut kept, rows, &mut row, &cells, schema, skip_first, limit,
             )?;
         }
     }
-    Ok(rows)
+    Ok(rows.finish()?)
 }

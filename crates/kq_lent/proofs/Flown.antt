@@ -21,17 +21,17 @@ module _ (os : List Rowwise) (s : Surroundings) where
   in_parts old new part read = ap (ran os s) read.rows ∙ ran_append os s part new.rows
 
   -- what came of a part
-  pub part_came : (old new : UnreadView) (part out : List Row) → IsOpen os old part new → came out ≡ ran os s part → Flows (flowing os s old) out (flowing os s new)
+  pub part_came : (old new : UnreadView) (part out : List Row) → IsOpen os s old part new → came out ≡ ran os s part → Flows (flowing os s old) out (flowing os s new)
   part_came old new part out read is = record {
-    to_come = read.comes s ∙ ap (λ (r : Ran). joined r (ran os s new.rows)) (sym is);
+    to_come = read.comes ∙ ap (λ (r : Ran). joined r (ran os s new.rows)) (sym is);
     fewer = read.fewer;
     wide = ran_wide os s old.width part out read.wide (sym is);
     width = ap (width_in_end os) read.width;
   }
 
   -- an operator fails on a part
-  pub part_failed : (old new : UnreadView) (part : List Row) (n m : ℕ) → IsOpen os old part new → failed n ≡ ran os s part → joined (failed n) (ran os s new.rows) ≡ failed m → ran os s old.rows ≡ failed m
-  part_failed old new part n m read is rest = read.comes s ∙ ap (λ (r : Ran). joined r (ran os s new.rows)) (sym is) ∙ rest
+  pub part_failed : (old new : UnreadView) (part : List Row) (n m : ℕ) → IsOpen os s old part new → failed n ≡ ran os s part → joined (failed n) (ran os s new.rows) ≡ failed m → ran os s old.rows ≡ failed m
+  part_failed old new part n m read is rest = read.comes ∙ ap (λ (r : Ran). joined r (ran os s new.rows)) (sym is) ∙ rest
 
   -- the least number behind one part more
   pub least_next : (old new : UnreadView) (part : List Row) (n m : ℕ) → IsRead old part new → joined (failed n) (ran os s part) ≡ failed m → joined (failed n) (ran os s old.rows) ≡ joined (failed m) (ran os s new.rows)
@@ -52,31 +52,28 @@ module _ (os : List Rowwise) (s : Surroundings) where
 
 -- ---- parts that are passed over
 
-abbrev Same : List Rowwise → UnreadView → UnreadView → Type 0
-Same os old new = (s : Surroundings) → ran os s old.rows ≡ ran os s new.rows
-
 -- nothing comes of what has been passed over
-pub record IsPassed (os : List Rowwise) (old new : UnreadView) : Type 0 where
-  pub same : Same os old new
+pub record IsPassed (os : List Rowwise) (s : Surroundings) (old new : UnreadView) : Type 0 where
+  pub same : ran os s old.rows ≡ ran os s new.rows
   pub fewer : length new.rows ≤ length old.rows
   pub width : new.width ≡ old.width
 
-pub passed_first : (os : List Rowwise) (all : UnreadView) → IsPassed os all all
-passed_first os all = record { same = λ s. refl; fewer = omega arith; width = refl }
+pub passed_first : (os : List Rowwise) (s : Surroundings) (all : UnreadView) → IsPassed os s all all
+passed_first os s all = record { same = refl; fewer = omega arith; width = refl }
 
-pub passed_more : (os : List Rowwise) (old between new : UnreadView) (part : List Row) → IsPassed os old between → IsRead between part new → LeavesNothing os part → IsPassed os old new
-passed_more os old between new part passed read nothing = record {
-  same = λ s. passed.same s ∙ in_parts os s between new part read ∙ ap (λ (r : Ran). joined r (ran os s new.rows)) (nothing s) ∙ joined_first (ran os s new.rows);
+pub passed_more : (os : List Rowwise) (s : Surroundings) (old between new : UnreadView) (part : List Row) → IsPassed os s old between → IsRead between part new → LeavesNothing os s part → IsPassed os s old new
+passed_more os s old between new part passed read nothing = record {
+  same = passed.same ∙ in_parts os s between new part read ∙ ap (λ (r : Ran). joined r (ran os s new.rows)) nothing ∙ joined_first (ran os s new.rows);
   fewer = let n = ap length read.rows in omega (arith, n, length-append part new.rows, passed.fewer);
   width = read.width ∙ passed.width;
 }
 
-pub passed_all : (os : List Rowwise) (old between : UnreadView) → IsPassed os old between → between.rows ≡ [] → LeavesNothing os old.rows
-passed_all os old between passed none s = passed.same s ∙ none_left os s between.rows none
+pub passed_all : (os : List Rowwise) (s : Surroundings) (old between : UnreadView) → IsPassed os s old between → between.rows ≡ [] → LeavesNothing os s old.rows
+passed_all os s old between passed none = passed.same ∙ none_left os s between.rows none
 
-pub opened : (os : List Rowwise) (old between new : UnreadView) (part : List Row) → IsPassed os old between → IsRead between part new → IsOpen os old part new
-opened os old between new part passed read = record {
-  comes = λ s. passed.same s ∙ in_parts os s between new part read;
+pub opened : (os : List Rowwise) (s : Surroundings) (old between new : UnreadView) (part : List Row) → IsPassed os s old between → IsRead between part new → IsOpen os s old part new
+opened os s old between new part passed read = record {
+  comes = passed.same ∙ in_parts os s between new part read;
   fewer = let n = ap length read.rows in omega (arith, n, length-append part new.rows, read.some, passed.fewer);
   wide = subst (λ (w : ℕ). All (HasWidth w) part) passed.width read.wide;
   width = read.width ∙ passed.width;

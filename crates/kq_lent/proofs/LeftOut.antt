@@ -40,6 +40,7 @@ use Rattle.kq_stretch.specs.Ran.{later, ran, staged}
 use Rattle.kq_stretch.proofs.Laws.{ran_none}
 use Rattle.kq_lent.specs.Lent.{rows_of}
 use Rattle.kq_lent.specs.Ruled.{Answers, Compares, Drops, FirstKeeps, IsNotMet, IsPlain, KeepsNone, LeavesNothing, LiesOutside, MeetNone, MeetsNoneBetween, MissingIsNull, answered}
+use Rattle.kq_lent.specs.Settled.{MeansAs}
 use Rattle.kq_lent.specs.declared.ruled.Comparison.{Comparison}
 use Rattle.kq_lent.proofs.Bounded.{before_all, behind_all, kinds_up, none_above, none_at_least, none_at_most, none_below}
 
@@ -244,18 +245,18 @@ filtered_none e s (r ∷ rows) all =
     (λ i. and_then (here.1 i) (λ v. and_then (rest i) (λ others. Is (cond (is_yes v) (r ∷ others) others))))
     ∙ (λ i. Is (cond (here.2 i) (r ∷ []) []))
 
-pub left_out : (os : List Rowwise) (rows : List Row) → FirstKeeps os (λ e. KeepsNone e rows) → LeavesNothing os rows
-left_out [] rows none s = absurd none
-left_out (keeping e ∷ os) rows none s = ap (λ (o : Computed (List Row)). staged o (ran os s)) (filtered_none e s rows (none s)) ∙ ap later (ran_none os s)
-left_out (making es ∷ os) rows none s = absurd none
-left_out (spreading e at t ∷ os) rows none s = absurd none
+-- the first condition means the same as a term that is true for none of the rows
+pub left_out : (os : List Rowwise) (s : Surroundings) (rows : List Row) (e : Term) → FirstKeeps os (MeansAs s e) → KeepsNone e rows → LeavesNothing os s rows
+left_out [] s rows e same none = absurd same
+left_out (keeping t ∷ os) s rows e same none =
+    let drops : All (Drops t s) rows = λ k d within. let p = none s k d within in (p.0, same (get_or rows k d) ∙ p.1, p.2) in
+    ap (λ (o : Computed (List Row)). staged o (ran os s)) (filtered_none t s rows drops) ∙ ap later (ran_none os s)
+left_out (making es ∷ os) s rows e same none = absurd same
+left_out (spreading t at ty ∷ os) s rows e same none = absurd same
 
 -- what all rows are, those of a piece are
-pub piece_out : (os : List Rowwise) (rows : List Row) (from to : ℕ) → FirstKeeps os (λ e. KeepsNone e rows) → FirstKeeps os (λ e. KeepsNone e (piece_of rows from to))
-piece_out [] rows from to none = none
-piece_out (keeping e ∷ os) rows from to none = λ s. All-take (Drops e s) (to - from) (drop from rows) (All-drop (Drops e s) from rows (none s))
-piece_out (making es ∷ os) rows from to none = none
-piece_out (spreading e at t ∷ os) rows from to none = none
+pub piece_out : (e : Term) (rows : List Row) (from to : ℕ) → KeepsNone e rows → KeepsNone e (piece_of rows from to)
+piece_out e rows from to none = λ s. All-take (Drops e s) (to - from) (drop from rows) (All-drop (Drops e s) from rows (none s))
 
 -- of the condition that stands first
 pub first_so : (os : List Rowwise) (e : Term) (So : Term → Type 0) → FirstKeeps os (λ t. t ≡ e) → So e → FirstKeeps os So

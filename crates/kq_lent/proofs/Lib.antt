@@ -1,9 +1,11 @@
 mod Bounded
 mod Conjunct
+mod Constants
 mod Firsts
 mod Flown
 mod LeftOut
 mod Picked
+mod Settling
 mod Sought
 mod Walks
 mod Widths

@@ -1,3 +1,4 @@
+pub mod Constant
 pub mod Flowing
 pub mod Gathered
 pub mod Held
@@ -5,6 +6,7 @@ pub mod Lent
 pub mod Opened
 pub mod ReadParts
 pub mod Ruled
+pub mod Settled
 pub mod Sources
 pub mod Unread
 pub mod Yielded

@@ -14,13 +14,13 @@ use Rattle.kq_lent.specs.Unread.{UnreadView}
 use Rattle.kq_lent.specs.declared.source.Source.{Source}
 
 -- a part has been read, so that what operators make of all that was left is what they make of it and of what is left now
-pub record IsOpen (os : List Rowwise) (old : UnreadView) (part : List Row) (new : UnreadView) : Type 0 where
-  pub comes : (s : Surroundings) → ran os s old.rows ≡ joined (ran os s part) (ran os s new.rows)
+pub record IsOpen (os : List Rowwise) (s : Surroundings) (old : UnreadView) (part : List Row) (new : UnreadView) : Type 0 where
+  pub comes : ran os s old.rows ≡ joined (ran os s part) (ran os s new.rows)
   pub fewer : length new.rows < length old.rows
   pub wide : All (HasWidth old.width) part
   pub width : new.width ≡ old.width
 
 -- such a part has been read, or nothing comes of all that was left
-abbrev pub ReadsOpen : List Rowwise → UnreadView → UnreadView → Option (Piece Source) → Type 0
-ReadsOpen os old new (Some part) = IsOpen os old (rows_in source_rows part) new
-ReadsOpen os old new None = LeavesNothing os old.rows
+abbrev pub ReadsOpen : List Rowwise → Surroundings → UnreadView → UnreadView → Option (Piece Source) → Type 0
+ReadsOpen os s old new (Some part) = IsOpen os s old (rows_in source_rows part) new
+ReadsOpen os s old new None = LeavesNothing os s old.rows

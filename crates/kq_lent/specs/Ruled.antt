@@ -1,5 +1,5 @@
 -- Rows of which a first condition keeps none.
-use Rattle.std.specs.Prelude.{◌≡◌, ◌<◌, ℕ, Bool, false, true, List, [], ◌∷◌, Some}
+use Rattle.std.specs.Prelude.{◌≡◌, ◌<◌, ℕ, Bool, false, true, List, [], ◌∷◌, Option, Some, None}
 use Rattle.std.specs.List.{All}
 use Rattle.kq_value.specs.declared.schema.Field.{Field}
 use Rattle.kq_value.specs.declared.value.Value.{Value}
@@ -11,10 +11,11 @@ use Rattle.kq_arithmetic.specs.Comparing.{are_same, at_least, at_most, equal, gr
 use Rattle.kq_arithmetic.specs.Logic.{is_yes}
 use Rattle.kq_column.specs.Cells.{IsAtMost}
 use Rattle.kq_computed.specs.Computed.{Is}
+use Rattle.kq_expr.specs.declared.expr.Expr.{Expr}
 use Rattle.kq_expr.specs.declared.expr.Link.{Link}
 use Rattle.kq_expr.specs.declared.expr.Link.TheVariants as link
 use Rattle.kq_expr.specs.declared.operation.Operation.TheVariants as operation
-use Rattle.kq_expr.specs.Terms.{Term, and_term, call, column, literal, no_term}
+use Rattle.kq_expr.specs.Terms.{Term, and_term, call, column, literal, no_term, term_of}
 use Rattle.kq_fn.specs.declared.function.Function.{Function}
 use Rattle.kq_widened.specs.Widened.{missing_at}
 use Rattle.kq_stretch.specs.kq_piecewise.Operators.{Row}
@@ -97,5 +98,10 @@ FirstKeeps (making es ∷ os) So = ⊥
 FirstKeeps (spreading e at t ∷ os) So = ⊥
 
 -- nothing comes of the rows
-abbrev pub LeavesNothing : List Rowwise → List Row → Type 0
-LeavesNothing os rows = (s : Surroundings) → ran os s rows ≡ came []
+abbrev pub LeavesNothing : List Rowwise → Surroundings → List Row → Type 0
+LeavesNothing os s rows = ran os s rows ≡ came []
+
+-- there is a condition, which keeps none of the rows
+abbrev pub IsRuledBy : Option Expr → List Row → Type 0
+IsRuledBy (Some e) rows = KeepsNone (term_of e) rows
+IsRuledBy None rows = ⊥

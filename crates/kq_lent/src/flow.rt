@@ -5,15 +5,17 @@ ghost use Rattle.kq_stretch.specs.kq_piecewise.Pieces.{piece_of};
 ghost use Rattle.kq_stretch.specs.kq_scalar.Val.{surroundings};
 ghost use Rattle.kq_stretch.specs.Operators.{rowwise_of};
 ghost use Rattle.kq_stretch.specs.Pieces.{rows_in as piece_rows};
-ghost use Rattle.kq_stretch.specs.Ran.{failure_of, ran};
+ghost use Rattle.kq_stretch.specs.Ran.{failure_of, ran, width_in_end};
 ghost use Rattle.kq_lent.specs.Flowing.{IsLeastToFail};
 ghost use Rattle.kq_lent.specs.Held.{IsReadable, rows_in};
 ghost use Rattle.kq_lent.specs.Opened.{ReadsOpen};
 ghost use Rattle.kq_lent.specs.Sources.{source_rows};
+ghost use Rattle.kq_lent.specs.Unread.{width_of};
 ghost use Rattle.kq_lent.specs.Yielded.{Yields};
 
 use crate::place::Place;
 use crate::ruled::is_ruled_out;
+use crate::settled::first_settled;
 use crate::source::Source;
 use crate::unread::Unread;
 use kq_stretch::{Operator, Passed, Piece, pass};
@@ -65,7 +67,8 @@ impl<'a> Flow<'a> {
         now: i64,
     ) -> Flow<'a>
         requires { IsReadable place.now }
-        ensures { result.to_come ≡ ran (map rowwise_of operators.now) (surroundings now lets.now) (piece_of (rows_in place.now) from to) }
+        ensures rows { result.to_come ≡ ran (map rowwise_of operators.now) (surroundings now lets.now) (piece_of (rows_in place.now) from to) }
+        ensures width { result.width ≡ width_in_end (map rowwise_of operators.now) (width_of (rows_in place.now)) }
     {
         Flow {
             alloc,
@@ -81,7 +84,13 @@ impl<'a> Flow<'a> {
     pub fn next(&mut self) -> Result<Next<'a>, Memory>
         ensures { IfOk result (Yields self.old self.new) }
     {
-        match next_open(self.operators, &mut self.unread) {
+        match next_open(
+            self.alloc,
+            self.operators,
+            &mut self.unread,
+            self.lets,
+            self.now,
+        )? {
             Some(part) => match pass(self.alloc, self.operators, part, self.lets, self.now)? {
                 Passed::Rows(piece) => Ok(Next::Piece(piece)),
                 Passed::Failed(n) => {
@@ -116,15 +125,23 @@ impl<'a> Flow<'a> {
 }
 
 // The next part of which something may come.
-fn next_open<'a>(operators: &[Operator], unread: &mut Unread<'a>) -> Option<Piece<Source<'a>>>
-    ensures { ReadsOpen (map rowwise_of operators.now) unread.old unread.new result }
+fn next_open<'a>(
+    alloc: Global,
+    operators: &[Operator],
+    unread: &mut Unread<'a>,
+    lets: &[Value],
+    now: i64,
+) -> Result<Option<Piece<Source<'a>>>, Memory>
+    ensures { IfOk result (ReadsOpen (map rowwise_of operators.now) (surroundings now lets.now) unread.old unread.new) }
 {
+    let settled = first_settled(alloc, operators, lets, now)?;
+    let first = &settled;
     while let Some(part) = unread.next_part() {
-        if !is_ruled_out(operators, &part) {
-            return Some(part);
+        if !is_ruled_out(first, &part) {
+            return Ok(Some(part));
         }
     }
-    None
+    Ok(None)
 }
 
 // The least number of an operator that fails on rows, where the one with this number fails on a row before those that are left.

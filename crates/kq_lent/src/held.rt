@@ -6,7 +6,8 @@ ghost use Rattle.kq_lent.specs.Gathered.{gathered};
 ghost use Rattle.kq_extent.specs.Wide.{wide_held};
 ghost use Rattle.kq_lent.specs.Lent.{AreLent, rows_held};
 ghost use Rattle.kq_stretch.specs.Operators.{rowwise_of};
-ghost use Rattle.kq_stretch.specs.Ran.{ran};
+ghost use Rattle.kq_stretch.specs.Ran.{ran, width_in_end};
+ghost use Rattle.kq_lent.specs.Unread.{width_of};
 
 use crate::first::{first_records, first_rows};
 use crate::flow::Flow;
@@ -97,7 +98,8 @@ impl Held {
         lets: &'a [Value],
         now: i64,
     ) -> Flow<'a>
-        ensures { result.to_come ≡ ran (map rowwise_of operators.now) (surroundings now lets.now) (piece_of self.now from to) }
+        ensures rows { result.to_come ≡ ran (map rowwise_of operators.now) (surroundings now lets.now) (piece_of self.now from to) }
+        ensures width { result.width ≡ width_in_end (map rowwise_of operators.now) (width_of self.now) }
     {
         Flow::new(alloc, &self.place, from, to, operators, lets, now)
     }

@@ -2,6 +2,7 @@
 //! What operators make of a part is left to `kq_stretch`, and which extents a query reads to the crates above.
 #![tactic(auto)]
 
+mod constant;
 mod first;
 mod flow;
 mod gathered;
@@ -10,12 +11,14 @@ mod lending;
 mod place;
 mod records;
 mod ruled;
+mod settled;
 mod source;
 mod unread;
 
 pub use flow::{Flow, Next};
 pub use gathered::Gathered;
 pub use held::Held;
+pub use kq_extent::RecordedRows;
 pub use kq_stretch::{
     Operator, RangeFault, Relation, Vector, append_arm, copy_row, distinct_rows, eval_row,
     map_rows, range_rows, vector_over,

@@ -2,17 +2,16 @@
 ghost use Rattle.std.specs.Prelude.{◌≡◌, ◌∷◌, [], IfSome, false, map, true};
 ghost use Rattle.kq_expr.specs.Terms.{call, chained, column as plain, link_of, literal, term_of, terms_of};
 ghost use Rattle.kq_fn.specs.declared.function.Function.TheVariants as f;
-ghost use Rattle.kq_stretch.specs.Operators.{rowwise_of};
 ghost use Rattle.kq_stretch.specs.Pieces.{rows_in as piece_rows};
 ghost use Rattle.kq_lent.specs.Lent.{extent_of, rows_of};
-ghost use Rattle.kq_lent.specs.Ruled.{Answers, AreEnds, Compares, FirstKeeps, IsConjunct, IsJudged, IsPlain, KeepsNone, LeavesNothing, LiesOutside, MeetNone, MeetsNoneBetween, MissingIsNull};
+ghost use Rattle.kq_lent.specs.Ruled.{Answers, AreEnds, Compares, IsConjunct, IsJudged, IsPlain, IsRuledBy, KeepsNone, LiesOutside, MeetNone, MeetsNoneBetween, MissingIsNull};
 ghost use Rattle.kq_lent.specs.Sources.{source_rows};
 
 use crate::records::Records;
 use crate::source::Source;
 use kq_expr::{Expr, Link, Operation};
 use kq_fn::Function;
-use kq_stretch::{Operator, Piece};
+use kq_stretch::Piece;
 use kq_value::{Field, Ty, Value, ZoneOp};
 
 // A comparison of the cells of a column with a value.
@@ -23,38 +22,32 @@ pub(crate) struct Comparison<'a> {
     pub value: &'a Value,
 }
 
-// Whether nothing comes of the rows of a part. Only the first operator is asked: an operator before the one that drops a row may
+// Whether the first condition keeps none of the rows of a part. No other operator is asked: one before the one that drops a row may
 // overflow on it.
-pub(crate) fn is_ruled_out(operators: &[Operator], part: &Piece<Source>) -> bool
-    ensures { result ≡ true → LeavesNothing (map rowwise_of operators.now) (piece_rows source_rows part.now) }
+pub(crate) fn is_ruled_out(first: &Option<Expr>, part: &Piece<Source>) -> bool
+    ensures { result ≡ true → IsRuledBy first.now (piece_rows source_rows part.now) }
+{
+    match first {
+        Some(condition) => keeps_none_of(condition, part),
+        None => false,
+    }
+}
+
+fn keeps_none_of(condition: &Expr, part: &Piece<Source>) -> bool
+    ensures { result ≡ true → KeepsNone (term_of condition.now) (piece_rows source_rows part.now) }
 {
     match part {
-        Piece::Part(source, _, _) => keep_none(operators, source),
+        Piece::Part(source, _, _) => keeps_none_in(condition, source),
         Piece::Chosen(..) | Piece::Own(..) => false,
     }
 }
 
-fn keep_none(operators: &[Operator], source: &Source) -> bool
-    ensures { result ≡ true → FirstKeeps (map rowwise_of operators.now) (λ e. KeepsNone e (source_rows source.now)) }
+fn keeps_none_in(condition: &Expr, source: &Source) -> bool
+    ensures { result ≡ true → KeepsNone (term_of condition.now) (source_rows source.now) }
 {
     match source {
-        Source::Extent(records) => match first_condition(operators) {
-            Some(condition) => keeps_none(condition, records),
-            None => false,
-        },
+        Source::Extent(records) => keeps_none(condition, records),
         Source::Rows(_) => false,
-    }
-}
-
-fn first_condition<'a>(operators: &[Operator<'a>]) -> Option<&'a Expr>
-    ensures { IfSome result (λ e. FirstKeeps (map rowwise_of operators.now) (λ t. t ≡ term_of e.now)) }
-{
-    if operators.is_empty() {
-        return None;
-    }
-    match operators[0] {
-        Operator::Keep(condition) => Some(condition),
-        Operator::Make(_) | Operator::Spread(..) => None,
     }
 }
 
@@ -95,30 +88,8 @@ fn link_judged(link: &Link<Expr>, records: &Records) -> Option<bool>
     }
 }
 
-// Whether the condition is true for no record, where it is one that never overflows: two that are joined by `and`, or one.
+// Whether the condition is true for no record, where it is one that never overflows.
 fn judged(condition: &Expr, records: &Records) -> Option<bool>
-    ensures { IfSome result (IsJudged (term_of condition.now) (rows_of (extent_of records.now))) }
-{
-    match condition {
-        Expr::Call(Function::And, operands) => both_judged(operands.as_slice(), records),
-        _ => one_judged(condition, records),
-    }
-}
-
-fn both_judged(operands: &[Expr], records: &Records) -> Option<bool>
-    ensures { IfSome result (IsJudged (call f.And (terms_of (map term_of operands.now))) (rows_of (extent_of records.now))) }
-{
-    match operands {
-        [first, second] => {
-            let none = one_judged(first, records)?;
-            let more = one_judged(second, records)?;
-            Some(none || more)
-        }
-        _ => None,
-    }
-}
-
-fn one_judged(condition: &Expr, records: &Records) -> Option<bool>
     ensures { IfSome result (IsJudged (term_of condition.now) (rows_of (extent_of records.now))) }
 {
     match condition {

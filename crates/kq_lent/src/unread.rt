@@ -44,6 +44,7 @@ impl<'a> Unread<'a> {
     pub fn new(place: &'a Place, from: u64, to: u64) -> Unread<'a>
         requires { IsReadable place.now }
         ensures rows { result.rows ≡ piece_of (rows_in place.now) from to }
+        ensures width { result.width ≡ width_of (rows_in place.now) }
     {
         Unread {
             place,

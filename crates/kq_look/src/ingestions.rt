@@ -19,16 +19,16 @@ use crate::changes::has_room;
 use crate::found::{Barring, Found, Offer};
 use crate::offers::is_alone;
 use crate::tags::{Labels, least_cursor, read_labels};
-use kq_cascade::{BatchRows, CascadeFault, Derived};
+use kq_cascade::{BatchRows, CascadeFault, Derived, Given};
 use kq_catalog::{Intent, Part, Snapshot};
 use kq_command::Ingestion;
-use kq_extent::Draft;
+use kq_extent::{Columns, Draft};
 use kq_ingest::{IngestFault, read_rows};
 use kq_model::Table;
 use kq_policies::{derive, looked};
 use kq_reply::{Refusal, Reply};
 use kq_rows::Rows;
-use kq_value::{Memory, Schema, Text};
+use kq_value::{Memory, Schema, Tags, Text};
 
 // What an ingestion is due whose text is good.
 pub(crate) fn ingest(snapshot: &Snapshot, ingestion: &Ingestion) -> Result<Found, Refusal>
@@ -80,7 +80,7 @@ fn put_rows(
     snapshot: &Snapshot,
     number: u32,
     table: &Table,
-    rows: Rows,
+    rows: Columns,
     labels: Labels,
 ) -> Result<Found, Refusal>
     requires stands { slice_get (tables (log snapshot.now.history)) number ≡ Some table.now }
@@ -131,7 +131,7 @@ fn name_of_table(snapshot: &Snapshot, number: u32) -> Result<Text, Memory>
     }
 }
 
-// The commit of all that came of a batch, where one more is allowed: only then its rows are laid out in columns.
+// The commit of all that came of a batch, where one more is allowed: only then what queries gave is laid out in columns.
 fn put_derived(
     snapshot: &Snapshot,
     derived: Derived,
@@ -175,11 +175,22 @@ fn part_of(snapshot: &Snapshot, batch: BatchRows) -> Result<Part, Memory>
     requires { IsTyped (schema_of (log snapshot.now.history)) batch }
     ensures { IfOk result (λ part. batch_of part ≡ batch) }
 {
-    let alloc = snapshot.allocator();
-    let (table, rows, tags) = batch.into_parts();
-    let draft = match snapshot.table_at(table) {
-        Some(target) => Draft::build(alloc, &target.schema, &rows, tags)?,
-        None => Draft::build(alloc, &Schema::new(alloc), &rows, tags)?,
+    let (table, given, tags) = batch.into_parts();
+    let draft = match given {
+        Given::Columns(columns) => Draft::of(snapshot.allocator(), columns, tags)?,
+        Given::Rows(rows) => draft_of(snapshot, table, &rows, tags)?,
     };
     Ok(Part { table, draft })
+}
+
+// Rows under the columns of a table.
+fn draft_of(snapshot: &Snapshot, table: u32, rows: &Rows, tags: Tags) -> Result<Draft, Memory>
+    requires { All (HasTypes (schema_of (log snapshot.now.history) table)) rows.now }
+    ensures { IfOk result (λ draft. draft ≡ record { rows = rows.now; tags = tags }) }
+{
+    let alloc = snapshot.allocator();
+    match snapshot.table_at(table) {
+        Some(target) => Draft::build(alloc, &target.schema, rows, tags),
+        None => Draft::build(alloc, &Schema::new(alloc), rows, tags),
+    }
 }

@@ -2,7 +2,7 @@
 ghost use Rattle.std.specs.Prelude.{◌≡◌, List, [], ◌∷◌, ◌++◌, OnOk, OnErr, length};
 
 use kq_answer::Cause;
-use kq_rows::RecordedRows;
+use kq_pipe::RecordedRows;
 use kq_value::{Memory, Tags};
 use std::alloc::Global;
 use std::marker::Model;

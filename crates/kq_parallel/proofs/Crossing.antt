@@ -37,7 +37,12 @@ use Rattle.kq_lent.specs.contracts.lending.Lending.TheInside as lending_inside
 use Rattle.kq_lent.specs.contracts.held.Held as held
 use Rattle.kq_lent.specs.contracts.held.Held.TheInside as held_inside
 use Rattle.kq_grouping.specs.contracts.arriving.Arrived as arrived
+use Rattle.kq_grouping.specs.contracts.collecting.Collected as collected
+use Rattle.kq_grouping.specs.contracts.counting.Counted as counted
 use Rattle.kq_parallel.specs.contracts.asked.Asked as asked
+use Rattle.kq_parallel.specs.contracts.lookup.Lookup as lookup
+use Rattle.kq_parallel.specs.contracts.counted.Counting as counting
+use Rattle.kq_parallel.specs.contracts.rows.Collecting as collecting
 
 -- ---- values and rows
 
@@ -126,7 +131,19 @@ operator_sync l = search (expr_sync, sendable, crosses) depth 60 fits 20000
 pub asked_sync : (l : NamedLft) → IsSync (asked.the_row l)
 asked_sync l = search (operator_sync, expr_sync, aggregate_sync, field_sync, value_sync, held_sync, sendable, crosses) depth 60 fits 20000
 
+pub counting_sync : (l : NamedLft) → IsSync (counting.the_row l)
+counting_sync l = search (operator_sync, value_sync, held_sync, sendable, crosses) depth 60 fits 20000
+
+pub collecting_sync : (l : NamedLft) → IsSync (collecting.the_row l)
+collecting_sync l = search (operator_sync, value_sync, held_sync, sendable, crosses) depth 60 fits 20000
+
 -- ---- what comes of it
+
+pub counted_send : IsSend counted.the_row
+counted_send = search (sendable, crosses) depth 60 fits 20000
+
+pub collected_send : IsSend collected.the_row
+collected_send = search (rows_send, sendable, crosses) depth 60 fits 20000
 
 element_inside_send : IsSend element_inside.the_row
 element_inside_send = search (text_send, boxed_send, sendable, crosses) depth 60 fits 20000
@@ -163,3 +180,44 @@ groups_send = search (groups_inside_send, sendable, crosses) depth 60 fits 20000
 
 pub arrived_send : IsSend arrived.the_row
 arrived_send = search (groups_send, sendable, crosses) depth 60 fits 20000
+
+-- ---- groups that are looked up
+
+row_sync : IsSync row.the_row
+row_sync = search (value_sync, sendable, crosses) depth 60 fits 20000
+
+element_inside_sync : IsSync element_inside.the_row
+element_inside_sync = search (text_sync, boxed_sync, sendable, crosses) depth 60 fits 20000
+
+element_sync : IsSync element.the_row
+element_sync = search (element_inside_sync, sendable, crosses) depth 60 fits 20000
+
+sets_inside_sync : IsSync sets_inside.the_row
+sets_inside_sync = search (element_sync, sendable, crosses) depth 60 fits 20000
+
+sets_sync : IsSync sets.the_row
+sets_sync = search (sets_inside_sync, sendable, crosses) depth 60 fits 20000
+
+states_inside_sync : IsSync states_inside.the_row
+states_inside_sync = search (sets_sync, row_sync, value_sync, sendable, crosses) depth 60 fits 20000
+
+states_sync : IsSync states.the_row
+states_sync = search (states_inside_sync, sendable, crosses) depth 60 fits 20000
+
+added_sync : IsSync added.the_row
+added_sync = search (added_knot.crosses, crosses, sendable) depth 60 fits 20000
+
+chain_inside_sync : IsSync chain_inside.the_row
+chain_inside_sync = search (added_sync, added_knot.crosses, sendable, crosses) depth 60 fits 20000
+
+chain_sync : IsSync chain.the_row
+chain_sync = search (chain_inside_sync, sendable, crosses) depth 60 fits 20000
+
+groups_inside_sync : IsSync groups_inside.the_row
+groups_inside_sync = search (chain_sync, rows_sync, states_sync, sendable, crosses) depth 60 fits 20000
+
+groups_sync : IsSync groups.the_row
+groups_sync = search (groups_inside_sync, sendable, crosses) depth 60 fits 20000
+
+pub lookup_sync : (l : NamedLft) → IsSync (lookup.the_row l)
+lookup_sync l = search (groups_sync, sendable, crosses) depth 60 fits 20000

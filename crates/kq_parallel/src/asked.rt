@@ -1,8 +1,10 @@
 // A summarize and the rows of which it is asked.
+use crate::joining::joined_by;
 use crate::taking::Taking;
-use kq_grouping::{Arrived, Held, Summarize, gather_between, joined};
+use kq_grouping::{Arrived, Held, Summarize, gather_between};
 use kq_value::Memory;
 use std::alloc::Global;
+use std::thread::Threads;
 
 #[derive(Clone, Copy)]
 pub(crate) struct Asked<'a> {
@@ -10,13 +12,14 @@ pub(crate) struct Asked<'a> {
     pub rows: &'a Held,
 }
 
-impl Taking for Asked<'_> {
+impl<R: Threads + Sync> Taking<R> for Asked<'_> {
+    ghost use Rattle.std.specs.Thread.{IsSync};
     ghost use Rattle.kq_grouping.specs.Summaries.{ComesOf, IsAsked};
     ghost use Rattle.kq_grouping.specs.kq_piecewise.Pieces.{piece_of};
 
     type Got = Arrived;
 
-    ghost ready = { λ a. IsAsked a.summarize };
+    ghost ready = { λ a. IsSync R.row × IsAsked a.summarize };
 
     ghost comes = { λ a from to c. ComesOf a.summarize (piece_of a.rows.now from to) c };
 
@@ -24,7 +27,14 @@ impl Taking for Asked<'_> {
         gather_between(alloc, &self.summarize, self.rows, from, to)
     }
 
-    fn both(&self, alloc: Global, first: Arrived, rest: Arrived) -> Result<Arrived, Memory> {
-        joined(alloc, first, rest)
+    fn both(
+        &self,
+        rt: &R,
+        alloc: Global,
+        first: Arrived,
+        rest: Arrived,
+        most: u64,
+    ) -> Result<Arrived, Memory> {
+        joined_by(rt, alloc, first, rest, most)
     }
 }

@@ -1,8 +1,10 @@
-// Threads that gather groups beside each other.
+// Threads that gather what rows come to, beside each other.
 ghost use Rattle.std.specs.Prelude.{◌<◌};
 
+use crate::counted::count_in_parts;
 use crate::halves::gather_in_parts;
-use kq_grouping::{Arrived, Gatherer, Held, Summarize};
+use crate::rows::collect_in_parts;
+use kq_grouping::{Arrived, Collected, Counted, Gatherer, Held, Pipeline, Summarize};
 use kq_value::Memory;
 use std::alloc::Global;
 use std::thread::Threads;
@@ -10,7 +12,7 @@ use std::thread::Threads;
 /// As many rows as are worth a thread.
 pub const PIECE: u64 = 8192;
 
-/// Threads that gather groups beside each other, each of at least so many rows.
+/// Threads that gather what rows come to, beside each other, each of at least so many rows.
 #[derive(Drop)]
 pub struct Crew<'a, R> {
     rt: &'a R,
@@ -33,5 +35,18 @@ impl<R: Threads + Sync> Gatherer for Crew<'_, R> {
 
     fn gather(&self, alloc: Global, asked: &Summarize, rows: &Held) -> Result<Arrived, Memory> {
         gather_in_parts(self.rt, alloc, asked, rows, self.piece)
+    }
+
+    fn count(&self, alloc: Global, pipeline: &Pipeline, rows: &Held) -> Result<Counted, Memory> {
+        count_in_parts(self.rt, alloc, pipeline, rows, self.piece)
+    }
+
+    fn collect(
+        &self,
+        alloc: Global,
+        pipeline: &Pipeline,
+        rows: &Held,
+    ) -> Result<Collected, Memory> {
+        collect_in_parts(self.rt, alloc, pipeline, rows, self.piece)
     }
 }

@@ -27,17 +27,19 @@ pub fn gather_in_parts<R: Threads + Sync>(
         summarize: *summarize,
         rows,
     };
-    let most = (rows.len() / piece).min(threads(rt));
+    let most = threads_for(rt, rows.len(), piece);
     halves(rt, alloc, &asked, 0, rows.len(), most)
 }
 
-// The most threads at once.
-fn threads<R: Threads>(rt: &R) -> u64 {
-    current_num_threads(rt) as u64
+// The most threads for so many rows, of which each is to take a piece or more.
+pub(crate) fn threads_for<R: Threads>(rt: &R, rows: u64, piece: u64) -> u64
+    requires { 0 < piece }
+{
+    (rows / piece).min(current_num_threads(rt) as u64)
 }
 
 // What the rows from one number up to another come to, which at most so many threads take.
-fn halves<R: Threads + Sync, T: Taking + Sync>(
+pub(crate) fn halves<R: Threads + Sync, T: Taking<R> + Sync>(
     rt: &R,
     alloc: Global,
     taking: &T,
@@ -66,7 +68,7 @@ fn halves<R: Threads + Sync, T: Taking + Sync>(
             ensures { IfOk result (T.comes taking.entry.now middle to) }
         { halves(rt, alloc, taking, middle, to, more) },
     );
-    taking.both(alloc, one?, other?)
+    taking.both(rt, alloc, one?, other?, most)
 }
 
 // Where rows are cut, so that of so many shares this many come before.

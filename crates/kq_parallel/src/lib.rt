@@ -1,11 +1,17 @@
-//! Groups that several threads gather beside each other: rows are cut by their numbers and shared out among threads, and what each comes to is joined in the order of the rows.
+//! What several threads gather of rows beside each other, their groups, their number or the rows that are made of them: rows are cut by their numbers and shared out among threads, and what each comes to is joined in the order of the rows.
 //! What the rows from one number up to another come to is left to `kq_grouping`, and who asks for it to the crates above.
 #![tactic(auto)]
 
 mod asked;
+mod counted;
 mod crew;
 mod halves;
+mod joining;
+mod lookup;
+mod rows;
 mod taking;
 
+pub use counted::count_in_parts;
 pub use crew::{Crew, PIECE};
 pub use halves::gather_in_parts;
+pub use rows::collect_in_parts;

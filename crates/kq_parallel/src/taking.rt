@@ -5,7 +5,7 @@ use kq_value::Memory;
 use std::alloc::Global;
 
 // Rows of which those from one number up to another may be taken by themselves.
-pub(crate) trait Taking {
+pub(crate) trait Taking<R> {
     // What some of them come to.
     type Got: Send + Drop;
 
@@ -19,8 +19,16 @@ pub(crate) trait Taking {
         requires { ready self.now }
         ensures { IfOk result (comes self.now from to) };
 
-    // What rows come to of which the first and the rest came to these.
-    fn both(&self, alloc: Global, first: Self::Got, rest: Self::Got) -> Result<Self::Got, Memory>
-        requires { (i : ℕ) × (j : ℕ) × (k : ℕ) × comes self.now i j first × comes self.now j k rest }
+    // What rows come to of which the first and the rest came to these. At most so many threads work at it.
+    fn both(
+        &self,
+        rt: &R,
+        alloc: Global,
+        first: Self::Got,
+        rest: Self::Got,
+        most: u64,
+    ) -> Result<Self::Got, Memory>
+        requires ready { ready self.now }
+        requires came { (i : ℕ) × (j : ℕ) × (k : ℕ) × comes self.now i j first × comes self.now j k rest }
         ensures { (i j k : ℕ) → i ≤ j → j ≤ k → comes self.now i j first → comes self.now j k rest → IfOk result (comes self.now i k) };
 }

@@ -1,4 +1,4 @@
-//! What a plan gives over a world: its steps run one after another, and rows that only the next step takes flow into it by pieces. Who gathers the groups of a summarize is handed to it. How a query becomes a plan is left to the crates beside it, and where the rows of a name come from to those above.
+//! What a plan gives over a world: its steps run one after another, and rows that only the next step takes flow into it by pieces. Who gathers the groups of a summarize, a count or rows that are kept is handed to it. How a query becomes a plan is left to the crates beside it, and where the rows of a name come from to those above.
 #![tactic(auto)]
 
 mod joined;
@@ -16,7 +16,7 @@ mod terms;
 mod top;
 
 pub use kq_grouping::{Alone, Gatherer};
-pub use kq_lent::Held;
+pub use kq_lent::{Held, RecordedRows};
 pub use leaves::Leaves;
 pub use outcome::Outcome;
 pub use run::{run_plan, run_plan_by};

@@ -33,7 +33,7 @@ pub fn run_plan<L: Leaves>(
     run_plan_by(alloc, plan, leaves, &Alone, now)
 }
 
-/// The same, where this gatherer gathers the groups of each summarize.
+/// The same, where this gatherer gathers what comes through row operators: the groups of each summarize, a count, and rows that are kept.
 pub fn run_plan_by<L: Leaves, G: Gatherer>(
     alloc: Global,
     plan: &Plan,

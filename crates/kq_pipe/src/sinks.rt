@@ -1,5 +1,5 @@
 // What takes the rows that come through row operators.
-ghost use Rattle.std.specs.Prelude.{◌≡◌, ◌<◌, ◌≤◌, ◌+◌, ◌^◌, ◌∷◌, [], IfOk, OnErr, false, map, pos};
+ghost use Rattle.std.specs.Prelude.{◌≡◌, ◌<◌, ◌^◌, ◌∷◌, [], IfOk, false, map, pos};
 ghost use Rattle.std.specs.List.{All};
 ghost use Rattle.kq_expr.specs.Terms.{term_of};
 ghost use Rattle.kq_grouping.specs.kq_group.Groups.{EndsWide, HasAllGroups, rows_from};
@@ -8,13 +8,14 @@ ghost use Rattle.kq_grouping.specs.kq_scalar.Val.{surroundings};
 ghost use Rattle.kq_value.specs.declared.value.Value.TheVariants.{Long};
 ghost use Rattle.kq_pipe.specs.declared.outcome.Outcome.TheVariants as outcome;
 ghost use Rattle.kq_pipe.specs.Ended.{EndsAs, EndsInGroups};
+ghost use Rattle.kq_grouping.specs.Pipelines.{ran_through};
 ghost use Rattle.kq_grouping.specs.Summaries.{IsAsked, ran_of};
 ghost use Rattle.kq_pipe.specs.Operators.{in_stage, tally};
 
 use crate::outcome::Outcome;
 use kq_computed::EvalFault;
-use kq_grouping::{Arrived, Gatherer, Groups, Relation, Summarize};
-use kq_lent::{Flow, Held, Next};
+use kq_grouping::{Arrived, Collected, Counted, Gatherer, Groups, Pipeline, Summarize};
+use kq_lent::Held;
 use kq_rows::Rows;
 use kq_value::{Memory, Value};
 use std::alloc::{AllocError, Global};
@@ -27,50 +28,39 @@ pub(crate) enum Ended {
 }
 
 // The rows themselves.
-pub(crate) fn keep_all(alloc: Global, flow: &mut Flow, ordered: bool) -> Result<Ended, Memory>
-    ensures { IfOk result (EndsAs (λ rows o. o ≡ outcome.Table ordered rows) flow.old.to_come) }
+pub(crate) fn keep_all<G: Gatherer>(
+    alloc: Global,
+    gatherer: &G,
+    pipeline: &Pipeline,
+    rows: &Held,
+    ordered: bool,
+) -> Result<Ended, Memory>
+    requires { G.ready gatherer.now }
+    ensures { IfOk result (EndsAs (λ rows o. o ≡ outcome.Table ordered rows) (ran_through pipeline.now rows.now)) }
 {
-    let mut rows = Rows::new(alloc);
-    loop {
-        match flow.next()? {
-            Next::Piece(piece) => rows.append(piece.into_rows(alloc)?)?,
-            Next::End => {
-                let rows = Held::own(rows);
-                return Ok(Ended::Gave(Outcome::Table { ordered, rows }));
-            }
-            Next::Failed(n) => return Ok(Ended::Failed(n)),
+    match gatherer.collect(alloc, pipeline, rows)? {
+        Collected::Rows(rows) => {
+            let rows = Held::own(rows);
+            Ok(Ended::Gave(Outcome::Table { ordered, rows }))
         }
+        Collected::Failed(n) => Ok(Ended::Failed(n)),
     }
 }
 
 // How many there are.
-pub(crate) fn count_all(alloc: Global, flow: &mut Flow) -> Result<Ended, Memory>
-    ensures { IfOk result (EndsAs (λ rows o. o ≡ outcome.Table false (tally rows)) flow.old.to_come) }
+pub(crate) fn count_all<G: Gatherer>(
+    alloc: Global,
+    gatherer: &G,
+    pipeline: &Pipeline,
+    rows: &Held,
+) -> Result<Ended, Memory>
+    requires { G.ready gatherer.now }
+    ensures { IfOk result (EndsAs (λ rows o. o ≡ outcome.Table false (tally rows)) (ran_through pipeline.now rows.now)) }
 {
-    let mut count = 0;
-    loop {
-        match flow.next()? {
-            Next::Piece(piece) => count = counted_with(count, piece.len())?,
-            Next::End => return Ok(Ended::Gave(tally_of(alloc, count)?)),
-            Next::Failed(n) => return Ok(Ended::Failed(n)),
-        }
+    match gatherer.count(alloc, pipeline, rows)? {
+        Counted::Rows(count) => Ok(Ended::Gave(tally_of(alloc, count)?)),
+        Counted::Failed(n) => Ok(Ended::Failed(n)),
     }
-}
-
-// The sum of two counts. Expansions make more rows than they take, so that no bound is known. More than 2^63 - 1 rows, which no
-// cell could count, don't come up: at 10^9 a second they take 292 years. They count as a want of memory.
-fn counted_with(count: u64, more: usize) -> Result<u64, Memory>
-    requires before { count < 2 ^ 63 }
-    requires more { more < 2 ^ 63 }
-    ensures sum { IfOk result (λ sum. sum ≡ count + more) }
-    ensures small { IfOk result (λ sum. sum < 2 ^ 63) }
-    ensures err { OnErr result (2 ^ 63 ≤ count + more) }
-{
-    let sum = count + more as u64;
-    if sum > i64::MAX as u64 {
-        return Err(AllocError);
-    }
-    Ok(sum)
 }
 
 fn tally_of(alloc: Global, count: u64) -> Result<Outcome, Memory>

@@ -17,7 +17,7 @@ use crate::outcome::{Outcome, cells, order_at, rows_at};
 use crate::single::tally_row;
 use crate::sinks::{Ended, count_all, group_all, keep_all};
 use crate::step::run_step;
-use kq_grouping::{Gatherer, Summarize, operators, stage_in};
+use kq_grouping::{Gatherer, Pipeline, Summarize, operators, stage_in};
 use kq_lent::{Held, Operator};
 use kq_plan::{Step, Work};
 use kq_rows::Rows;
@@ -210,8 +210,13 @@ fn close<G: Gatherer>(
     requires columns { HasColumns (doing_of last.now.work) last.now.columns.items }
     ensures { IfOk result (EndsAs (Closes (doing_of last.now.work) last.now.stage last.now.columns.items (surroundings now lets.now) ordered) (ran (map rowwise_of operators.now) (surroundings now lets.now) rows.now)) }
 {
+    let pipeline = Pipeline {
+        operators,
+        lets,
+        moment: now,
+    };
     match &last.work {
-        Work::Count(..) => count_through(alloc, rows, operators, lets, now),
+        Work::Count(..) => count_all(alloc, gatherer, &pipeline, rows),
         Work::Summarize(_, keys, aggregates) => group_all(
             alloc,
             gatherer,
@@ -226,35 +231,6 @@ fn close<G: Gatherer>(
             rows,
             last.stage,
         ),
-        _ => keep_through(alloc, rows, operators, ordered, lets, now),
+        _ => keep_all(alloc, gatherer, &pipeline, rows, ordered),
     }
-}
-
-// How many come through the operators.
-fn count_through(
-    alloc: Global,
-    rows: &Held,
-    operators: &[Operator],
-    lets: &[Value],
-    now: i64,
-) -> Result<Ended, Memory>
-    ensures { IfOk result (EndsAs (λ rows o. o ≡ outcome.Table false (tally rows)) (ran (map rowwise_of operators.now) (surroundings now lets.now) rows.now)) }
-{
-    let mut flow = rows.flow(alloc, operators, lets, now);
-    count_all(alloc, &mut flow)
-}
-
-// The rows that come through the operators.
-fn keep_through(
-    alloc: Global,
-    rows: &Held,
-    operators: &[Operator],
-    ordered: bool,
-    lets: &[Value],
-    now: i64,
-) -> Result<Ended, Memory>
-    ensures { IfOk result (EndsAs (λ rows o. o ≡ outcome.Table ordered rows) (ran (map rowwise_of operators.now) (surroundings now lets.now) rows.now)) }
-{
-    let mut flow = rows.flow(alloc, operators, lets, now);
-    keep_all(alloc, &mut flow, ordered)
 }

@@ -138,7 +138,7 @@ fn batch_cut(
 {
     match batch.lent() {
         Some(extents) if columns.len() == table.schema.len() => lend(extents, &table.schema),
-        _ => Ok(Held::own(cut(alloc, batch.rows(), columns.len())?)),
+        _ => Ok(Held::own(cut(alloc, &batch.to_rows()?, columns.len())?)),
     }
 }
 

@@ -9,7 +9,7 @@ use crate::laying::lay_out;
 use crate::running::run_due;
 use kq_cascade::{BatchRows, CascadeFault, Derived, QueryFault, Tables, cascade};
 use kq_catalog::Snapshot;
-use kq_extent::TableExtents;
+use kq_extent::{Columns, TableExtents};
 use kq_model::Due;
 use kq_rows::Rows;
 use kq_value::{Field, Memory, Tags};
@@ -60,7 +60,7 @@ fn columns_of(snapshot: &Snapshot, table: u32) -> &[Field]
 pub fn derive(
     snapshot: &Snapshot,
     table: u32,
-    rows: Rows,
+    rows: Columns,
     tags: Tags,
 ) -> Result<Derived, CascadeFault>
     requires { All (HasTypes (schema_of (log snapshot.now.history) table)) rows }

@@ -5,7 +5,6 @@ use Rattle.kq_value.specs.declared.ty.Ty.{Ty}
 use Rattle.kq_value.specs.declared.value.Value.{Value}
 use Rattle.kq_value.specs.Typed.{missing_of}
 use Rattle.kq_reshape.specs.Cells.{cell_at}
-use Rattle.kq_reshape.specs.declared.united.UnionArm.{UnionArm}
 
 -- the cell of the arm's column that fills a column of this type; null, or empty for a string, where none does
 abbrev pub filling : Option ℕ → Ty → List Value → Value
@@ -28,6 +27,3 @@ Filled = List (List Value) × List (Option ℕ)
 abbrev pub united : List Field → List Filled → List (List Value)
 united columns [] = []
 united columns (a ∷ arms) = map (filled columns a.1) a.0 ++ united columns arms
-
-abbrev pub arm_of : UnionArm → Filled
-arm_of a = (a.rows.now, a.cells.now)

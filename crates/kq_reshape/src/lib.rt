@@ -12,4 +12,4 @@ mod united;
 pub use distinct::distinct_rows;
 pub use expand::expand_rows;
 pub use range::{RangeFault, range_rows};
-pub use united::{UnionArm, append_arm, union_rows};
+pub use united::append_arm;

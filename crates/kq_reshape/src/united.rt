@@ -1,34 +1,16 @@
 // The rows of a union.
-ghost use Rattle.std.specs.Prelude.{◌≡◌, ◌<◌, ◌++◌, IfOk, OnOk, None, length, map, slice_index_or};
+ghost use Rattle.std.specs.Prelude.{◌≡◌, ◌++◌, IfOk, OnOk, None, length, map, slice_index_or};
 ghost use Rattle.std.specs.List.{All};
 ghost use Rattle.kq_rows.specs.Chunks.{HasWidth};
-ghost use Rattle.kq_reshape.specs.Union.{arm_of, filled, filling, united};
+ghost use Rattle.kq_reshape.specs.Union.{filled, filling};
 
 use crate::cells::{cell_in, row_in};
 use kq_rows::Rows;
 use kq_value::{Field, Memory, Ty, Value};
 use std::alloc::Global;
 
-/// An arm of a union: its rows, and for each column of the union the number of the arm's column that fills it.
-#[derive(Drop)]
-pub struct UnionArm<'a> {
-    pub rows: &'a Rows,
-    pub cells: &'a [Option<usize>],
-}
-
-/// The rows of the arms one after another, under the columns of the union. Where no column of an arm fills one, its cells are null,
-/// or empty for a string. A column past a row's end is null.
-pub fn union_rows(alloc: Global, arms: &[UnionArm], columns: &[Field]) -> Result<Rows, Memory>
-    ensures { IfOk result (λ rows. rows ≡ united columns.now (map arm_of arms.now)) }
-{
-    let mut rows = Rows::new(alloc);
-    for arm in arms {
-        append_arm(alloc, &mut rows, arm.rows, arm.cells, columns)?;
-    }
-    Ok(rows)
-}
-
-/// Puts the rows of an arm last.
+/// Puts the rows of an arm of a union last, by the number of the arm's column that fills each of the union's. Where none does, the cells
+/// are null, or empty for a string. A column past a row's end is null.
 pub fn append_arm(
     alloc: Global,
     union: &mut Rows,

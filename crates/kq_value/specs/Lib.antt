@@ -12,4 +12,3 @@ pub mod TreeOrder
 pub mod Ty
 pub mod Typed
 pub mod Values
-pub mod Zone

@@ -29,7 +29,7 @@ pub use tags::Tags;
 pub use text::Text;
 pub use ty::Ty;
 pub use value::{LAST_MOMENT, Value, is_moment};
-pub use zone::{ZoneOp, ZoneTest, ZoneTests};
+pub use zone::ZoneOp;
 
 /// Want of memory.
 pub type Memory = std::alloc::AllocError;

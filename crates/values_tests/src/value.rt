@@ -1,7 +1,5 @@
 // How hashes spread, how large a value is, and calls that the program doesn't make.
-use kq_value::{
-    Bytes, LAST_MOMENT, Memory, RecordId, Row, Text, Ty, Value, ZoneOp, ZoneTest, ZoneTests,
-};
+use kq_value::{Bytes, LAST_MOMENT, Memory, RecordId, Row, Text, Ty, Value};
 use std::alloc::Global;
 use std::mem::size_of;
 use std::process::Abort;
@@ -102,29 +100,6 @@ fn types_have_their_values(rt: HostRuntime) {
     assert!(rt; Value::Moment(LAST_MOMENT).has_type(Ty::Moment));
     assert!(rt; !Value::Moment(LAST_MOMENT + 1).has_type(Ty::Moment));
     assert!(rt; !Value::Moment(-1).has_type(Ty::Moment));
-}
-
-fn zone_tests(alloc: Global) -> Result<ZoneTests, Memory> {
-    let mut tests = ZoneTests::new(alloc);
-    for op in [ZoneOp::Equal, ZoneOp::AtMost, ZoneOp::AtLeast] {
-        tests.push(ZoneTest {
-            column: 0,
-            op,
-            value: Value::Long(5),
-        })?;
-    }
-    Ok(tests)
-}
-
-#[test]
-fn tests_of_columns_are_met_by_no_null(rt: HostRuntime) -> Result<(), Fail> {
-    let tests = zone_tests(rt.alloc())?;
-    let copy = tests.clone_in()?;
-    for test in copy.as_slice() {
-        assert!(rt; test.is_met_by(&Value::Long(5)));
-        assert!(rt; !test.is_met_by(&Value::Null(Ty::Long)));
-    }
-    Ok(())
 }
 
 #[test]

@@ -23,7 +23,7 @@ loop-i-preserved c = λ any cells built.
     let within : i < length there = omega arith in
     built_as c.args.ty _ _ ((any || c.loop-i.any) || c.in_ok-null.null) (any || (c.loop-i.any || c.in_ok-null.null)) ((cells ++ take i there) ++ v ∷ []) (cells ++ take (i + 1) there)
     (or_assoc any c.loop-i.any c.in_ok-null.null) (behind_more cells there i v within c.in_ok-cell.ensures)
-    (c.in_ok-null.ensures (any || c.loop-i.any) (cells ++ take i there) (c.loop-i.invariant any cells built))
+    (c.in_ok-null.ensures.ok (any || c.loop-i.any) (cells ++ take i there) (c.loop-i.invariant any cells built))
 
 pub returns : goal.returns
 returns c = λ any cells built.

@@ -18,5 +18,5 @@ returns c =
     let gs = map aggregating_of a.aggregates.now in
     let s = λ (z : ℤ). surroundings z a.lets.now in
     let part = λ (z : ℤ). ran (map rowwise_of a.operators.now) (s z) (piece_of c.args.rows.now c.args.from c.args.to) in
-    let arrive = subst (λ (r : Ran). IfOk c.gather_groups.result (ArriveAs es gs a.columns.now (s again) r)) c.flow_between-flow.ensures c.gather_groups.ensures in
+    let arrive = subst (λ (r : Ran). IfOk c.gather_groups.result (ArriveAs es gs a.columns.now (s again) r)) c.flow_between-flow.ensures.rows c.gather_groups.ensures in
     subst (λ (z : ℤ). IfOk c.gather_groups.result (ArriveAs es gs a.columns.now (s z) (part z))) same arrive

@@ -2,11 +2,15 @@ use Rattle.std.proofs.Common.{◌≡◌, List, length, map, take, arith}
 use Rattle.kq_extent.specs.Wide.{wide_held}
 use Rattle.kq_pipe.specs.kq_lent.Lent.{rows_held}
 use Rattle.kq_model.specs.Derived.{Row}
+use Rattle.kq_rows.proofs.Typed.{same_width-typed}
 use Rattle.kq_policies.proofs.Records.{batch_lent, batch_whole, of_given}
 use Rattle.kq_policies.proofs.beside.batch_cut.Goals as goal
 
 pub lend-requires : goal.lend-requires
 lend-requires c = batch_lent c.args.table.now.schema c.in-Some.extents.now c.args.batch.now.rows c.in-Some.ensures c.requires
+
+pub to_rows-requires : goal.to_rows-requires
+to_rows-requires c = same_width-typed c.args.table.now.schema c.args.batch.now.rows c.requires
 
 pub returns-in-Some : goal.returns-in-Some
 returns-in-Some c =

@@ -12,4 +12,4 @@ returns c =
     let same : to_z w64 (of_z w64 c.args.now) ≡ c.args.now = search (rules, to_z-of_z) in
     let rows = c.args.self.now in
     let all : piece_of rows 0 c.len.result ≡ rows = take_all (c.len.result - 0) rows (omega (arith, c.len.ensures.count)) in
-    c.flow_between.ensures ∙ (λ t. ran (map rowwise_of c.args.operators.now) (surroundings (same t) c.args.lets.now) (all t))
+    c.flow_between.ensures.rows ∙ (λ t. ran (map rowwise_of c.args.operators.now) (surroundings (same t) c.args.lets.now) (all t))
