@@ -15,7 +15,7 @@ use Rattle.kq_model.specs.Records.{commit_extents}
 use Rattle.kq_catalog.specs.declared.edit.Change.{Change}
 use Rattle.kq_catalog.specs.declared.edit.Change.TheVariants.{PutTable, PutColumns, PutExtent}
 use Rattle.kq_catalog.specs.declared.intent.Intent.{Intent}
-use Rattle.kq_catalog.specs.declared.plan.Plan.{Plan}
+use Rattle.kq_catalog.specs.declared.edits.Edits.{Edits}
 use Rattle.kq_catalog.specs.Held.{HeldTable}
 use Rattle.kq_catalog.specs.Intents.{commit_of, view_by}
 
@@ -57,12 +57,12 @@ abbrev pub put_all : List HeldTable → List Change → List HeldTable
 put_all hs [] = hs
 put_all hs (c ∷ cs) = put_all (put_in hs c) cs
 
--- the plan has the commit, the changes that are its edits, the view that it makes, and the number of extents that it makes
-pub record IsPlan (cursor id : ℕ) (intent : Intent) (plan : Plan) : Type 0 where
-  pub is : plan.commit ≡ commit_of intent
-  pub edits : edits_by plan.changes.items ≡ edits_of cursor id (commit_of intent)
-  pub view : plan.view ≡ view_by cursor intent
-  pub made : plan.made ≡ commit_extents (commit_of intent)
+-- it has the commit, the changes that are its edits, the view that it makes, and the number of extents that it makes
+pub record AreEdits (cursor id : ℕ) (intent : Intent) (staged : Edits) : Type 0 where
+  pub is : staged.commit ≡ commit_of intent
+  pub edits : edits_by staged.changes.items ≡ edits_of cursor id (commit_of intent)
+  pub view : staged.view ≡ view_by cursor intent
+  pub made : staged.made ≡ commit_extents (commit_of intent)
 
 abbrev pub total_rows : List Batch → ℕ
 total_rows = sum_by (λ (b : Batch). length b.rows)

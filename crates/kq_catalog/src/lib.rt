@@ -7,6 +7,7 @@
 
 mod catalog;
 mod edit;
+mod edits;
 mod enabled;
 mod folding;
 mod grows;
@@ -16,7 +17,6 @@ mod intent;
 mod merging;
 mod noting;
 mod ordinals;
-mod plan;
 mod policies;
 mod snapshot;
 mod state;

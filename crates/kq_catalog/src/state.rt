@@ -13,17 +13,17 @@ ghost use Rattle.kq_model.specs.Lawful.{LawfulCommit};
 ghost use Rattle.kq_model.specs.Policies.{dues, noted, policies};
 ghost use Rattle.kq_model.specs.Records.{records, rows_in, extents, extents_made, small_items, schema_of};
 ghost use Rattle.kq_model.specs.Tagged.{first_tagged};
-ghost use Rattle.kq_catalog.specs.Edits.{IsPlan};
+ghost use Rattle.kq_catalog.specs.Edits.{AreEdits};
 ghost use Rattle.kq_catalog.specs.Held.{AreItems, FindsTable};
 ghost use Rattle.kq_catalog.specs.Intents.{BeginsEmpty, commit_of, event_by};
 ghost use Rattle.kq_catalog.specs.Merges.{IsGone, IsInFront, WasPicked, comes_first, merge_event};
 ghost use Rattle.kq_catalog.specs.Seen.{Sound};
 ghost use Rattle.kq_catalog.specs.Views.{FindsView, HoldsPart, WasFolded, fold_event};
 
+use crate::edits::{Edits, column_edits, part_edits, policy_edits, table_edits, view_edits};
 use crate::intent::Intent;
 use crate::merging::Merging;
 use crate::noting::with_failures;
-use crate::plan::{Plan, plan_columns, plan_parts, plan_policy, plan_table, plan_view};
 use crate::policies::Policies;
 use crate::tables::Tables;
 use crate::tagging::with_commit;
@@ -239,21 +239,21 @@ impl State {
     }
 
     // The commit with its edits, under the next cursor and the next ids of extents.
-    fn plan(&self, intent: Intent) -> Result<Plan, Memory>
+    fn edits(&self, intent: Intent) -> Result<Edits, Memory>
         requires { LawfulCommit self.now.limits (log self.now.history) (commit_of intent) }
-        ensures { IfOk result (IsPlan (cursor_of self.now.history + 1) (1 + extents_made self.now.history) intent) }
+        ensures { IfOk result (AreEdits (cursor_of self.now.history + 1) (1 + extents_made self.now.history) intent) }
     {
         let cursor = self.cursor + 1;
         let _place = self.place();
         match intent {
-            Intent::CreateTable { name, schema } => plan_table(self.alloc, cursor, name, schema),
-            Intent::SetPolicy { table, entries } => Ok(plan_policy(self.alloc, table, entries)),
-            Intent::CreateView { view, part } => plan_view(self.alloc, cursor, view, part),
+            Intent::CreateTable { name, schema } => table_edits(self.alloc, cursor, name, schema),
+            Intent::SetPolicy { table, entries } => Ok(policy_edits(self.alloc, table, entries)),
+            Intent::CreateView { view, part } => view_edits(self.alloc, cursor, view, part),
             Intent::AlterMerge { table, columns } => {
-                plan_columns(self.alloc, cursor, table, columns)
+                column_edits(self.alloc, cursor, table, columns)
             }
             Intent::Ingest { parts, failures } => {
-                plan_parts(self.alloc, cursor, self.made + 1, parts, failures)
+                part_edits(self.alloc, cursor, self.made + 1, parts, failures)
             }
         }
     }
@@ -266,12 +266,12 @@ impl State {
         ensures history { IfOk result (λ s. s.history ≡ self.now.history ++ event_by by intent ∷ []) }
     {
         let _place = self.place();
-        let Plan {
+        let Edits {
             commit,
             changes,
             view,
             made,
-        } = self.plan(intent)?;
+        } = self.edits(intent)?;
         let tables = self.tables.with_all(self.alloc, changes)?;
         let policies = self.policies.with_commit(self.alloc, &commit)?;
         let views = self.views.with_new(self.alloc, view)?;

@@ -1,3 +1,4 @@
+pub mod Bagged
 pub mod Cellwise
 pub mod Coded
 pub mod Grown

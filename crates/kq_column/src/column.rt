@@ -7,6 +7,7 @@ ghost use Rattle.kq_vector.specs.Vectors.{cells_of};
 
 use crate::builder::Builder;
 use crate::form::Form;
+use crate::layout::Layout;
 use kq_rows::Rows;
 use kq_value::{Memory, Ty, Value};
 use kq_vector::Vector;
@@ -16,7 +17,7 @@ use std::marker::Model;
 /// The cells of one column, none of which changes. Contracts see their list.
 #[derive(Drop)]
 pub struct Column {
-    form: Form,
+    layout: Layout,
     zone: Option<(Value, Value)>,
 }
 
@@ -25,16 +26,16 @@ impl Model for Column {
     ghost use Rattle.kq_value.specs.declared.value.Value.{Value as Cell};
     ghost use Rattle.std.specs.Coded.{coded_list};
     ghost use Rattle.kq_value.specs.contracts.value.Value as cell;
-    ghost use Rattle.kq_column.specs.Forms.{cells_in};
+    ghost use Rattle.kq_column.specs.Layouts.{cells_laid};
     ghost use Rattle.kq_column.specs.Zones.{is_zone};
 
     ghost Value = { List Cell };
 
     ghost coded = { coded_list cell.the_row.coded };
 
-    ghost view = { λ c. cells_in c.form };
+    ghost view = { λ c. cells_laid c.layout };
 
-    ghost invariant = { λ c. IsTrue (is_zone (cells_in c.form) c.zone) };
+    ghost invariant = { λ c. IsTrue (is_zone (cells_laid c.layout) c.zone) };
 }
 
 impl Column {
@@ -46,7 +47,8 @@ impl Column {
     {
         let form = Form::build(alloc, ty, rows, column)?;
         let zone = form.zone()?;
-        Ok(Column { form, zone })
+        let layout = Layout::from_form(form)?;
+        Ok(Column { layout, zone })
     }
 
     /// The cells that a builder was given.
@@ -55,7 +57,8 @@ impl Column {
     {
         let form = builder.into_form()?;
         let zone = form.zone()?;
-        Ok(Column { form, zone })
+        let layout = Layout::from_form(form)?;
+        Ok(Column { layout, zone })
     }
 
     /// The cells of parts, one part after another, all of one type. No row is made.
@@ -65,30 +68,31 @@ impl Column {
     {
         let form = Form::joined(alloc, ty, parts)?;
         let zone = form.zone()?;
-        Ok(Column { form, zone })
+        let layout = Layout::from_form(form)?;
+        Ok(Column { layout, zone })
     }
 
     pub fn len(&self) -> usize
         ensures count { result ≡ length self.now }
         ensures small { result < 2 ^ 63 }
     {
-        self.form.len()
+        self.layout.len()
     }
 
-    /// A copy of a cell, which shares its text or its dynamic.
+    /// A copy of a cell, which shares its texts.
     pub fn cell(&self, index: usize) -> Result<Value, Memory>
         requires { index < length self.now }
         ensures { IfOk result (λ v. slice_get self.now index ≡ Some v) }
     {
-        self.form.cell(index)
+        self.layout.cell(index)
     }
 
     /// The cells from a place on, up to another, lent.
-    pub fn lend(&self, from: usize, to: usize) -> Vector<'_>
+    pub fn lend(&self, from: usize, to: usize) -> Result<Vector<'_>, Memory>
         requires { (from ≤ to) × (to ≤ length self.now) }
-        ensures { cells_of result ≡ take (to - from) (drop from self.now) }
+        ensures { IfOk result (λ v. cells_of v ≡ take (to - from) (drop from self.now)) }
     {
-        self.form.lend(from, to)
+        self.layout.lend(from, to)
     }
 
     /// The least and the greatest cell in the total order, nulls aside. None where all are null.

@@ -1,8 +1,9 @@
 // Columns of shared values.
-ghost use Rattle.std.specs.Prelude.{◌≡◌, ◌<◌, ◌≤◌, ◌-◌, ◌++◌, ◌^◌, All, flat_map, length, IfOk, OnOk, Some, slice_get, take, drop};
+ghost use Rattle.std.specs.Prelude.{◌≡◌, ◌<◌, ◌≤◌, ◌-◌, ◌++◌, ◌^◌, All, flat_map, length, IfOk, IfSome, OnOk, Some, slice_get, take, drop};
 ghost use Rattle.kq_column.specs.Cells.{column_of, IsWider};
 ghost use Rattle.kq_vector.specs.Vectors.{cells_of};
 
+use crate::bags::Bags;
 use crate::cells::cell_at;
 use crate::zone::Cellwise;
 use kq_rows::Rows;
@@ -70,6 +71,14 @@ impl Shared {
         ensures { cells_of result ≡ take (to - from) (drop from self.now) }
     {
         Vector::LentCells(&self.cells[from..to])
+    }
+
+    /// The same cells by their members, where they are bags of the same keys.
+    pub fn bags(&self) -> Result<Option<Bags>, Memory>
+        ensures { IfOk result (λ found. IfSome found (λ bags. bags ≡ self.now)) }
+    {
+        let bags = Bags::split(&self.cells)?;
+        Ok(bags)
     }
 
     /// Copies of the cells of parts, one part after another.

@@ -21,7 +21,7 @@ at_any_moment f.InFolded now x y = refl
 at_any_moment f.NotInFolded now x y = refl
 at_any_moment function now x y = refl
 
-rows-pairs : (g : List Value → Computed Value) (xs ys : List Value) (n : ℕ) → length xs ≡ n → length ys ≡ n → each g (beside xs (beside ys (rows_of [] n))) ≡ each_two (λ x y. g (x ∷ y ∷ [])) xs ys
+pub rows-pairs : (g : List Value → Computed Value) (xs ys : List Value) (n : ℕ) → length xs ≡ n → length ys ≡ n → each g (beside xs (beside ys (rows_of [] n))) ≡ each_two (λ x y. g (x ∷ y ∷ [])) xs ys
 rows-pairs g [] ys n h k = refl
 rows-pairs g (x ∷ xs) [] n h k = absurd (omega arith)
 rows-pairs g (x ∷ xs) (y ∷ ys) zero h k = absurd (omega arith)

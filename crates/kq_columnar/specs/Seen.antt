@@ -4,13 +4,14 @@ use Rattle.std.specs.Borrow.{Bor}
 use Rattle.kq_value.specs.declared.dynamic.Dyn.{Dyn}
 use Rattle.kq_value.specs.declared.value.Value.TheVariants.{Bool as Truth}
 use Rattle.kq_value.specs.declared.value.Value.{Value}
-use Rattle.kq_computed.specs.Computed.{Computed, Is}
+use Rattle.kq_computed.specs.Computed.{Computed, Is, each}
 use Rattle.kq_expr.specs.declared.expr.Expr.{Expr}
 use Rattle.kq_fn.specs.declared.function.Function.{Function}
+use Rattle.kq_fn.specs.declared.function.Function.TheVariants.{Member}
 use Rattle.kq_scalar.specs.Applied.{applied}
 use Rattle.kq_scalar.specs.Val.{Surroundings, surroundings}
 use Rattle.kq_columnar.specs.Choices.{merged}
-use Rattle.kq_columnar.specs.Over.{over, values_over}
+use Rattle.kq_columnar.specs.Over.{Over, over, values_over, called_over, bare}
 use Rattle.kq_vector.specs.Vectors.{cells_of, dynamic_of}
 use Rattle.kq_columnar.specs.Vectors.{rows_at}
 use Rattle.kq_vector.specs.declared.vector.Vector.{Vector}
@@ -42,6 +43,14 @@ beside (x ∷ xs) (r ∷ rs) = (x ∷ r) ∷ beside xs rs
 abbrev pub fronted : List Vector → List (List Value) → List (List Value)
 fronted [] rs = rs
 fronted (v ∷ vs) rs = beside (cells_of v) (fronted vs rs)
+
+-- a function at these columns
+abbrev pub at_columns : Function → List Vector → Over
+at_columns function vectors s rows = each (applied function s.now) (fronted vectors (bare rows))
+
+-- the member at one place of the value of each row
+abbrev pub members_at : Value → Over → Over
+members_at place o = called_over Member (o ∷ (λ s rows. Is (map (λ r. place) rows)) ∷ [])
 
 -- so many rows of these columns, or as many as all of them have
 abbrev pub rows_of : List Vector → ℕ → List (List Value)

@@ -1,10 +1,12 @@
 // Expressions over the rows of a piece.
-ghost use Rattle.std.specs.Prelude.{◌≡◌, ◌≤◌, ◌+◌, IfOk, map, drop, length};
+ghost use Rattle.std.specs.Prelude.{◌≡◌, ◌≤◌, ◌+◌, ◌∷◌, [], IfOk, IfSome, map, drop, length};
 ghost use Rattle.kq_computed.specs.Computed.{Is, and_then, AnswersAs, each};
 ghost use Rattle.kq_arithmetic.specs.Logic.{is_yes};
 ghost use Rattle.kq_scalar.specs.Val.{val, surroundings, cell_of};
+ghost use Rattle.kq_expr.specs.declared.expr.Expr.TheVariants.{Literal};
 ghost use Rattle.kq_expr.specs.Terms.{mapped};
-ghost use Rattle.kq_columnar.specs.Over.{over, chosen_over, present_over, given, linked_over, chained_over, bare};
+ghost use Rattle.kq_fn.specs.declared.function.Function.TheVariants.{Member};
+ghost use Rattle.kq_columnar.specs.Over.{over, called_over, chosen_over, present_over, given, linked_over, chained_over, bare};
 ghost use Rattle.kq_vector.specs.Vectors.{cells_of};
 ghost use Rattle.kq_columnar.specs.Vectors.{rows_at};
 ghost use Rattle.kq_columnar.specs.Seen.{seen, rows_in, all_over, fronted};
@@ -13,6 +15,7 @@ use crate::calls::apply_over;
 use crate::choices::{Branch, merged_all, other_places, picked_places, present_branch, truths};
 use crate::gather::{column_over, value_over};
 use crate::piece::Piece;
+use crate::splits::split_members;
 use kq_computed::EvalFault;
 use kq_expr::{Expr, Link};
 use kq_fn::Function;
@@ -52,6 +55,7 @@ fn eval_over<'a>(
         Expr::Call(function, args) => match function {
             Function::Iff | Function::Case => eval_chosen(alloc, args, piece, places),
             Function::Coalesce => eval_present(alloc, args, piece, places),
+            Function::Member => eval_member(alloc, args, piece, places),
             _ => {
                 let vectors = eval_all(alloc, args, piece, places)?;
                 apply_over(alloc, *function, &vectors, piece, places)
@@ -106,6 +110,39 @@ fn eval_link<'a>(
                 places,
             )
         }
+    }
+}
+
+// The member of what stands first: of a split at a literal place without the array.
+#[cycle(eval)]
+#[tactic(auto, using(crate::proofs::SplitMembers::member_of_split, crate::proofs::SplitMembers::member_of_split_stops))]
+fn eval_member<'a>(
+    alloc: Global,
+    exprs: &Vec<Expr>,
+    piece: Piece<'a, '_>,
+    places: &[usize],
+) -> Result<Vector<'a>, EvalFault>
+    ensures { AnswersAs cells_of (called_over Member (map over exprs.now.items) (seen piece.entry) (rows_in piece.entry places.now)) result }
+{
+    if let Some(place) = literal_place(exprs.as_slice()) {
+        if let Expr::Call(function, texts) = &exprs[0] {
+            if let Function::Split = function {
+                let vectors = eval_all(alloc, texts, piece, places)?;
+                return split_members(alloc, &vectors, place, piece, places);
+            }
+        }
+    }
+    let vectors = eval_all(alloc, exprs, piece, places)?;
+    apply_over(alloc, Function::Member, &vectors, piece, places)
+}
+
+// The literal that stands second of two.
+fn literal_place(exprs: &[Expr]) -> Option<&Value>
+    ensures { IfSome result (λ place. drop 1 exprs.now ≡ Literal place.now ∷ []) }
+{
+    match exprs {
+        [_, Expr::Literal(place)] => Some(place),
+        _ => None,
     }
 }
 

@@ -12,6 +12,7 @@ mod members;
 mod numbers;
 mod parts;
 mod piece;
+mod splits;
 mod test;
 mod tests;
 mod truths;

@@ -7,7 +7,7 @@ ghost use Rattle.kq_vector.specs.Vectors.{cells_of, dynamic_of, member_at};
 ghost use Rattle.kq_columnar.specs.Seen.{beside_one, cells_in_parts};
 
 use kq_value::{Dyn, Memory, Value};
-use kq_vector::{Vector, parts_at};
+use kq_vector::{Vector, members_of_bags, parts_at};
 use std::alloc::Global;
 
 /// The members of the dynamics of a column that lie elsewhere, where the value is a key.
@@ -34,6 +34,7 @@ fn members_at<'a>(
     match column {
         Vector::LentCells(cells) => Ok(Some(Vector::Parts(parts_of(alloc, cells, key)?))),
         Vector::Placed(cells, places) => parts_at(alloc, cells, key, places),
+        Vector::Bags(bags, places) => members_of_bags(alloc, *bags, key, places),
         Vector::Parts(parts) => Ok(Some(Vector::Parts(parts_of_parts(alloc, parts, key)?))),
         _ => Ok(None),
     }

@@ -11,7 +11,7 @@ use kq_catalog::Snapshot;
 use kq_command::NewExport;
 use kq_model::Table;
 use kq_plan::Plan;
-use kq_query::Catalogue;
+use kq_query::QueryScope;
 use kq_reply::Refusal;
 use kq_value::{Schema, Text};
 
@@ -65,7 +65,7 @@ fn body_of(
     ensures bound { IfOk result (λ p. IsBodyOf snapshot.now.history export.now table.now (planned_of p)) }
     ensures refused { IfErr result (RefusesBody snapshot.now.history export.now) }
 {
-    let names = Catalogue::new(snapshot)?;
+    let names = QueryScope::new(snapshot)?;
     let body = &export.body;
     match bind_export(
         snapshot.allocator(),

@@ -131,7 +131,7 @@ impl Columns {
         }
     }
 
-    /// The cells that the rows from a place on, up to another, have in a column under these columns; lent, where the rows have such a column.
+    /// The cells that the rows from a place on, up to another, have in a column under these columns; lent where they lie so.
     pub(crate) fn lend(
         &self,
         fields: &[Field],
@@ -143,7 +143,8 @@ impl Columns {
         ensures { IfOk result (λ v. cells_seen v ≡ map (λ r. cell_of r column) (take (to - from) (drop from (map (widened fields.now) self.now)))) }
     {
         if column < self.columns.len() {
-            Ok(self.columns[column].lend(from, to))
+            let cells = self.columns[column].lend(from, to)?;
+            Ok(cells)
         } else {
             let cell = missing_or_null(*self.columns.allocator(), fields, column)?;
             Ok(Vector::Same(cell, to - from))

@@ -109,7 +109,7 @@ impl Extent {
         self.columns.cell_under(fields, index, column)
     }
 
-    /// The cells that the records from a place on, up to another, have in a column under these columns; lent, where the records have such a column.
+    /// The cells that the records from a place on, up to another, have in a column under these columns; lent where they lie so.
     pub fn lend(
         &self,
         fields: &[Field],

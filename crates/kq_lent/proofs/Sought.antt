@@ -13,7 +13,7 @@ use Rattle.kq_lent.specs.Held.{IsReadable, rows_in, sources_in}
 use Rattle.kq_lent.specs.Lent.{rows_held, rows_of}
 use Rattle.kq_lent.specs.Unread.{BeginsAt, IsRead, UnreadView, rows_among, rows_from, width_of}
 use Rattle.kq_lent.specs.declared.place.Place.{Place}
-use Rattle.kq_lent.specs.declared.place.Place.TheVariants.{Own, Lent}
+use Rattle.kq_lent.specs.declared.place.Place.TheVariants.{Own, Framed, Lent}
 use Rattle.kq_lent.proofs.Walks.{rows_by-held}
 use Rattle.kq_lent.proofs.Widths.{all_wide, first_all, other_all}
 
@@ -87,6 +87,7 @@ by_extent (e ∷ es) = map-append row_of e.records (records_in es) ∙ ap (λ (r
 
 pub all_among : (place : Place) → rows_in place ≡ rows_among (sources_in place)
 all_among (Own rows) = sym (append-nil rows)
+all_among (Framed rows) = sym (append-nil rows)
 all_among (Lent extents) = sym (rows_by-held extents) ∙ by_extent (held_extents extents)
 
 -- the rows of a part are what all rows are
@@ -100,6 +101,7 @@ left_at place i j n = record { rows = take n (rows_from (sources_in place) i j);
 
 even : (place : Place) → IsReadable place → All (HasWidth (width_of (rows_in place))) (rows_in place)
 even (Own rows) readable = all_wide rows readable
+even (Framed rows) readable = all_wide rows readable
 even (Lent extents) readable = all_wide (rows_held extents) readable.wide
 
 pub part_read : (place : Place) (a b i j k n left : ℕ) (rows : List Row) → BeginsAt (sources_in place) i j (rows_from (sources_in place) a b) → slice_get (sources_in place) i ≡ Some rows → (j < length rows → j < k) → k ≤ length rows

@@ -15,13 +15,14 @@ use crate::gathered::Gathered;
 use crate::lending::Lending;
 use crate::place::Place;
 use kq_extent::TableExtents;
+use kq_frame::Frame;
 use kq_rows::Rows;
 use kq_stretch::Operator;
 use kq_value::{Memory, Schema, Value};
 use std::alloc::Global;
 use std::marker::Model;
 
-/// Rows of its own, or the rows of the records of extents, which are lent as they stand and read under the columns of their table. Contracts see the list of the rows.
+/// Rows of its own, side by side or in columns, or the rows of the records of extents, which are lent as they stand and read under the columns of their table. Contracts see the list of the rows.
 #[derive(Drop)]
 pub struct Held {
     place: Place,
@@ -54,6 +55,17 @@ impl Held {
         }
     }
 
+    /// Rows of its own in columns.
+    pub fn framed(frame: Frame) -> Held
+        ensures { result ≡ frame }
+    {
+        // Its rows are of one width.
+        let _width = frame.width();
+        Held {
+            place: Place::Framed(frame),
+        }
+    }
+
     /// The rows of the records of a table with these columns.
     pub fn lent(extents: TableExtents, schema: Schema) -> Held
         requires { AreLent (wide_held schema extents) }
@@ -71,6 +83,7 @@ impl Held {
     {
         match &self.place {
             Place::Own(rows) => rows.len() as u64,
+            Place::Framed(frame) => frame.len() as u64,
             Place::Lent(extents) => extents.count_records(),
         }
     }
@@ -104,32 +117,35 @@ impl Held {
         Flow::new(alloc, &self.place, from, to, operators, lets, now)
     }
 
-    /// Copies of the first rows, so many or all.
-    pub fn first(&self, alloc: Global, count: u64) -> Result<Rows, Memory>
+    /// Copies of the first rows, so many or all: in columns, where they stand so.
+    pub fn first(&self, alloc: Global, count: u64) -> Result<Held, Memory>
         ensures { IfOk result (λ few. few ≡ take count self.now) }
     {
         match &self.place {
-            Place::Own(rows) => first_rows(alloc, rows, count),
-            Place::Lent(extents) => first_records(alloc, extents, count),
+            Place::Own(rows) => Ok(Held::own(first_rows(alloc, rows, count)?)),
+            Place::Framed(frame) => Ok(Held::framed(frame.first(alloc, count)?)),
+            Place::Lent(extents) => Ok(Held::own(first_records(alloc, extents, count)?)),
         }
     }
 
-    /// All rows side by side: its own are lent, and lent ones are copied.
+    /// All rows side by side: those that stand so are lent, and others are copied.
     pub fn gather(&self, alloc: Global) -> Result<Gathered<'_>, Memory>
         ensures { IfOk result (λ rows. gathered rows ≡ self.now) }
     {
         match &self.place {
             Place::Own(rows) => Ok(Gathered::Own(rows)),
+            Place::Framed(frame) => Ok(Gathered::Copied(frame.to_rows(alloc)?)),
             Place::Lent(extents) => Ok(Gathered::Copied(extents.all_rows(alloc)?)),
         }
     }
 
-    /// All rows: its own move out, and lent ones are copied.
+    /// All rows: those that stand side by side move out, and others are copied.
     pub fn into_rows(self, alloc: Global) -> Result<Rows, Memory>
         ensures { IfOk result (λ rows. rows ≡ self) }
     {
         match self.place {
             Place::Own(rows) => Ok(rows),
+            Place::Framed(frame) => frame.to_rows(alloc),
             Place::Lent(extents) => extents.all_rows(alloc),
         }
     }

@@ -6,13 +6,15 @@ ghost use Rattle.kq_lent.specs.Unread.{BeginsAt, rows_from};
 
 use crate::lending::Lending;
 use crate::source::Source;
+use kq_frame::Frame;
 use kq_rows::Rows;
 use kq_stretch::Relation;
 
-// Rows are one source, and each extent is one.
+// Rows are one source, side by side or in columns, and each extent is one.
 #[derive(Drop)]
 pub(crate) enum Place {
     Own(Rows),
+    Framed(Frame),
     Lent(Lending),
 }
 
@@ -30,6 +32,7 @@ impl Place {
     {
         match self {
             Place::Own(_) => 1,
+            Place::Framed(_) => 1,
             Place::Lent(extents) => extents.len(),
         }
     }
@@ -40,6 +43,7 @@ impl Place {
     {
         match self {
             Place::Own(rows) => Source::Rows(rows),
+            Place::Framed(frame) => Source::Frame(frame),
             Place::Lent(extents) => Source::Extent(extents.records_at(at)),
         }
     }

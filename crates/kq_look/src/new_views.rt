@@ -16,7 +16,7 @@ use kq_command::NewView;
 use kq_fold::empty_part;
 use kq_model::{SharedView, Table, View};
 use kq_plan::Plan;
-use kq_query::Catalogue;
+use kq_query::QueryScope;
 use kq_reply::{Refusal, Reply};
 use kq_value::Memory;
 
@@ -40,7 +40,7 @@ fn bind(snapshot: &Snapshot, view: &NewView, number: u32, table: &Table) -> Resu
     ensures offers { IfOk result OffersView }
 {
     let alloc = snapshot.allocator();
-    let names = Catalogue::new(snapshot)?;
+    let names = QueryScope::new(snapshot)?;
     let body = &view.body;
     match bind_body(
         alloc,

@@ -12,7 +12,7 @@ use kq_catalog::{Intent, Snapshot};
 use kq_command::Identifier;
 use kq_entries::{EntriesFault, closes_cycle, read_entries};
 use kq_model::{Entries, Entry, Table};
-use kq_query::Catalogue;
+use kq_query::QueryScope;
 use kq_reply::Refusal;
 use kq_value::Text;
 
@@ -37,7 +37,7 @@ pub(crate) fn set_policy(
 fn read(snapshot: &Snapshot, number: u32, table: &Table, policy: &Text) -> Result<Found, Refusal>
     ensures { Finds (IsTextDue snapshot.now.limits (log snapshot.now.history) (record { number = number; table = table.now }) policy.now) result }
 {
-    let names = Catalogue::new(snapshot)?;
+    let names = QueryScope::new(snapshot)?;
     match read_entries(snapshot, &names, policy.as_str(), table.schema.as_slice()) {
         Ok(entries) => set(snapshot, number, table, entries),
         Err(fault) => Err(refusal_of(fault)),

@@ -10,3 +10,4 @@ pub mod Crowd
 pub mod Leading
 pub mod Spots
 pub mod Columned
+pub mod Gathered

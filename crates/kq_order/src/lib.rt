@@ -1,6 +1,7 @@
 //! Rows in an order: what `sort` and `top` make of rows. Where rows stand, and what a step of a plan gives, is left to the crates of plans.
 #![tactic(auto)]
 
+mod columns;
 mod first;
 mod leaders;
 mod parts;

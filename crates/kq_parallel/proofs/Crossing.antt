@@ -29,6 +29,7 @@ use Rattle.kq_rows.specs.contracts.rows.Rows.TheInside as rows_inside
 use Rattle.kq_group.specs.contracts.groups.Groups as groups
 use Rattle.kq_group.specs.contracts.groups.Groups.TheInside as groups_inside
 use Rattle.kq_extent.proofs.Sent.{held_sync as extents_sync}
+use Rattle.kq_frame.proofs.Sent.{frame_sync}
 use Rattle.kq_stretch.specs.contracts.operator.Operator as operator
 use Rattle.kq_value.specs.contracts.schema.Schema as schema
 use Rattle.kq_value.specs.contracts.schema.Schema.TheInside as schema_inside
@@ -106,7 +107,7 @@ lending_sync : IsSync lending.the_row
 lending_sync = search (lending_inside_sync, sendable, crosses) depth 60 fits 20000
 
 held_inside_sync : IsSync held_inside.the_row
-held_inside_sync = search (rows_sync, lending_sync, sendable, crosses) depth 60 fits 20000
+held_inside_sync = search (rows_sync, frame_sync, lending_sync, sendable, crosses) depth 60 fits 20000
 
 held_sync : IsSync held.the_row
 held_sync = search (held_inside_sync, sendable, crosses) depth 60 fits 20000

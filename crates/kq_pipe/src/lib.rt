@@ -1,6 +1,7 @@
-//! What a plan gives over a world: its steps run one after another, and rows that only the next step takes flow into it by pieces. Who gathers the groups of a summarize, a count or rows that are kept is handed to it. How a query becomes a plan is left to the crates beside it, and where the rows of a name come from to those above.
+//! What a plan gives over a world: its steps run one after another, and rows that only the next step takes flow into it by pieces. Who gathers the groups of a summarize, different rows, a count or rows that are kept is handed to it. How a query becomes a plan is left to the crates beside it, and where the rows of a name come from to those above.
 #![tactic(auto)]
 
+mod distinct;
 mod joined;
 mod leaves;
 mod outcome;

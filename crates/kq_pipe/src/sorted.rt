@@ -1,4 +1,4 @@
-// Rows in an order. Where the one key's values are numbers, and the rows lie in columns, each row is copied once.
+// Rows in an order. Where the one key's values are numbers, and the rows lie in columns, no row is made: their columns are.
 ghost use Rattle.std.specs.Prelude.{◌≡◌, ◌∷◌, ℕ, List, [], IfOk, IfSome, flat_map, length, map};
 ghost use Rattle.std.specs.List.{All, range_with_len};
 ghost use Rattle.kq_value.specs.declared.value.Value.{Value as Cell};
@@ -13,10 +13,10 @@ ghost use Rattle.kq_order.specs.Parts.{part_rows};
 ghost use Rattle.kq_pipe.specs.Sorting.{IsPartOf, SortsIf};
 
 use kq_computed::EvalFault;
+use kq_frame::Frame;
 use kq_lent::{Flow, Held, Next, Relation, Vector, copy_row, vector_over};
 use kq_order::{Part, sort_parts, sort_rows};
 use kq_plan::SortKey;
-use kq_rows::Rows;
 use kq_value::{Memory, Value};
 use std::alloc::Global;
 
@@ -27,15 +27,29 @@ pub(crate) fn sort_held(
     keys: &[SortKey],
     lets: &[Value],
     now: i64,
-) -> Result<Rows, EvalFault>
+) -> Result<Held, EvalFault>
     ensures { AnswersOne (Sorted (map sorting_of keys.now) (surroundings now lets.now) rows.now) result }
 {
     match sort_by_one(alloc, rows, keys, lets, now) {
-        Ok(Some(sorted)) => Ok(sorted),
-        Ok(None) => {
-            let gathered = rows.gather(alloc)?;
-            sort_rows(alloc, gathered.rows(), keys, lets, now)
-        }
+        Ok(Some(sorted)) => Ok(Held::framed(sorted)),
+        Ok(None) => sort_gathered(alloc, rows, keys, lets, now),
+        Err(fault) => Err(fault),
+    }
+}
+
+// The same of rows side by side.
+fn sort_gathered(
+    alloc: Global,
+    rows: &Held,
+    keys: &[SortKey],
+    lets: &[Value],
+    now: i64,
+) -> Result<Held, EvalFault>
+    ensures { AnswersOne (Sorted (map sorting_of keys.now) (surroundings now lets.now) rows.now) result }
+{
+    let gathered = rows.gather(alloc)?;
+    match sort_rows(alloc, gathered.rows(), keys, lets, now) {
+        Ok(sorted) => Ok(Held::own(sorted)),
         Err(fault) => Err(fault),
     }
 }
@@ -47,7 +61,7 @@ fn sort_by_one(
     keys: &[SortKey],
     lets: &[Value],
     now: i64,
-) -> Result<Option<Rows>, EvalFault>
+) -> Result<Option<Frame>, EvalFault>
     ensures { SortsIf (map sorting_of keys.now) (surroundings now lets.now) rows.now result }
 {
     if keys.len() != 1 {
@@ -64,7 +78,7 @@ fn sort_flow(
     key: &SortKey,
     lets: &[Value],
     now: i64,
-) -> Result<Option<Rows>, EvalFault>
+) -> Result<Option<Frame>, EvalFault>
     ensures { (rows : List (List Cell)) → flow.old.to_come ≡ came rows → SortsIf (sorting_of key.now ∷ []) (surroundings now lets.now) rows result }
 {
     let mut pieces = Vec::new(alloc);
@@ -83,7 +97,7 @@ fn sort_pieces<R: Relation>(
     key: &SortKey,
     lets: &[Value],
     now: i64,
-) -> Result<Option<Rows>, EvalFault>
+) -> Result<Option<Frame>, EvalFault>
     requires { (w : ℕ) × All (HasWidth w) (flat_map R.rows pieces.now) }
     ensures { SortsIf (sorting_of key.now ∷ []) (surroundings now lets.now) (flat_map R.rows pieces.now) result }
 {

@@ -9,9 +9,10 @@ ghost use Rattle.kq_pipe.specs.Ended.{EndsAs};
 ghost use Rattle.kq_pipe.specs.Gives.{around};
 ghost use Rattle.kq_pipe.specs.Operators.{tally};
 ghost use Rattle.kq_pipe.specs.Outcomes.{order_of, rows_of};
-ghost use Rattle.kq_grouping.specs.Steps.{HasColumns, Linked, flows_from, is_rowwise, last_of};
-ghost use Rattle.kq_pipe.specs.Stretches.{AreNext, Closes, FollowsToEnd, FlowsOn, IsStretch, MakesOf, order_after};
+ghost use Rattle.kq_grouping.specs.Steps.{is_rowwise, last_of};
+ghost use Rattle.kq_pipe.specs.Stretches.{AreNext, Closes, FollowsToEnd, FlowsOn, HasFields, IsStretch, Linked, MakesOf, flows_into, order_after};
 
+use crate::distinct::keep_different;
 use crate::leaves::Leaves;
 use crate::outcome::{Outcome, cells, order_at, rows_at};
 use crate::single::tally_row;
@@ -35,17 +36,17 @@ fn makes_by_row(step: &Step) -> bool
 
 // The number of the step whose rows may flow into this one.
 fn input(step: &Step) -> Option<usize>
-    ensures { result ≡ flows_from (doing_of step.now.work) }
+    ensures { result ≡ flows_into (doing_of step.now.work) }
 {
     match &step.work {
         Work::Where(i, ..) | Work::Project(i, ..) | Work::Expand(i, ..) => Some(*i),
-        Work::Count(i) | Work::Summarize(i, ..) => Some(*i),
+        Work::Count(i) | Work::Distinct(i, ..) | Work::Summarize(i, ..) => Some(*i),
         _ => None,
     }
 }
 
 fn takes(step: &Step, i: usize) -> bool
-    ensures { result ≡ true → flows_from (doing_of step.now.work) ≡ Some i }
+    ensures { result ≡ true → flows_into (doing_of step.now.work) ≡ Some i }
 {
     match input(step) {
         Some(j) => i == j,
@@ -111,7 +112,7 @@ fn flow_from<G: Gatherer>(
 ) -> Result<Outcome, Memory>
     requires ready { G.ready gatherer.now }
     requires linked { Linked (length done.now) (map stepping_of stretch.now) }
-    requires columns { HasColumns (last_of (map stepping_of stretch.now)).doing (last_of (map stepping_of stretch.now)).columns }
+    requires columns { HasFields (last_of (map stepping_of stretch.now)).doing (last_of (map stepping_of stretch.now)).columns }
     ensures { IfOk result (MakesOf (map stepping_of stretch.now) (around now done.now) (order_of done.now i) (rows_of done.now i)) }
 {
     let none = Held::own(Rows::new(alloc));
@@ -160,7 +161,7 @@ fn flow<G: Gatherer>(
 ) -> Result<Outcome, Memory>
     requires ready { G.ready gatherer.now }
     requires some { 0 < length stretch.now }
-    requires columns { HasColumns (last_of (map stepping_of stretch.now)).doing (last_of (map stepping_of stretch.now)).columns }
+    requires columns { HasFields (last_of (map stepping_of stretch.now)).doing (last_of (map stepping_of stretch.now)).columns }
     ensures { IfOk result (MakesOf (map stepping_of stretch.now) (surroundings now lets.now) ordered rows.now) }
 {
     let operators = operators(alloc, stretch)?;
@@ -207,7 +208,7 @@ fn close<G: Gatherer>(
     now: i64,
 ) -> Result<Ended, Memory>
     requires ready { G.ready gatherer.now }
-    requires columns { HasColumns (doing_of last.now.work) last.now.columns.items }
+    requires columns { HasFields (doing_of last.now.work) last.now.columns.items }
     ensures { IfOk result (EndsAs (Closes (doing_of last.now.work) last.now.stage last.now.columns.items (surroundings now lets.now) ordered) (ran (map rowwise_of operators.now) (surroundings now lets.now) rows.now)) }
 {
     let pipeline = Pipeline {
@@ -217,6 +218,14 @@ fn close<G: Gatherer>(
     };
     match &last.work {
         Work::Count(..) => count_all(alloc, gatherer, &pipeline, rows),
+        Work::Distinct(_, columns) => keep_different(
+            alloc,
+            gatherer,
+            &pipeline,
+            rows,
+            columns.as_slice(),
+            last.columns.as_slice(),
+        ),
         Work::Summarize(_, keys, aggregates) => group_all(
             alloc,
             gatherer,

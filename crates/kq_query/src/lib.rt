@@ -2,11 +2,11 @@
 #![tactic(auto)]
 
 mod answering;
-mod catalogue;
 mod made;
+mod scope;
 mod views;
 
 pub use answering::answer;
-pub use catalogue::Catalogue;
 pub use kq_pipe::{Alone, Gatherer};
+pub use scope::QueryScope;
 pub use views::{columns_read, view_rows_of};

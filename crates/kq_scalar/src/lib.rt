@@ -4,5 +4,5 @@
 pub mod apply;
 mod rows;
 
-pub use kq_texts::empty_test;
+pub use kq_texts::{empty_test, piece_at};
 pub use rows::eval;

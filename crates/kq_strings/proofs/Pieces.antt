@@ -1,5 +1,6 @@
 -- The pieces of a text, one after another.
-use Rattle.std.proofs.Common.{◌≡◌, ◌<◌, ◌≤◌, ℕ, zero, suc, ◌-◌, Bool, true, false, cond, List, [], ◌∷◌, ◌++◌, length, map, take, drop, nat_eq, refl, sym, ap, ◌∙◌, subst, append_assoc, arith}
+use Rattle.std.proofs.Common.{◌≡◌, ◌<◌, ◌≤◌, ℕ, zero, suc, ◌-◌, Bool, true, false, cond, List, [], ◌∷◌, ◌++◌, length, map, take, drop, nat_eq, Some, None, refl, sym, ap, ◌∙◌, subst, append_assoc, arith}
+use Rattle.std.specs.Prelude.{slice_get}
 use Rattle.std.specs.List.{starts_with, onto_first}
 use Rattle.std.specs.Str.Pattern.{LacksTextAt}
 use Rattle.std.proofs.Math.Seq.{drop-append_seam, take-append_seam}
@@ -74,6 +75,26 @@ pub replace-first : (s t u piece after : List ℕ) → split s t ≡ piece ∷ s
 replace-first s t u piece after e =
     let q = split_some after t in
     ap (joined_by u) e ∙ rw q.2 (append_assoc piece u _)
+
+-- ---- one of the pieces
+
+pub next_piece : (ps : List (List ℕ)) (p : List ℕ) (qs : List (List ℕ)) (n i : ℕ) → i < n → ps ≡ p ∷ qs → slice_get ps (n - i) ≡ slice_get qs (n - suc i)
+next_piece ps p qs n i h e =
+    let one : n - i ≡ suc (n - suc i) = omega arith in
+    ap (λ (xs : List (List ℕ)). slice_get xs (n - i)) e ∙ ap (slice_get (p ∷ qs)) one
+
+none_there : (ps : List (List ℕ)) (k : ℕ) → length ps ≡ 0 → slice_get ps k ≡ None
+none_there [] zero h = refl
+none_there [] (suc k) h = refl
+none_there (p ∷ ps) k h = absurd (omega arith)
+
+pub none_behind : (ps : List (List ℕ)) (p : List ℕ) (n i : ℕ) → i < n → ps ≡ p ∷ [] → slice_get ps (n - i) ≡ None
+none_behind ps p n i h e = next_piece ps p [] n i h e ∙ none_there [] (n - suc i) refl
+
+pub piece_here : (ps : List (List ℕ)) (p : List ℕ) (qs : List (List ℕ)) (n i : ℕ) → n ≤ i → ps ≡ p ∷ qs → slice_get ps (n - i) ≡ Some p
+piece_here ps p qs n i h e =
+    let none : n - i ≡ 0 = omega arith in
+    ap (λ (xs : List (List ℕ)). slice_get xs (n - i)) e ∙ ap (slice_get (p ∷ qs)) none
 
 -- ---- pieces as an array
 

@@ -2,4 +2,5 @@ pub mod Case
 pub mod Cut
 pub mod Find
 pub mod Found
+pub mod Pieces
 pub mod Suffixes

@@ -11,4 +11,4 @@ mod suffix;
 mod terms;
 
 pub use find::{FindKind, find_text};
-pub use split::{replace_text, split_text};
+pub use split::{piece_of, replace_text, split_text};

@@ -1,9 +1,10 @@
 // Splitting and replacing.
-ghost use Rattle.std.specs.Prelude.{◌≡◌, ◌<◌, [], ◌∷◌, IfOk, IfSome, MatchOption, length};
+ghost use Rattle.std.specs.Prelude.{◌≡◌, ◌<◌, [], ◌∷◌, IfOk, IfSome, MatchOption, length, option_map, slice_get};
 ghost use Rattle.kq_written.specs.kq_value.Tree.{array};
 ghost use Rattle.kq_written.specs.kq_value.Seen.{tree_of};
 ghost use Rattle.kq_written.specs.Members.{strings};
 ghost use Rattle.kq_written.specs.Strings.{split, replace_string};
+ghost use Rattle.kq_strings.specs.Pieces.{item_from};
 
 use kq_written::{Dyn, DynList, Memory, Text};
 use std::alloc::Global;
@@ -32,6 +33,44 @@ pub fn split_text(alloc: Global, text: &str, part: &str) -> Result<Dyn, Memory>
     }
     pieces.push(Dyn::Text(Text::from_str(alloc, rest)?))?;
     Ok(Dyn::List(pieces))
+}
+
+/// The one of these pieces with a number, from 0, or from the end where it is negative, -1 being the last. Nothing is copied.
+pub fn piece_of<'a>(text: &'a str, part: &str, number: i64) -> Option<&'a str>
+    ensures { option_map (λ p. p.now) result ≡ item_from (split text.now part.now) number }
+{
+    if number >= 0 {
+        return piece_at(text, part, number as usize);
+    }
+    let back = number.unsigned_abs() as usize;
+    piece_at(text, part, count_pieces(text, part).checked_sub(back)?)
+}
+
+#[tactic(auto, using(crate::proofs::Pieces::next_piece, crate::proofs::Pieces::none_behind, crate::proofs::Pieces::piece_here))]
+fn piece_at<'a>(text: &'a str, part: &str, number: usize) -> Option<&'a str>
+    ensures { option_map (λ p. p.now) result ≡ slice_get (split text.now part.now) number }
+{
+    let mut rest = text;
+    for _passed in 0..number {
+        let (_piece, after) = cut(rest, part)?;
+        rest = after;
+    }
+    match cut(rest, part) {
+        Some((piece, _after)) => Some(piece),
+        None => Some(rest),
+    }
+}
+
+fn count_pieces(text: &str, part: &str) -> usize
+    ensures { result ≡ length (split text.now part.now) }
+{
+    let mut count = 1;
+    let mut rest = text;
+    while let Some((_piece, after)) = cut(rest, part) {
+        count += 1;
+        rest = after;
+    }
+    count
 }
 
 /// `text` with `by` in place of each occurrence of `part` from the left; the text itself where `part` is empty.

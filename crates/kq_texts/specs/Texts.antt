@@ -1,5 +1,5 @@
 -- What the operators and functions of strings give, as cells.
-use Rattle.std.specs.Prelude.{pos, List, []}
+use Rattle.std.specs.Prelude.{ℕ, pos, List, [], Option, option_map, unwrap_or}
 use Rattle.std.specs.List.{flat_map}
 use Rattle.std.specs.Str.{bytes_eq, str_to_ascii_lowercase, str_to_ascii_uppercase}
 use Rattle.kq_written.specs.Members.{strings}
@@ -58,6 +58,10 @@ index_in v w = Null ty.Long
 abbrev pub pieces : Value → Value → Value
 pieces (Text s) (Text t) = Dynamic (dyn.List (strings (split s t)))
 pieces v w = Dynamic dyn.Null
+
+-- a piece as a cell, and the null of dynamics where there is none
+abbrev pub piece_cell : Option (List ℕ) → Value
+piece_cell found = Dynamic (unwrap_or (option_map dyn.Text found) dyn.Null)
 
 -- KQL reference, replace_string(): each occurrence of a text replaced by another
 abbrev pub replaced : Value → Value → Value → Value

@@ -15,4 +15,4 @@ pub use kq_conversions::{
     keys_of, member_of, not_empty_test, not_null_test, null_test, sorted_of,
 };
 pub use place::{index_in, str_len, sub_text, sub_text_to};
-pub use split::{pieces, replaced};
+pub use split::{piece_at, pieces, replaced};

@@ -1,8 +1,10 @@
 // Splitting and replacing.
-ghost use Rattle.std.specs.Prelude.{◌≡◌, IfOk};
+ghost use Rattle.std.specs.Prelude.{◌≡◌, IfOk, option_map};
+ghost use Rattle.kq_conversions.specs.Parts.{member_of};
 ghost use Rattle.kq_texts.specs.Texts as texts;
+ghost use Rattle.kq_texts.specs.Texts.{piece_cell};
 
-use kq_strings::{replace_text, split_text};
+use kq_strings::{piece_of, replace_text, split_text};
 use kq_value::{Dyn, Memory, Text, Value};
 use std::alloc::Global;
 
@@ -15,6 +17,32 @@ pub fn pieces(alloc: Global, value: &Value, part: &Value) -> Result<Value, Memor
     };
     let pieces = split_text(alloc, text.as_str(), part.as_str())?;
     Value::dynamic(alloc, pieces)
+}
+
+/// The member of `split` at a place, made without the other pieces.
+#[tactic(auto, using(crate::proofs::SplitPieces::piece_found, crate::proofs::SplitPieces::member_of_null))]
+pub fn piece_at(alloc: Global, value: &Value, part: &Value, place: &Value) -> Result<Value, Memory>
+    ensures { IfOk result (λ v. v ≡ member_of (texts.pieces value.now part.now) place.now) }
+{
+    let (Value::Text(text), Value::Text(part)) = (value, part) else {
+        return Value::dynamic(alloc, Dyn::Null);
+    };
+    match place {
+        Value::Long(number) => {
+            let piece = piece_of(text.as_str(), part.as_str(), *number);
+            text_or_null(alloc, piece)
+        }
+        _ => Value::dynamic(alloc, Dyn::Null),
+    }
+}
+
+fn text_or_null(alloc: Global, piece: Option<&str>) -> Result<Value, Memory>
+    ensures { IfOk result (λ v. v ≡ piece_cell (option_map (λ p. p.now) piece.entry)) }
+{
+    match piece {
+        Some(text) => Value::dynamic(alloc, Dyn::Text(Text::from_str(alloc, text)?)),
+        None => Value::dynamic(alloc, Dyn::Null),
+    }
 }
 
 /// `replace_string`.

@@ -1,2 +1,3 @@
+pub mod Bagged
 pub mod Masked
 pub mod Picking

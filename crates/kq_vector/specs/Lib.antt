@@ -1,2 +1,4 @@
+pub mod Bags
 pub mod Numbers
+pub mod Props
 pub mod Vectors

@@ -8,9 +8,10 @@ use Rattle.kq_value.specs.declared.dynamic.Dyn.TheVariants as dyn
 use Rattle.kq_value.specs.Bags.{value_at}
 use Rattle.kq_value.specs.Seen.{dyn_of}
 use Rattle.kq_value.specs.Tree.{null}
+use Rattle.kq_vector.specs.Bags.{bags_in}
 use Rattle.kq_vector.specs.Numbers.{marked, number_cell}
 use Rattle.kq_vector.specs.declared.vector.Vector.{Vector}
-use Rattle.kq_vector.specs.declared.vector.Vector.TheVariants.{Longs, Moments, Spans, Truths, Cells, LentLongs, LentMoments, LentSpans, LentCells, Marked, Words, Picked, Placed, Parts, Same}
+use Rattle.kq_vector.specs.declared.vector.Vector.TheVariants.{Longs, Moments, Spans, Truths, Cells, LentLongs, LentMoments, LentSpans, LentCells, Marked, Words, Picked, Placed, Bags, Parts, Same}
 
 -- the cell at a place, and a null past the end
 abbrev pub cell_of : List Value → ℕ → Value
@@ -39,5 +40,6 @@ cells_of (Marked numbers) = map (number_cell numbers.ty) (marked numbers.nulls.n
 cells_of (Words words codes) = map (cell_of words.now) codes.now
 cells_of (Picked words codes) = map (cell_of words.now) codes.items
 cells_of (Placed cells places) = map (cell_of cells.now) places.items
+cells_of (Bags bags places) = map (cell_of (bags_in bags.parts.now bags.count)) places.items
 cells_of (Parts parts) = map (λ o. dynamic_of (option_map (λ d. d.now) o)) parts.items
 cells_of (Same value count) = replicate count value

@@ -2,6 +2,8 @@
 #![tactic(auto)]
 
 mod at;
+mod bags;
+mod made;
 mod marked;
 mod numbers;
 mod own;
@@ -10,8 +12,9 @@ mod pick;
 mod vector;
 
 pub use at::cell_at;
+pub use bags::{LentBags, Part};
 pub use marked::MarkedNumbers;
 pub use numbers::{lent_numbers, value_of};
 pub use own::{copies, owned};
-pub use parts::parts_at;
+pub use parts::{members_of_bags, parts_at};
 pub use vector::Vector;

@@ -1,8 +1,10 @@
 // The cells at some places.
 ghost use Rattle.std.specs.Prelude.{◌≡◌, ◌<◌, All, map, option_map, replicate, IfOk, IfSome, IsTrue, Some, slice_get};
 ghost use Rattle.kq_value.specs.declared.value.Value.TheVariants.{Long, Bool as Truth, Moment, Span};
+ghost use Rattle.kq_vector.specs.Bags.{bags_in};
 ghost use Rattle.kq_vector.specs.Vectors.{cell_of, cells_of, dynamic_of};
 
+use crate::bags::LentBags;
 use crate::vector::Vector;
 use kq_value::{Dyn, Memory, Value};
 use std::alloc::Global;
@@ -44,6 +46,7 @@ impl<'a> Vector<'a> {
             Vector::Words(words, codes) => words_at(alloc, words, codes, places),
             Vector::Picked(words, codes) => words_at(alloc, words, codes, places),
             Vector::Placed(cells, held) => places_at(alloc, cells, held, places),
+            Vector::Bags(bags, held) => bags_at(alloc, *bags, held, places),
             Vector::Parts(parts) => parts_among(alloc, parts, places),
             Vector::Same(value, count) => same_among(value, *count, places),
             _ => Ok(None),
@@ -144,6 +147,20 @@ fn places_at<'a>(
 {
     match items_at(alloc, held, places)? {
         Some(found) => Ok(Some(Vector::Placed(cells, found))),
+        None => Ok(None),
+    }
+}
+
+fn bags_at<'a>(
+    alloc: Global,
+    bags: LentBags<'a>,
+    held: &[usize],
+    places: &[usize],
+) -> Result<Option<Vector<'a>>, Memory>
+    ensures { IfOk result (λ o. IfSome o (λ v. cells_of v ≡ map (cell_of (map (cell_of (bags_in bags.entry.parts.now bags.entry.count)) held.now)) places.now)) }
+{
+    match items_at(alloc, held, places)? {
+        Some(found) => Ok(Some(Vector::Bags(bags, found))),
         None => Ok(None),
     }
 }

@@ -7,6 +7,8 @@ ghost use Rattle.kq_vector.specs.Vectors.{cell_of, cells_of};
 use crate::at::{
     cell_at, long_at, moment_at, part_at, placed_at, same_at, span_at, truth_at, word_at,
 };
+use crate::bags::LentBags;
+use crate::made::placed_bag;
 use crate::marked::MarkedNumbers;
 use crate::numbers::{marked_longs, marked_moments, marked_spans, number_at};
 use kq_value::{Dyn, Memory, Value};
@@ -29,6 +31,8 @@ pub enum Vector<'a> {
     Picked(&'a [Value], Vec<u32>),
     /// Cells that lie elsewhere, by their places.
     Placed(&'a [Value], Vec<usize>),
+    /// Bags that are kept by their members, at these places.
+    Bags(LentBags<'a>, Vec<usize>),
     /// Parts of dynamics, none for the null of dynamics.
     Parts(Vec<Option<&'a Dyn>>),
     /// One cell, so many times.
@@ -53,6 +57,7 @@ impl Vector<'_> {
             Vector::Words(_, codes) => codes.len(),
             Vector::Picked(_, codes) => codes.len(),
             Vector::Placed(_, places) => places.len(),
+            Vector::Bags(_, places) => places.len(),
             Vector::Parts(parts) => parts.len(),
             Vector::Same(_, count) => *count,
         }
@@ -76,6 +81,7 @@ impl Vector<'_> {
             Vector::Words(words, codes) => word_at(words, codes, i),
             Vector::Picked(words, codes) => word_at(words, codes, i),
             Vector::Placed(cells, places) => placed_at(cells, places, i),
+            Vector::Bags(bags, places) => placed_bag(*places.allocator(), bags, places, i),
             Vector::Parts(parts) => part_at(*parts.allocator(), parts, i),
             Vector::Same(value, count) => same_at(value, *count, i),
         }
@@ -189,7 +195,9 @@ impl Vector<'_> {
             Vector::Marked(numbers) => Some(Vector::Marked(*numbers)),
             Vector::Words(words, codes) => Some(Vector::Words(words, codes)),
             Vector::Picked(words, codes) => Some(Vector::Words(words, codes.as_slice())),
-            Vector::Placed(_, _) | Vector::Parts(_) | Vector::Same(_, _) => None,
+            Vector::Placed(_, _) | Vector::Bags(_, _) | Vector::Parts(_) | Vector::Same(_, _) => {
+                None
+            }
         }
     }
 }

@@ -6,14 +6,14 @@ use Rattle.kq_grouping.specs.kq_stretch.Operators.{rowwise_of}
 use Rattle.kq_grouping.specs.kq_stretch.Ran.{ran}
 use Rattle.kq_pipe.specs.declared.outcome.Outcome.TheVariants as outcome
 use Rattle.kq_grouping.proofs.Stepped.{last_step}
-use Rattle.kq_grouping.specs.Steps.{HasColumns, operators_of}
-use Rattle.kq_pipe.specs.Stretches.{ComesTo}
+use Rattle.kq_grouping.specs.Steps.{operators_of}
+use Rattle.kq_pipe.specs.Stretches.{ComesTo, HasFields}
 use Rattle.kq_pipe.proofs.Stretched.{comes_failed, comes_gave, ends_so, failed_within}
 use Rattle.kq_pipe.proofs.stretch.flow.Goals as goal
 
 pub close-requires-clause-columns : goal.close-requires-clause-columns
 close-requires-clause-columns g c =
-    subst (λ (s : Stepping). HasColumns s.doing s.columns) (last_step c.args.stretch.now c.index-stretch-stretch.result c.requires.some c.index-stretch-stretch.is) c.requires.columns
+    subst (λ (s : Stepping). HasFields s.doing s.columns) (last_step c.args.stretch.now c.index-stretch-stretch.result c.requires.some c.index-stretch-stretch.is) c.requires.columns
 
 pub returns-in-Gave : goal.returns-in-Gave
 returns-in-Gave g c =

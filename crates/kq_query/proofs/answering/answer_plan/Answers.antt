@@ -9,13 +9,13 @@ use Rattle.kq_query.proofs.answering.answer_plan.Goals as goal
 
 pub run_plan_by-requires-clause-fits : goal.run_plan_by-requires-clause-fits
 run_plan_by-requires-clause-fits g c =
-    let h = c.args.catalogue.now.snapshot.now.history in
+    let h = c.args.scope.now.snapshot.now.history in
     let p = planned_of c.args.plan in
     record { columns = columns_given p; typed = world_typed h; fits = c.requires.fits }
 
 pub show-requires : goal.show-requires
 show-requires g c =
-    let h = c.args.catalogue.now.snapshot.now.history in
+    let h = c.args.scope.now.snapshot.now.history in
     let p = planned_of c.args.plan in
     let same : to_z w64 (of_z w64 c.args.now) ≡ c.args.now = search (rules, to_z-of_z) in
     rw c.header.ensures (gives_typed (known_in h) (MayGive h) c.args.now p (columns_given p) c.in_ok-outcome.outcome c.requires.moment (world_typed h) c.requires.fits (rw same at c.in_ok-outcome.ensures))

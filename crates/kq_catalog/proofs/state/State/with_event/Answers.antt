@@ -12,7 +12,7 @@ use Rattle.kq_model.specs.Records.{extents_made}
 use Rattle.kq_model.proofs.Bounded.{few_made_by}
 use Rattle.kq_model.specs.Tagged.{is_tagged_by}
 use Rattle.kq_tagged.specs.Index.{AddsTags}
-use Rattle.kq_catalog.specs.Edits.{IsPlan, edits_by}
+use Rattle.kq_catalog.specs.Edits.{AreEdits, edits_by}
 use Rattle.kq_catalog.specs.Held.{tables_in}
 use Rattle.kq_catalog.specs.Intents.{commit_of, event_by, view_by}
 use Rattle.kq_catalog.specs.Policies.{SetsStanding}
@@ -27,15 +27,15 @@ with_all-requires c =
     let v = c.args.self.now in
     let cs = c.in_ok-commit.field-0.changes.items in
     let sound : Sound v = subst Sound c.self.view_is c.self.invariant.sound in
-    let plan : IsPlan (cursor_of (hist v) + 1) (1 + extents_made (hist v)) c.args.intent c.in_ok-commit.field-0 = c.in_ok-commit.ensures in
-    subst (λ (w : CatalogView). FitAll (tables_in w.held) (edits_by cs)) (sym c.self.view_is) (changes_fit v (cursor_of (hist v) + 1) (1 + extents_made (hist v)) (commit_of c.args.intent) cs sound c.requires.lawful plan.edits)
+    let staged : AreEdits (cursor_of (hist v) + 1) (1 + extents_made (hist v)) c.args.intent c.in_ok-commit.field-0 = c.in_ok-commit.ensures in
+    subst (λ (w : CatalogView). FitAll (tables_in w.held) (edits_by cs)) (sym c.self.view_is) (changes_fit v (cursor_of (hist v) + 1) (1 + extents_made (hist v)) (commit_of c.args.intent) cs sound c.requires.lawful staged.edits)
 
 pub with_commit-requires-clause-stands : goal.with_commit-requires-clause-stands
 with_commit-requires-clause-stands c =
     let v : CatalogView = record { limits = c.self.inside.limits; history = c.self.inside.journal; held = c.self.inside.tables; policies = c.self.inside.policies; views = c.self.inside.views; failures = c.self.inside.failures } in
     let lawful : LawfulCommit v.limits (log (hist v)) (commit_of c.args.intent) = subst (λ (w : CatalogView). LawfulCommit w.limits (log (hist w)) (commit_of c.args.intent)) (sym c.self.view_is) c.requires.lawful in
-    let plan : IsPlan (cursor_of (hist c.args.self.now) + 1) (1 + extents_made (hist c.args.self.now)) c.args.intent c.in_ok-commit.field-0 = c.in_ok-commit.ensures in
-    subst (SetsStanding (length v.policies)) (sym plan.is) (sets_standing v (commit_of c.args.intent) c.self.invariant.sound lawful)
+    let staged : AreEdits (cursor_of (hist c.args.self.now) + 1) (1 + extents_made (hist c.args.self.now)) c.args.intent c.in_ok-commit.field-0 = c.in_ok-commit.ensures in
+    subst (SetsStanding (length v.policies)) (sym staged.is) (sets_standing v (commit_of c.args.intent) c.self.invariant.sound lawful)
 
 pub with_commit-requires-clause-few : goal.with_commit-requires-clause-few
 with_commit-requires-clause-few c =
@@ -47,8 +47,8 @@ pub with_new-requires-clause-new : goal.with_new-requires-clause-new
 with_new-requires-clause-new c =
     let v : CatalogView = record { limits = c.self.inside.limits; history = c.self.inside.journal; held = c.self.inside.tables; policies = c.self.inside.policies; views = c.self.inside.views; failures = c.self.inside.failures } in
     let lawful : LawfulCommit v.limits (log (hist v)) (commit_of c.args.intent) = subst (λ (w : CatalogView). LawfulCommit w.limits (log (hist w)) (commit_of c.args.intent)) (sym c.self.view_is) c.requires.lawful in
-    let plan : IsPlan (cursor_of (hist c.args.self.now) + 1) (1 + extents_made (hist c.args.self.now)) c.args.intent c.in_ok-commit.field-0 = c.in_ok-commit.ensures in
-    subst (λ (o : Option HeldView). IfSome o (λ (x : HeldView). place_of x.view.name (names_held v.views) ≡ None)) (sym plan.view)
+    let staged : AreEdits (cursor_of (hist c.args.self.now) + 1) (1 + extents_made (hist c.args.self.now)) c.args.intent c.in_ok-commit.field-0 = c.in_ok-commit.ensures in
+    subst (λ (o : Option HeldView). IfSome o (λ (x : HeldView). place_of x.view.name (names_held v.views) ≡ None)) (sym staged.view)
     (new_name v.limits (hist v) (cursor_of (hist c.args.self.now) + 1) c.args.intent v.views c.self.invariant.sound.views lawful)
 
 pub with_new-requires-clause-few : goal.with_new-requires-clause-few
@@ -80,9 +80,9 @@ overflow_add-result-2 c =
     let now = c.args.self.now in
     let v : CatalogView = record { limits = c.self.inside.limits; history = c.self.inside.journal; held = c.self.inside.tables; policies = c.self.inside.policies; views = c.self.inside.views; failures = c.self.inside.failures } in
     let few = made_few v c.self.invariant.sound in
-    let plan : IsPlan (cursor_of (hist now) + 1) (1 + extents_made (hist now)) c.args.intent c.in_ok-commit.field-0 = c.in_ok-commit.ensures in
+    let staged : AreEdits (cursor_of (hist now) + 1) (1 + extents_made (hist now)) c.args.intent c.in_ok-commit.field-0 = c.in_ok-commit.ensures in
     let place = ap (λ (w : CatalogView). length (hist w)) c.self.view_is in
-    omega (arith, c.self.invariant.made_count, few, place, c.place-place.ensures.place, c.place-place.ensures.small, plan.made, few_made_by now.limits (log (hist now)) (commit_of c.args.intent) c.requires.lawful)
+    omega (arith, c.self.invariant.made_count, few, place, c.place-place.ensures.place, c.place-place.ensures.small, staged.made, few_made_by now.limits (log (hist now)) (commit_of c.args.intent) c.requires.lawful)
 
 pub invariant_of-result : goal.invariant_of-result
 invariant_of-result c =
@@ -91,21 +91,21 @@ invariant_of-result c =
     let commit = commit_of c.args.intent in
     let made = c.in_ok-commit.field-0 in
     let cs = made.changes.items in
-    let plan : IsPlan (cursor_of (hist now) + 1) (1 + extents_made (hist now)) c.args.intent made = c.in_ok-commit.ensures in
+    let staged : AreEdits (cursor_of (hist now) + 1) (1 + extents_made (hist now)) c.args.intent made = c.in_ok-commit.ensures in
     let lawful : LawfulCommit v.limits (log (hist v)) commit = subst (λ (w : CatalogView). LawfulCommit w.limits (log (hist w)) commit) (sym c.self.view_is) c.requires.lawful in
     let edits : edits_by cs ≡ edits_of (cursor_of (hist v) + 1) (1 + extents_made (hist v)) commit =
-    subst (λ (w : CatalogView). edits_by cs ≡ edits_of (cursor_of (hist w) + 1) (1 + extents_made (hist w)) commit) (sym c.self.view_is) plan.edits in
+    subst (λ (w : CatalogView). edits_by cs ≡ edits_of (cursor_of (hist w) + 1) (1 + extents_made (hist w)) commit) (sym c.self.view_is) staged.edits in
     let journal : c.in_ok-journal.journal ≡ hist v ++ event_by c.args.by c.args.intent ∷ [] =
-    c.in_ok-journal.ensures ∙ ap (λ (k : Commit). let e : Event = record { by = c.args.by; operation = operation.Commit k } in hist now ++ e ∷ []) plan.is
+    c.in_ok-journal.ensures ∙ ap (λ (k : Commit). let e : Event = record { by = c.args.by; operation = operation.Commit k } in hist now ++ e ∷ []) staged.is
     ∙ ap (λ (w : CatalogView). hist w ++ event_by c.args.by c.args.intent ∷ []) (sym c.self.view_is) in
     let index = c.self.inside.tags in
     let tags = c.in_ok-tags.tags in
     let adds : AddsTags index (λ t tag. is_tagged_by t tag commit) (c.self.inside.cursor + 1) tags =
-    subst (λ (k : Commit). AddsTags index (λ t tag. is_tagged_by t tag k) (c.self.inside.cursor + 1) tags) plan.is c.in_ok-tags.ensures in
+    subst (λ (k : Commit). AddsTags index (λ t tag. is_tagged_by t tag k) (c.self.inside.cursor + 1) tags) staged.is c.in_ok-tags.ensures in
     let views : c.in_ok-views.views ≡ with_new v.views (view_by (cursor_of (hist v) + 1) c.args.intent) =
-    c.in_ok-views.ensures ∙ ap (with_new v.views) plan.view ∙ ap (λ (w : CatalogView). with_new v.views (view_by (cursor_of (hist w) + 1) c.args.intent)) (sym c.self.view_is) in
-    let policies : c.in_ok-policies.policies ≡ policies_with commit v.policies = c.in_ok-policies.ensures ∙ ap (λ (k : Commit). policies_with k v.policies) plan.is in
+    c.in_ok-views.ensures ∙ ap (with_new v.views) staged.view ∙ ap (λ (w : CatalogView). with_new v.views (view_by (cursor_of (hist w) + 1) c.args.intent)) (sym c.self.view_is) in
+    let policies : c.in_ok-policies.policies ≡ policies_with commit v.policies = c.in_ok-policies.ensures ∙ ap (λ (k : Commit). policies_with k v.policies) staged.is in
     let failures : c.in_ok-failures.failures ≡ v.failures ++ noted_by (cursor_of (hist v) + 1) commit =
-    c.in_ok-failures.ensures ∙ ap (λ (k : Commit). v.failures ++ noted_by (c.self.inside.cursor + 1) k) plan.is ∙ ap (λ (n : ℕ). v.failures ++ noted_by (n + 1) commit) c.self.invariant.count in
+    c.in_ok-failures.ensures ∙ ap (λ (k : Commit). v.failures ++ noted_by (c.self.inside.cursor + 1) k) staged.is ∙ ap (λ (n : ℕ). v.failures ++ noted_by (n + 1) commit) c.self.invariant.count in
     rw (journal, c.in_ok-tables.ensures, policies, views, failures)
-    (HoldsHistory-push v c.self.inside.cursor c.self.inside.made made.made (event_by c.args.by c.args.intent) c.args.intent cs index tags c.self.invariant lawful c.requires.begins refl edits plan.made adds)
+    (HoldsHistory-push v c.self.inside.cursor c.self.inside.made made.made (event_by c.args.by c.args.intent) c.args.intent cs index tags c.self.invariant lawful c.requires.begins refl edits staged.made adds)

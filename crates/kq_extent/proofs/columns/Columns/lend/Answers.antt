@@ -12,15 +12,15 @@ lend-requires c =
     let long : length c.index.result.now ≡ s.count = ap length c.index.ensures ∙ c.self.invariant.long c.args.column c.index.result.now within in
     (c.requires.0, omega (arith, n, long, c.requires.1))
 
-pub returns-then-column-len : goal.returns-then-column-len
-returns-then-column-len c =
+pub returns-in_ok-cells : goal.returns-in_ok-cells
+returns-in_ok-cells c =
     let s = c.self.inside in
     let within : c.args.column < length s.columns.items = search rules in
     let cells = c.index.result.now in
     let long : length cells ≡ s.count = ap length c.index.ensures ∙ c.self.invariant.long c.args.column cells within in
     let got : slice_get s.columns.items c.args.column ≡ Some cells = slice_get_read s.columns.items (length s.columns.items) c.args.column cells refl within c.index.ensures in
     let same = lent_across c.args.fields.now s.columns.items c.args.self.now s.count c.args.column (c.args.to - c.args.from) c.args.from cells got long c.self.view_is in
-    c.lend.ensures ∙ same
+    c.in_ok-cells.ensures ∙ same
 
 pub returns-in_ok-cell : goal.returns-in_ok-cell
 returns-in_ok-cell c =

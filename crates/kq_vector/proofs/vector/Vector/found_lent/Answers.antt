@@ -11,3 +11,6 @@ returns-in-Placed c = rw (c.in-Placed.is, ← c.deref-in-Placed.ensures.value) c
 
 pub returns-in-Parts : goal.returns-in-Parts
 returns-in-Parts c = rw (c.in-Parts.is, ← c.deref-in-Parts.ensures.value) c.parts_among.ensures
+
+pub returns-in-Bags : goal.returns-in-Bags
+returns-in-Bags c = rw (c.in-Bags.is, ← c.deref-in-Bags.ensures.value) c.bags_at.ensures
