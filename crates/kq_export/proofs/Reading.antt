@@ -14,10 +14,10 @@ use Rattle.kq_extent.specs.Wide.{wide_held}
 use Rattle.kq_model.specs.declared.table.Table.{Table}
 use Rattle.kq_model.specs.History.{History, log, tables}
 use Rattle.kq_model.specs.Records.{records, rows_in, schema_of}
+use Rattle.kq_pipe.specs.kq_lent.Ranges.{is_taken, row_under, rows_between}
 use Rattle.kq_pipe.specs.Outcomes.{Row}
 use Rattle.kq_query.proofs.Reading.{typed_held}
 use Rattle.kq_query.proofs.Standing.{table_typed}
-use Rattle.kq_scan.specs.Delta.{is_taken, row_under, rows_between}
 use Rattle.kq_value.specs.declared.record.Record.{Record}
 use Rattle.kq_value.specs.declared.schema.Field.{Field}
 use Rattle.kq_value.specs.declared.value.Value.{Value}

@@ -1,11 +1,15 @@
 // The records of a range, as the leaves of a plan read them.
+ghost use Rattle.std.specs.Prelude.{◌≡◌, ◌<◌, ◌^◌, IfOk, length};
+ghost use Rattle.kq_extent.specs.Seen.{held_records};
+ghost use Rattle.kq_pipe.specs.kq_lent.Ranges.{rows_between};
+
 use crate::definition::Definition;
 use kq_catalog::Snapshot;
 use kq_computed::EvalFault;
+use kq_extent::TableExtents;
 use kq_pipe::{Held, Leaves};
 use kq_plan::LeafKind;
-use kq_scan::delta;
-use kq_value::{Field, Text};
+use kq_value::{Field, Memory, Schema, Text};
 use std::alloc::Global;
 use std::marker::Model;
 
@@ -52,19 +56,32 @@ impl Leaves for Range<'_> {
     ) -> Result<Held, EvalFault> {
         match kind {
             LeafKind::Table => {
-                let mut read = 0;
                 let extents = self.snapshot.extents(self.export.table);
-                let rows = delta(
+                let rows = lent_between(
                     alloc,
                     extents,
-                    self.export.columns.as_slice(),
+                    &self.export.columns,
                     self.export.end,
                     self.to,
-                    &mut read,
                 )?;
-                Ok(Held::own(rows))
+                Ok(rows)
             }
             LeafKind::View | LeafKind::Part => unreachable!(),
         }
     }
+}
+
+// The rows of the records of a table in a range of cursors, under these columns.
+fn lent_between(
+    alloc: Global,
+    extents: &TableExtents,
+    columns: &Schema,
+    above: u64,
+    to: u64,
+) -> Result<Held, Memory>
+    requires { length (held_records extents.now) < 2 ^ 63 }
+    ensures { IfOk result (λ rows. rows ≡ rows_between above to columns.now (held_records extents.now)) }
+{
+    let columns = columns.clone_in()?;
+    Held::between(alloc, extents.share()?, columns, above, to)
 }

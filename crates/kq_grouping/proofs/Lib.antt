@@ -5,6 +5,8 @@ pub mod Columns
 pub mod Coming
 pub mod Joining
 pub mod KeyColumns
+pub mod Led
+pub mod Paired
 pub mod Pieces
 pub mod Regrouped
 pub mod Stepped

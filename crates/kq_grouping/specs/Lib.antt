@@ -3,6 +3,8 @@ pub mod Grouping
 pub mod Arriving
 pub mod Bodies
 pub mod Joined
+pub mod Leading
+pub mod Partnered
 pub mod Pipelines
 pub mod Summaries
 pub mod kq_agg

@@ -1,19 +1,25 @@
 // Who gathers what rows come to.
-ghost use Rattle.std.specs.Prelude.{IfOk};
+ghost use Rattle.std.specs.Prelude.{◌≡◌, IfOk};
+ghost use Rattle.kq_grouping.specs.Leading.{TopsOf};
+ghost use Rattle.kq_grouping.specs.Partnered.{partners_of};
 ghost use Rattle.kq_grouping.specs.Pipelines.{CollectsTo, CountsTo, ran_through, width_through};
 ghost use Rattle.kq_grouping.specs.Summaries.{ComesOf, IsAsked};
+ghost use Rattle.kq_lent.specs.Beside.{places_found};
+ghost use Rattle.kq_lent.specs.Sources.{source_rows};
 ghost use Rattle.kq_lent.specs.kq_piecewise.Pieces.{piece_of};
 
 use crate::arriving::{Arrived, gather_groups};
 use crate::collecting::{Collected, collect_between};
 use crate::counting::{Counted, count_between};
+use crate::leading::{Leading, Top, top_between};
+use crate::partners::{Partners, find_between};
 use crate::pipeline::Pipeline;
 use crate::summarize::Summarize;
-use kq_lent::Held;
+use kq_lent::{Held, Relation, Source};
 use kq_value::Memory;
 use std::alloc::Global;
 
-/// Who gathers what rows come to that go through row operators: one thread, or several beside each other.
+/// Who gathers what rows come to that go through row operators, and finds the partners of rows: one thread, or several beside each other.
 pub trait Gatherer {
     /// It may work here.
     ghost ready: { Self → Type 0 };
@@ -33,6 +39,24 @@ pub trait Gatherer {
     fn collect(&self, alloc: Global, pipeline: &Pipeline, rows: &Held) -> Result<Collected, Memory>
         requires { ready self.now }
         ensures { IfOk result (CollectsTo (width_through pipeline.now rows.now) (ran_through pipeline.now rows.now)) };
+
+    /// The first of those that come, in an order.
+    fn top(&self, alloc: Global, asked: &Top, rows: &Held) -> Result<Leading, Memory>
+        requires { ready self.now }
+        ensures { IfOk result (TopsOf asked.now rows.now rows.now) };
+
+    /// The places of all rows, each beside those of its partners.
+    fn pair(
+        &self,
+        alloc: Global,
+        partners: &Partners,
+        rows: &Source,
+    ) -> Result<Vec<(usize, usize)>, Memory>
+        requires { ready self.now }
+        ensures { IfOk result (λ pairs. pairs.items ≡ places_found (partners_of partners.now) 0 (source_rows rows.now)) };
+
+    // That it may is shown in one way at most, so a struct can keep it.
+    ghost ready_once: { (g : Self) → IsProp (ready g) };
 }
 
 /// The thread that asks.
@@ -40,7 +64,11 @@ pub trait Gatherer {
 pub struct Alone;
 
 impl Gatherer for Alone {
+    ghost use Rattle.std.specs.Coded.{Unit-prop};
+
     ghost ready = { λ a. Unit {0} };
+
+    ghost ready_once = { λ a. Unit-prop };
 
     fn gather(&self, alloc: Global, asked: &Summarize, rows: &Held) -> Result<Arrived, Memory> {
         gather_between(alloc, asked, rows, 0, rows.len())
@@ -57,6 +85,19 @@ impl Gatherer for Alone {
         rows: &Held,
     ) -> Result<Collected, Memory> {
         collect_between(alloc, pipeline, rows, 0, rows.len())
+    }
+
+    fn top(&self, alloc: Global, asked: &Top, rows: &Held) -> Result<Leading, Memory> {
+        top_between(alloc, asked, rows, 0, rows.len())
+    }
+
+    fn pair(
+        &self,
+        alloc: Global,
+        partners: &Partners,
+        rows: &Source,
+    ) -> Result<Vec<(usize, usize)>, Memory> {
+        find_between(alloc, partners, rows, 0, rows.len())
     }
 }
 

@@ -1,4 +1,4 @@
-//! Groups of the rows that come through row operators: their keys, the arguments of aggregates over a piece of rows, and the groups that all pieces come to, in one thread or by whoever gathers some of the rows beside others, of which what each came to is joined. So are the rows that come, and their number. What a view's body is, and when groups stand for it, is defined here.
+//! Groups of the rows that come through row operators: their keys, the arguments of aggregates over a piece of rows, and the groups that all pieces come to, in one thread or by whoever gathers some of the rows beside others, of which what each came to is joined. So are the rows that come, their number, the first of them in an order, and the partners of a join's left rows. What a view's body is, and when groups stand for it, is defined here.
 //! How rows come through operators is left to `kq_stretch` and `kq_lent`, what groups keep to `kq_group`, and what becomes of them to the crates above.
 #![tactic(auto)]
 
@@ -9,9 +9,12 @@ mod counting;
 mod gatherer;
 mod grouping;
 mod laws;
+mod leading;
+mod partners;
 mod pipeline;
 mod steps;
 mod summarize;
+mod taken;
 
 pub use arriving::{Arrived, gather_groups};
 pub use both::joined;
@@ -22,6 +25,8 @@ pub use grouping::{add_piece, typed};
 pub use kq_group::Groups;
 pub use kq_lent::{Held, Relation, eval_row};
 pub use laws::groups_have_no_order;
+pub use leading::{Leading, Top, top_between, topped_together};
+pub use partners::{Partners, find_between};
 pub use pipeline::Pipeline;
 pub use steps::{operators, stage_in};
 pub use summarize::Summarize;

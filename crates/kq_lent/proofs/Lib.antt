@@ -1,9 +1,13 @@
 mod Bounded
 mod Conjunct
 mod Constants
+mod Cut
 mod Firsts
 mod Flown
+mod InRange
+mod Later
 mod LeftOut
+mod Pairing
 mod Picked
 mod Settling
 mod Sought

@@ -4,7 +4,7 @@ use Rattle.std.specs.List.{All, slice_get}
 use Rattle.std.proofs.lemmas.List.{drop-append-le, drop-drop, drop_all, drop_at, get_or_past, length-take-le, map-append, take-append-drop, take_all}
 use Rattle.std.proofs.lemmas.List.Elements.{All-drop, All-take}
 use Rattle.std.proofs.lemmas.Option.{get_or_from_slice_get, none-some, same_Some}
-use Rattle.kq_extent.specs.Seen.{ExtentView, held_extents, records_in, row_of}
+use Rattle.kq_extent.specs.Seen.{ExtentView, HeldExtents, held_extents, records_in, row_of}
 use Rattle.kq_extent.proofs.Walked.{rows_by}
 use Rattle.kq_stretch.specs.kq_piecewise.Operators.{Row}
 use Rattle.kq_rows.specs.Chunks.{HasWidth}
@@ -13,7 +13,7 @@ use Rattle.kq_lent.specs.Held.{IsReadable, rows_in, sources_in}
 use Rattle.kq_lent.specs.Lent.{rows_held, rows_of}
 use Rattle.kq_lent.specs.Unread.{BeginsAt, IsRead, UnreadView, rows_among, rows_from, width_of}
 use Rattle.kq_lent.specs.declared.place.Place.{Place}
-use Rattle.kq_lent.specs.declared.place.Place.TheVariants.{Own, Framed, Lent}
+use Rattle.kq_lent.specs.declared.place.Place.TheVariants.{Own, Framed, Lent, Beside}
 use Rattle.kq_lent.proofs.Walks.{rows_by-held}
 use Rattle.kq_lent.proofs.Widths.{all_wide, first_all, other_all}
 
@@ -85,10 +85,14 @@ by_extent : (es : List ExtentView) → rows_by es ≡ rows_among (map rows_of es
 by_extent [] = refl
 by_extent (e ∷ es) = map-append row_of e.records (records_in es) ∙ ap (λ (rs : List Row). rows_of e ++ rs) (by_extent es)
 
+pub held_among : (held : HeldExtents) → rows_held held ≡ rows_among (map rows_of (held_extents held))
+held_among held = sym (rows_by-held held) ∙ by_extent (held_extents held)
+
 pub all_among : (place : Place) → rows_in place ≡ rows_among (sources_in place)
 all_among (Own rows) = sym (append-nil rows)
 all_among (Framed rows) = sym (append-nil rows)
-all_among (Lent extents) = sym (rows_by-held extents) ∙ by_extent (held_extents extents)
+all_among (Lent extents) = held_among extents
+all_among (Beside sources) = refl
 
 -- the rows of a part are what all rows are
 pub all_taken : (P : Row → Type 0) (place : Place) (i j k : ℕ) (rows : List Row) → slice_get (sources_in place) i ≡ Some rows → All P (rows_in place) → All P (piece_of rows j k)
@@ -103,6 +107,7 @@ even : (place : Place) → IsReadable place → All (HasWidth (width_of (rows_in
 even (Own rows) readable = all_wide rows readable
 even (Framed rows) readable = all_wide rows readable
 even (Lent extents) readable = all_wide (rows_held extents) readable.wide
+even (Beside sources) readable = all_wide (rows_among sources) readable
 
 pub part_read : (place : Place) (a b i j k n left : ℕ) (rows : List Row) → BeginsAt (sources_in place) i j (rows_from (sources_in place) a b) → slice_get (sources_in place) i ≡ Some rows → (j < length rows → j < k) → k ≤ length rows
     → n ≡ (k - j) + left → IsReadable place → IsRead (left_at place a b n) (piece_of rows j k) (left_at place i k left)

@@ -1,9 +1,13 @@
+pub mod Beside
 pub mod Constant
 pub mod Flowing
 pub mod Gathered
 pub mod Held
 pub mod Lent
 pub mod Opened
+pub mod Paired
+pub mod Pairs
+pub mod Ranges
 pub mod ReadParts
 pub mod Ruled
 pub mod Settled

@@ -1,19 +1,26 @@
 // The rows that a query reads.
-ghost use Rattle.std.specs.Prelude.{◌≡◌, ◌<◌, ◌^◌, IfOk, length, map, take};
+ghost use Rattle.std.specs.Prelude.{◌≡◌, ◌<◌, ◌^◌, IfOk, IfSome, length, map, take};
+ghost use Rattle.std.specs.List.{flat_map};
 ghost use Rattle.kq_stretch.specs.kq_piecewise.Pieces.{piece_of};
 ghost use Rattle.kq_stretch.specs.kq_scalar.Val.{surroundings};
+ghost use Rattle.kq_lent.specs.Beside.{each_found};
 ghost use Rattle.kq_lent.specs.Gathered.{gathered};
+ghost use Rattle.kq_extent.specs.Seen.{held_records};
 ghost use Rattle.kq_extent.specs.Wide.{wide_held};
 ghost use Rattle.kq_lent.specs.Lent.{AreLent, rows_held};
+ghost use Rattle.kq_lent.specs.Ranges.{rows_between};
 ghost use Rattle.kq_stretch.specs.Operators.{rowwise_of};
 ghost use Rattle.kq_stretch.specs.Ran.{ran, width_in_end};
 ghost use Rattle.kq_lent.specs.Unread.{width_of};
 
-use crate::first::{first_records, first_rows};
+use crate::beside::Beside;
+use crate::finder::Finder;
+use crate::first::{first_copies, first_rows};
 use crate::flow::Flow;
 use crate::gathered::Gathered;
 use crate::lending::Lending;
 use crate::place::Place;
+use crate::ranged::pairs_between;
 use kq_extent::TableExtents;
 use kq_frame::Frame;
 use kq_rows::Rows;
@@ -22,7 +29,7 @@ use kq_value::{Memory, Schema, Value};
 use std::alloc::Global;
 use std::marker::Model;
 
-/// Rows of its own, side by side or in columns, or the rows of the records of extents, which are lent as they stand and read under the columns of their table. Contracts see the list of the rows.
+/// Rows of its own, side by side or in columns; the rows of the records of extents, which are lent as they stand and read under the columns of their table; or such rows beside others, or those of a range of cursors, as pairs of places. Contracts see the list of the rows.
 #[derive(Drop)]
 pub struct Held {
     place: Place,
@@ -76,6 +83,45 @@ impl Held {
         }
     }
 
+    /// The rows of the records of a table with a cursor above the one and not above the other, widened and cut to the columns. None is copied, and no record of an extent that has none above is looked at.
+    pub fn between(
+        alloc: Global,
+        extents: TableExtents,
+        schema: Schema,
+        above: u64,
+        to: u64,
+    ) -> Result<Held, Memory>
+        requires { length (held_records extents) < 2 ^ 63 }
+        ensures { IfOk result (λ held. held ≡ rows_between above to schema (held_records extents)) }
+    {
+        let rows = pairs_between(alloc, extents, schema, above, to)?;
+        Ok(Held {
+            place: Place::Beside(rows),
+        })
+    }
+
+    /// Each of the rows, cut to so many cells, with each of the others that is found for it, cut likewise. No cell is copied. None where the rows do not lie in extents, or too many come.
+    pub fn beside<F: Finder>(
+        &self,
+        alloc: Global,
+        width: usize,
+        others: Frame,
+        others_width: usize,
+        finder: &F,
+    ) -> Result<Option<Held>, Memory>
+        ensures { IfOk result (λ o. IfSome o (λ held. held ≡ flat_map (each_found width others_width (F.found finder.now) others) self.now)) }
+    {
+        let Place::Lent(extents) = &self.place else {
+            return Ok(None);
+        };
+        match Beside::of(alloc, extents.share()?, width, others, others_width, finder)? {
+            Some(rows) => Ok(Some(Held {
+                place: Place::Beside(rows),
+            })),
+            None => Ok(None),
+        }
+    }
+
     /// The number of rows, for which none is made.
     pub fn len(&self) -> u64
         ensures count { result ≡ length self.now }
@@ -85,6 +131,7 @@ impl Held {
             Place::Own(rows) => rows.len() as u64,
             Place::Framed(frame) => frame.len() as u64,
             Place::Lent(extents) => extents.count_records(),
+            Place::Beside(rows) => rows.count(),
         }
     }
 
@@ -124,7 +171,9 @@ impl Held {
         match &self.place {
             Place::Own(rows) => Ok(Held::own(first_rows(alloc, rows, count)?)),
             Place::Framed(frame) => Ok(Held::framed(frame.first(alloc, count)?)),
-            Place::Lent(extents) => Ok(Held::own(first_records(alloc, extents, count)?)),
+            Place::Lent(_) | Place::Beside(_) => {
+                Ok(Held::own(first_copies(alloc, &self.place, count)?))
+            }
         }
     }
 
@@ -136,6 +185,11 @@ impl Held {
             Place::Own(rows) => Ok(Gathered::Own(rows)),
             Place::Framed(frame) => Ok(Gathered::Copied(frame.to_rows(alloc)?)),
             Place::Lent(extents) => Ok(Gathered::Copied(extents.all_rows(alloc)?)),
+            Place::Beside(rows) => Ok(Gathered::Copied(first_copies(
+                alloc,
+                &self.place,
+                rows.count(),
+            )?)),
         }
     }
 
@@ -147,6 +201,10 @@ impl Held {
             Place::Own(rows) => Ok(rows),
             Place::Framed(frame) => frame.to_rows(alloc),
             Place::Lent(extents) => extents.all_rows(alloc),
+            Place::Beside(rows) => {
+                let count = rows.count();
+                first_copies(alloc, &Place::Beside(rows), count)
+            }
         }
     }
 }

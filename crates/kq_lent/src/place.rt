@@ -4,18 +4,20 @@ ghost use Rattle.kq_lent.specs.Held.{rows_in, sources_in};
 ghost use Rattle.kq_lent.specs.Sources.{source_rows};
 ghost use Rattle.kq_lent.specs.Unread.{BeginsAt, rows_from};
 
+use crate::beside::Beside;
 use crate::lending::Lending;
 use crate::source::Source;
 use kq_frame::Frame;
 use kq_rows::Rows;
 use kq_stretch::Relation;
 
-// Rows are one source, side by side or in columns, and each extent is one.
+// Rows are one source, side by side or in columns, and each extent is one, also where its rows stand beside others.
 #[derive(Drop)]
 pub(crate) enum Place {
     Own(Rows),
     Framed(Frame),
     Lent(Lending),
+    Beside(Beside),
 }
 
 // The place of a row: the number of its source, and how many rows of that stand before it.
@@ -34,6 +36,7 @@ impl Place {
             Place::Own(_) => 1,
             Place::Framed(_) => 1,
             Place::Lent(extents) => extents.len(),
+            Place::Beside(rows) => rows.len(),
         }
     }
 
@@ -45,6 +48,7 @@ impl Place {
             Place::Own(rows) => Source::Rows(rows),
             Place::Framed(frame) => Source::Frame(frame),
             Place::Lent(extents) => Source::Extent(extents.records_at(at)),
+            Place::Beside(rows) => Source::Beside(rows.source_at(at)),
         }
     }
 

@@ -47,7 +47,7 @@ fn keeps_none_in(condition: &Expr, source: &Source) -> bool
 {
     match source {
         Source::Extent(records) => keeps_none(condition, records),
-        Source::Rows(_) | Source::Frame(_) => false,
+        Source::Rows(_) | Source::Frame(_) | Source::Beside(_) => false,
     }
 }
 

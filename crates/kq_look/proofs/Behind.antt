@@ -20,8 +20,7 @@ use Rattle.kq_plan.specs.Plans.{planned_of}
 use Rattle.kq_query.proofs.Covering.{read_covered, split_same}
 use Rattle.kq_query.proofs.Standing.{IsNumbered, numbered, view_from, view_part, view_up}
 use Rattle.kq_query.specs.Views.{view_numbered}
-use Rattle.kq_scan.specs.Delta.{rows_between}
-use Rattle.kq_value.specs.declared.schema.Field.{Field}
+use Rattle.kq_query.specs.kq_lent.Ranges.{rows_between}
 use Rattle.kq_value.proofs.SameLemmas.{IsPermutation-from_Same, Row, Same-append, Same-from_permutation, Same-refl, Same-sym, Same-trans}
 use Rattle.kq_value.specs.Same.{Same}
 use Rattle.kq_look.specs.declared.found.Folding.{Folding}
@@ -37,12 +36,12 @@ read_since l v held above to rows over same is =
     let read = rows_between above to (columns_read (planned_of v.body)) (held_records held) in
     subst (IsPermutation (covered l v above to)) (sym is) (IsPermutation-from_Same (covered l v above to) read (Same-sym read (covered l v above to) (read_covered v l over.columns held above to same)))
 
-pub reads_since : {E : Type 0} (l : Log) (v : View) (held : HeldExtents) (above to : ℕ) (fields : List Field) (low high : ℕ) (r : Result (List Row) E) → IsOver l v → IsPermutation (held_records (wide_held (schema_of l v.source) held)) (records l v.source)
-    → fields ≡ columns_read (planned_of v.body) → low ≡ above → high ≡ to → IfOk r (λ rows. rows ≡ rows_between low high fields (held_records held)) → IfOk r (λ rows. IsPermutation (covered l v above to) rows)
-reads_since l v held above to fields low high (Ok rows) over same columns from up is =
-    read_since l v held above to rows over same
-    (is ∙ ap (λ (n : ℕ). rows_between n high fields (held_records held)) from ∙ ap (λ (n : ℕ). rows_between above n fields (held_records held)) up ∙ ap (λ (fs : List Field). rows_between above to fs (held_records held)) columns)
-reads_since l v held above to fields low high (Err e) over same columns from up is = is
+pub reads_since : {E : Type 0} (l : Log) (v : View) (held : HeldExtents) (above to low high : ℕ) (r : Result (List Row) E) → IsOver l v → IsPermutation (held_records (wide_held (schema_of l v.source) held)) (records l v.source)
+    → low ≡ above → high ≡ to → IfOk r (λ rows. rows ≡ rows_between low high (columns_read (planned_of v.body)) (held_records held)) → IfOk r (λ rows. IsPermutation (covered l v above to) rows)
+reads_since l v held above to low high (Ok rows) over same from up is =
+    let columns = columns_read (planned_of v.body) in
+    read_since l v held above to rows over same (is ∙ ap (λ (n : ℕ). rows_between n high columns (held_records held)) from ∙ ap (λ (n : ℕ). rows_between above n columns (held_records held)) up)
+reads_since l v held above to low high (Err e) over same from up is = is
 
 -- what is covered up to a cursor and what is covered behind it
 both_covered : (l : Log) (v : View) (base at to : ℕ) (rows : List Row) → base ≤ at → at ≤ to → IsPermutation (covered l v at to) rows → Same (covered l v base at ++ rows) (covered l v base to)

@@ -15,10 +15,8 @@ use kq_command::Identifier;
 use kq_fold::{GroupFault, fold};
 use kq_model::View;
 use kq_policies::Held;
-use kq_query::columns_read;
+use kq_query::read_between;
 use kq_reply::{Refusal, Reply};
-use kq_rows::Rows;
-use kq_scan::delta;
 use kq_value::Memory;
 
 // The part of a view up to the snapshot's cursor, or that it is up to there.
@@ -57,7 +55,7 @@ fn fold_view(snapshot: &Snapshot, number: u32, view: &View) -> Result<Folding, R
 {
     let alloc = snapshot.allocator();
     let to = snapshot.cursor();
-    let rows = Held::own(rows_since(snapshot, number, view)?);
+    let rows = rows_since(snapshot, number, view)?;
     match fold(alloc, &view.body, snapshot.part(number), &rows) {
         Ok(part) => Ok(Folding {
             view: number,
@@ -70,7 +68,7 @@ fn fold_view(snapshot: &Snapshot, number: u32, view: &View) -> Result<Folding, R
 }
 
 // The rows that the view covers and its part doesn't hold, read from no extent but those with later records.
-fn rows_since(snapshot: &Snapshot, number: u32, view: &View) -> Result<Rows, Memory>
+fn rows_since(snapshot: &Snapshot, number: u32, view: &View) -> Result<Held, Memory>
     requires { view_numbered snapshot.now.history number ≡ Some view.now }
     ensures { IfOk result (λ rows. IsPermutation (covered (log snapshot.now.history) view.now (view_cursor snapshot.now.history number) (cursor snapshot.now.history)) rows) }
 {
@@ -78,13 +76,5 @@ fn rows_since(snapshot: &Snapshot, number: u32, view: &View) -> Result<Rows, Mem
     let to = snapshot.cursor();
     let above = snapshot.view_cursor(number);
     let extents = snapshot.extents(view.source);
-    let mut read = 0;
-    delta(
-        alloc,
-        extents,
-        columns_read(&view.body),
-        above,
-        to,
-        &mut read,
-    )
+    read_between(alloc, extents, &view.body, above, to)
 }

@@ -291,3 +291,23 @@ lost_among n k s piece all more lost =
 
 pub lead_wide : (w n : ℕ) (k : Sorting) (s : Surroundings) (rows few : List Row) → Topped n k s rows (Is few) → All (HasWidth w) rows → All (HasWidth w) few
 lead_wide w n k s rows few (sorted, (keys, is, moved, up), first) wide = subst (All (HasWidth w)) (sym first) (All-take (HasWidth w) n sorted (All-Same (HasWidth w) rows sorted (Same-sym sorted rows moved) wide))
+
+-- ---- rows in two parts
+
+module _ (n : ℕ) (k : Sorting) (s : Surroundings) (xs ys : List Row) where
+  stand_first : (rows few : List Row) → Topped n k s rows (Is few) → StandFor n k s rows few
+  stand_first rows few topped = StandFor-first n k s rows rows few topped (record { with_more = λ more c first. first })
+
+  -- the first of both parts' first ones are the first of all
+  pub topped_both : (first rest : List Row) (c : Computed (List Row)) → Topped n k s xs (Is first) → Topped n k s ys (Is rest) → Topped n k s (first ++ rest) c → Topped n k s (xs ++ ys) c
+  topped_both first rest c a b both =
+      let turned = topped_same n k s (first ++ rest) (rest ++ first) c (Same-append_comm rest first) both in
+      let more = topped_same n k s (ys ++ first) (first ++ ys) c (Same-append_comm first ys) ((stand_first ys rest b).with_more first c turned) in
+      (stand_first xs first a).with_more ys c more
+
+  -- a key that overflows on a row of one part does so on one of all
+  pub lost_in_first : Topped n k s xs Overflow → Topped n k s (xs ++ ys) Overflow
+  lost_in_first lost = overflows_too (keys_at (k ∷ []) s) xs ys (xs ++ ys) (Same-refl (xs ++ ys)) lost
+
+  pub lost_in_rest : Topped n k s ys Overflow → Topped n k s (xs ++ ys) Overflow
+  lost_in_rest lost = overflows_too (keys_at (k ∷ []) s) ys xs (xs ++ ys) (Same-append_comm xs ys) lost

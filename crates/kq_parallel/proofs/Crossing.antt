@@ -14,6 +14,7 @@ use Rattle.kq_fn.specs.contracts.function.Function as function
 use Rattle.kq_expr.proofs.expr.Expr.TheLaws.TheKnot as expr_knot
 use Rattle.kq_expr.specs.contracts.expr.Expr as expr
 use Rattle.kq_plan.specs.contracts.work.Aggregate as aggregate
+use Rattle.kq_plan.specs.contracts.work.SortKey as sort_key
 use Rattle.kq_agg.specs.contracts.element.Element as element
 use Rattle.kq_agg.specs.contracts.element.Element.TheInside as element_inside
 use Rattle.kq_agg.specs.contracts.set.Set as sets
@@ -28,8 +29,12 @@ use Rattle.kq_rows.specs.contracts.rows.Rows as rows
 use Rattle.kq_rows.specs.contracts.rows.Rows.TheInside as rows_inside
 use Rattle.kq_group.specs.contracts.groups.Groups as groups
 use Rattle.kq_group.specs.contracts.groups.Groups.TheInside as groups_inside
-use Rattle.kq_extent.proofs.Sent.{held_sync as extents_sync}
+use Rattle.kq_extent.proofs.Sent.{extent_sync, held_sync as extents_sync}
 use Rattle.kq_frame.proofs.Sent.{frame_sync}
+use Rattle.kq_join.specs.contracts.index.Index as index
+use Rattle.kq_join.specs.contracts.index.Index.TheInside as index_inside
+use Rattle.kq_join.specs.contracts.lookup.Lookup as keys
+use Rattle.kq_join.specs.contracts.lookup.Lookup.TheInside as keys_inside
 use Rattle.kq_stretch.specs.contracts.operator.Operator as operator
 use Rattle.kq_value.specs.contracts.schema.Schema as schema
 use Rattle.kq_value.specs.contracts.schema.Schema.TheInside as schema_inside
@@ -39,10 +44,13 @@ use Rattle.kq_lent.specs.contracts.held.Held as held
 use Rattle.kq_lent.specs.contracts.held.Held.TheInside as held_inside
 use Rattle.kq_grouping.specs.contracts.arriving.Arrived as arrived
 use Rattle.kq_grouping.specs.contracts.collecting.Collected as collected
+use Rattle.kq_grouping.specs.contracts.leading.Leading as leading
 use Rattle.kq_grouping.specs.contracts.counting.Counted as counted
 use Rattle.kq_parallel.specs.contracts.asked.Asked as asked
 use Rattle.kq_parallel.specs.contracts.lookup.Lookup as lookup
+use Rattle.kq_parallel.specs.contracts.paired.Pairing as pairing
 use Rattle.kq_parallel.specs.contracts.counted.Counting as counting
+use Rattle.kq_parallel.specs.contracts.topped.Topping as topping
 use Rattle.kq_parallel.specs.contracts.rows.Collecting as collecting
 
 -- ---- values and rows
@@ -126,6 +134,9 @@ expr_field_sync = search (expr_knot.crosses, value_field_sync, function_sync, se
 aggregate_sync : IsSync aggregate.the_row
 aggregate_sync = search (expr_field_sync, sendable, crosses) depth 60 fits 20000
 
+sort_key_sync : IsSync sort_key.the_row
+sort_key_sync = search (expr_field_sync, sendable, crosses) depth 60 fits 20000
+
 operator_sync : (l : NamedLft) → IsSync (operator.the_row l)
 operator_sync l = search (expr_sync, sendable, crosses) depth 60 fits 20000
 
@@ -138,6 +149,9 @@ counting_sync l = search (operator_sync, value_sync, held_sync, sendable, crosse
 pub collecting_sync : (l : NamedLft) → IsSync (collecting.the_row l)
 collecting_sync l = search (operator_sync, value_sync, held_sync, sendable, crosses) depth 60 fits 20000
 
+pub topping_sync : (l : NamedLft) → IsSync (topping.the_row l)
+topping_sync l = search (operator_sync, sort_key_sync, value_sync, held_sync, sendable, crosses) depth 60 fits 20000
+
 -- ---- what comes of it
 
 pub counted_send : IsSend counted.the_row
@@ -145,6 +159,9 @@ counted_send = search (sendable, crosses) depth 60 fits 20000
 
 pub collected_send : IsSend collected.the_row
 collected_send = search (rows_send, sendable, crosses) depth 60 fits 20000
+
+pub leading_send : IsSend leading.the_row
+leading_send = search (rows_send, sendable, crosses) depth 60 fits 20000
 
 element_inside_send : IsSend element_inside.the_row
 element_inside_send = search (text_send, boxed_send, sendable, crosses) depth 60 fits 20000
@@ -222,3 +239,20 @@ groups_sync = search (groups_inside_sync, sendable, crosses) depth 60 fits 20000
 
 pub lookup_sync : (l : NamedLft) → IsSync (lookup.the_row l)
 lookup_sync l = search (groups_sync, sendable, crosses) depth 60 fits 20000
+
+-- ---- partners that are looked up
+
+index_inside_sync : (l : NamedLft) → IsSync (index_inside.the_row l)
+index_inside_sync l = search (rows_sync, chain_sync, sendable, crosses) depth 60 fits 20000
+
+index_sync : (l : NamedLft) → IsSync (index.the_row l)
+index_sync l = search (index_inside_sync, sendable, crosses) depth 60 fits 20000
+
+keys_inside_sync : (l : NamedLft) → IsSync (keys_inside.the_row l)
+keys_inside_sync l = search (index_sync, sendable, crosses) depth 60 fits 20000
+
+keys_sync : (l : NamedLft) → IsSync (keys.the_row l)
+keys_sync l = search (keys_inside_sync, sendable, crosses) depth 60 fits 20000
+
+pub pairing_sync : (l : NamedLft) → IsSync (pairing.the_row l)
+pairing_sync l = search (keys_sync, rows_sync, frame_sync, extent_sync, field_sync, sendable, crosses) depth 60 fits 20000

@@ -3,8 +3,13 @@ ghost use Rattle.std.specs.Prelude.{◌<◌};
 
 use crate::counted::count_in_parts;
 use crate::halves::gather_in_parts;
+use crate::paired::pair_in_parts;
 use crate::rows::collect_in_parts;
-use kq_grouping::{Arrived, Collected, Counted, Gatherer, Held, Pipeline, Summarize};
+use crate::topped::top_in_parts;
+use kq_grouping::{
+    Arrived, Collected, Counted, Gatherer, Held, Leading, Partners, Pipeline, Summarize, Top,
+};
+use kq_lent::Source;
 use kq_value::Memory;
 use std::alloc::Global;
 use std::thread::Threads;
@@ -30,8 +35,11 @@ impl<'a, R: Threads + Sync> Crew<'a, R> {
 
 impl<R: Threads + Sync> Gatherer for Crew<'_, R> {
     ghost use Rattle.std.specs.Thread.{IsSync};
+    ghost use Rattle.kq_parallel.specs.Crossed.{sync_once};
 
     ghost ready = { λ c. IsSync R.row };
+
+    ghost ready_once = { λ c. sync_once R.row };
 
     fn gather(&self, alloc: Global, asked: &Summarize, rows: &Held) -> Result<Arrived, Memory> {
         gather_in_parts(self.rt, alloc, asked, rows, self.piece)
@@ -48,5 +56,18 @@ impl<R: Threads + Sync> Gatherer for Crew<'_, R> {
         rows: &Held,
     ) -> Result<Collected, Memory> {
         collect_in_parts(self.rt, alloc, pipeline, rows, self.piece)
+    }
+
+    fn top(&self, alloc: Global, asked: &Top, rows: &Held) -> Result<Leading, Memory> {
+        top_in_parts(self.rt, alloc, asked, rows, self.piece)
+    }
+
+    fn pair(
+        &self,
+        alloc: Global,
+        partners: &Partners,
+        rows: &Source,
+    ) -> Result<Vec<(usize, usize)>, Memory> {
+        pair_in_parts(self.rt, alloc, partners, rows, self.piece)
     }
 }

@@ -4,6 +4,7 @@ ghost use Rattle.std.specs.Thread.{IsSync};
 ghost use Rattle.kq_grouping.specs.Summaries.{ComesOf, IsAsked};
 
 use crate::asked::Asked;
+use crate::sample::threads_for_groups;
 use crate::taking::Taking;
 use kq_grouping::{Arrived, Held, Summarize};
 use kq_value::Memory;
@@ -11,7 +12,7 @@ use rayon::{current_num_threads, join};
 use std::alloc::Global;
 use std::thread::Threads;
 
-/// What rows come to: as many threads as there are processors take parts of them, of at least so many rows. Fewer than twice as many are taken by this thread alone.
+/// What rows come to: as many threads as there are processors take parts of them, of at least so many rows. Fewer than twice as many are taken by this thread alone, and two threads take rows of which most have a key of their own.
 pub fn gather_in_parts<R: Threads + Sync>(
     rt: &R,
     alloc: Global,
@@ -28,12 +29,14 @@ pub fn gather_in_parts<R: Threads + Sync>(
         rows,
     };
     let most = threads_for(rt, rows.len(), piece);
+    let most = threads_for_groups(alloc, summarize, rows, most)?;
     halves(rt, alloc, &asked, 0, rows.len(), most)
 }
 
 // The most threads for so many rows, of which each is to take a piece or more.
 pub(crate) fn threads_for<R: Threads>(rt: &R, rows: u64, piece: u64) -> u64
     requires { 0 < piece }
+    ensures { result ≤ rows }
 {
     (rows / piece).min(current_num_threads(rt) as u64)
 }

@@ -33,7 +33,7 @@ pub fn run_plan<L: Leaves>(
     run_plan_by(alloc, plan, leaves, &Alone, now)
 }
 
-/// The same, where this gatherer gathers what comes through row operators: the groups of each summarize, a count, and rows that are kept.
+/// The same, where this gatherer gathers what comes through row operators: the groups of each summarize, a count, and rows that are kept. It finds the partners of a join's rows too.
 pub fn run_plan_by<L: Leaves, G: Gatherer>(
     alloc: Global,
     plan: &Plan,

@@ -18,7 +18,8 @@ use crate::outcome::{Outcome, cells, order_at, rows_at};
 use crate::single::tally_row;
 use crate::sinks::{Ended, count_all, group_all, keep_all};
 use crate::step::run_step;
-use kq_grouping::{Gatherer, Pipeline, Summarize, operators, stage_in};
+use crate::top::keep_first;
+use kq_grouping::{Gatherer, Pipeline, Summarize, Top, operators, stage_in};
 use kq_lent::{Held, Operator};
 use kq_plan::{Step, Work};
 use kq_rows::Rows;
@@ -40,7 +41,8 @@ fn input(step: &Step) -> Option<usize>
 {
     match &step.work {
         Work::Where(i, ..) | Work::Project(i, ..) | Work::Expand(i, ..) => Some(*i),
-        Work::Count(i) | Work::Distinct(i, ..) | Work::Summarize(i, ..) => Some(*i),
+        Work::Count(i) | Work::Top(i, ..) => Some(*i),
+        Work::Distinct(i, ..) | Work::Summarize(i, ..) => Some(*i),
         _ => None,
     }
 }
@@ -97,7 +99,7 @@ pub(crate) fn run_stretch<L: Leaves, G: Gatherer>(
     let first = &stretch[0];
     match input(first) {
         Some(i) => flow_from(alloc, stretch, i, done, gatherer, now),
-        None => run_step(alloc, before, first, done, leaves, now),
+        None => run_step(alloc, before, first, done, leaves, gatherer, now),
     }
 }
 
@@ -218,6 +220,17 @@ fn close<G: Gatherer>(
     };
     match &last.work {
         Work::Count(..) => count_all(alloc, gatherer, &pipeline, rows),
+        Work::Top(_, count, key) => keep_first(
+            alloc,
+            gatherer,
+            &Top {
+                pipeline,
+                count: *count,
+                key,
+            },
+            rows,
+            last.stage,
+        ),
         Work::Distinct(_, columns) => keep_different(
             alloc,
             gatherer,

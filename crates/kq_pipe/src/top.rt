@@ -1,129 +1,89 @@
-// The first rows in an order, of rows that come a piece at a time.
-ghost use Rattle.std.specs.Prelude.{◌≡◌, ◌<◌, ◌++◌, ◌∷◌, ℕ, List, [], IfOk, OnOk, length};
-ghost use Rattle.std.specs.List.{All};
-ghost use Rattle.kq_value.specs.declared.value.Value.{Value as Cell};
-ghost use Rattle.kq_computed.specs.Computed.{Is, each};
-ghost use Rattle.kq_expr.specs.Terms.{term_of};
+// The first in an order of the rows that come through row operators.
+ghost use Rattle.std.specs.Prelude.{◌≡◌, IfOk};
 ghost use Rattle.kq_plan.specs.Plans.{sorting_of};
-ghost use Rattle.kq_rows.specs.Chunks.{HasWidth, row_at};
-ghost use Rattle.kq_grouping.specs.kq_scalar.Val.{Surroundings, meaning, surroundings};
-ghost use Rattle.kq_grouping.specs.kq_stretch.Ran.{came};
-ghost use Rattle.kq_vector.specs.Vectors.{cells_of};
-ghost use Rattle.kq_order.specs.Answered.{AnswersOne};
-ghost use Rattle.kq_order.specs.Leading.{Lead, TakesIn};
-ghost use Rattle.kq_order.specs.Orders.{Topped, keys_at};
+ghost use Rattle.kq_grouping.specs.Pipelines.{ran_through};
+ghost use Rattle.kq_grouping.specs.kq_scalar.Val.{surroundings};
+ghost use Rattle.kq_pipe.specs.Ended.{EndsAs};
+ghost use Rattle.kq_pipe.specs.Gives.{TopsTo};
 
+use crate::outcome::Outcome;
+use crate::sinks::Ended;
 use kq_computed::EvalFault;
-use kq_lent::{Flow, Held, Next, Relation, Vector, copy_row, vector_over};
-use kq_order::{Leaders, top_rows};
-use kq_plan::SortKey;
-use kq_rows::Rows;
-use kq_value::{Memory, Value};
-use std::alloc::Global;
+use kq_grouping::{Collected, Gatherer, Leading, Top};
+use kq_lent::Held;
+use kq_order::top_rows;
+use kq_value::Memory;
+use std::alloc::{AllocError, Global};
 
-// The first rows in an order of the key. Where most rows can't be among them, these are passed over and not copied.
-pub(crate) fn top_held(
+// These, or an overflow of the key at this stage.
+pub(crate) fn keep_first<G: Gatherer>(
     alloc: Global,
+    gatherer: &G,
+    asked: &Top,
     rows: &Held,
-    count: u64,
-    key: &SortKey,
-    lets: &[Value],
-    now: i64,
-) -> Result<Rows, EvalFault>
-    ensures { AnswersOne (Topped count (sorting_of key.now) (surroundings now lets.now) rows.now) result }
+    stage: u32,
+) -> Result<Ended, Memory>
+    requires { G.ready gatherer.now }
+    ensures { IfOk result (EndsAs (λ all. TopsTo asked.now.count (sorting_of asked.now.key.now) (surroundings asked.now.pipeline.moment asked.now.pipeline.lets.now) all stage) (ran_through asked.now.pipeline rows.now)) }
 {
-    if count < rows.len() / 2 {
-        let mut flow = rows.flow(alloc, &[], lets, now);
-        first_of(alloc, &mut flow, count, key, lets, now)
+    if asked.count < rows.len() / 2 {
+        keep_leading(alloc, gatherer, asked, rows, stage)
     } else {
-        let gathered = rows.gather(alloc)?;
-        top_rows(alloc, gathered.rows(), count, key, lets, now)
+        keep_sorted(alloc, gatherer, asked, rows, stage)
     }
 }
 
-// The same of rows that come through operators of which none fails.
-fn first_of(
+// The same, where most rows can't be among them.
+fn keep_leading<G: Gatherer>(
     alloc: Global,
-    flow: &mut Flow,
-    count: u64,
-    key: &SortKey,
-    lets: &[Value],
-    now: i64,
-) -> Result<Rows, EvalFault>
-    ensures { (rows : List (List Cell)) → flow.old.to_come ≡ came rows → AnswersOne (Topped count (sorting_of key.now) (surroundings now lets.now) rows) result }
+    gatherer: &G,
+    asked: &Top,
+    rows: &Held,
+    stage: u32,
+) -> Result<Ended, Memory>
+    requires { G.ready gatherer.now }
+    ensures { IfOk result (EndsAs (λ all. TopsTo asked.now.count (sorting_of asked.now.key.now) (surroundings asked.now.pipeline.moment asked.now.pipeline.lets.now) all stage) (ran_through asked.now.pipeline rows.now)) }
 {
-    let mut leaders = Leaders::new(alloc);
-    loop {
-        match flow.next()? {
-            Next::Piece(piece) => {
-                add_piece(alloc, &mut leaders, &piece, count, key, lets, now)?;
-                leaders.settle(alloc, count, key, lets, now)?;
+    match gatherer.top(alloc, asked, rows)? {
+        Leading::Rows(first) => Ok(Ended::Gave(Outcome::Table {
+            ordered: true,
+            rows: Held::own(first),
+        })),
+        Leading::Overflow => Ok(Ended::Gave(Outcome::Overflow { stage })),
+        Leading::Failed(n) => Ok(Ended::Failed(n)),
+    }
+}
+
+// The same of rows of which most are among them, once all have come.
+fn keep_sorted<G: Gatherer>(
+    alloc: Global,
+    gatherer: &G,
+    asked: &Top,
+    rows: &Held,
+    stage: u32,
+) -> Result<Ended, Memory>
+    requires { G.ready gatherer.now }
+    ensures { IfOk result (EndsAs (λ all. TopsTo asked.now.count (sorting_of asked.now.key.now) (surroundings asked.now.pipeline.moment asked.now.pipeline.lets.now) all stage) (ran_through asked.now.pipeline rows.now)) }
+{
+    let pipeline = asked.pipeline;
+    match gatherer.collect(alloc, &pipeline, rows)? {
+        Collected::Rows(all) => {
+            match top_rows(
+                alloc,
+                &all,
+                asked.count,
+                asked.key,
+                pipeline.lets,
+                pipeline.moment,
+            ) {
+                Ok(first) => Ok(Ended::Gave(Outcome::Table {
+                    ordered: true,
+                    rows: Held::own(first),
+                })),
+                Err(EvalFault::Overflow) => Ok(Ended::Gave(Outcome::Overflow { stage })),
+                Err(EvalFault::Memory) => Err(AllocError),
             }
-            Next::End => return leaders.first(alloc, count, key, lets, now),
-            Next::Failed(_) => return Err(EvalFault::Overflow),
         }
+        Collected::Failed(n) => Ok(Ended::Failed(n)),
     }
-}
-
-// Takes the rows of a piece in.
-fn add_piece<R: Relation>(
-    alloc: Global,
-    leaders: &mut Leaders,
-    piece: &R,
-    count: u64,
-    key: &SortKey,
-    lets: &[Value],
-    now: i64,
-) -> Result<(), EvalFault>
-    requires { (w : ℕ) × All (HasWidth w) leaders.old.rows × All (HasWidth w) (R.rows piece.now) }
-    ensures takes { TakesIn count (sorting_of key.now) (surroundings now lets.now) (R.rows piece.now) leaders.old leaders.new result }
-    ensures wide { (w : ℕ) → All (HasWidth w) leaders.old.rows → All (HasWidth w) (R.rows piece.now) → OnOk result (All (HasWidth w) leaders.new.rows) }
-{
-    match vector_over(alloc, piece, &key.value, lets, now) {
-        Ok(values) => Ok(add_rows(alloc, leaders, piece, &values, key)?),
-        Err(fault) => Err(fault),
-    }
-}
-
-// The same, with the values of the key at hand.
-fn add_rows<R: Relation>(
-    alloc: Global,
-    leaders: &mut Leaders,
-    piece: &R,
-    values: &Vector,
-    key: &SortKey,
-) -> Result<(), Memory>
-    requires wide { (w : ℕ) × All (HasWidth w) leaders.old.rows × All (HasWidth w) (R.rows piece.now) }
-    requires along { length (cells_of values.now) ≡ length (R.rows piece.now) }
-    ensures lead { OnOk result ((n : ℕ) (s : Surroundings) (all : List (List Cell)) → each (meaning (term_of key.now.value) s) (R.rows piece.now) ≡ Is (cells_of values.now) → Lead n (sorting_of key.now) s all leaders.old → Lead n (sorting_of key.now) s (all ++ R.rows piece.now) leaders.new) }
-    ensures wide { (w : ℕ) → All (HasWidth w) leaders.old.rows → All (HasWidth w) (R.rows piece.now) → OnOk result (All (HasWidth w) leaders.new.rows) }
-{
-    let mut row = Vec::new(alloc);
-    for i in 0..values.len() {
-        add_row(leaders, piece, &values.cell(i)?, key, i, &mut row)?;
-    }
-    Ok(())
-}
-
-// Takes a row in, which is copied only where it is kept.
-fn add_row<R: Relation>(
-    leaders: &mut Leaders,
-    piece: &R,
-    value: &Value,
-    key: &SortKey,
-    i: usize,
-    row: &mut Vec<Value>,
-) -> Result<(), Memory>
-    requires place { i < length (R.rows piece.now) }
-    requires wide { All (HasWidth (length (row_at (R.rows piece.now) i))) leaders.old.rows }
-    requires none { row.old.items ≡ [] }
-    ensures lead { OnOk result ((n : ℕ) (s : Surroundings) (all : List (List Cell)) → keys_at (sorting_of key.now ∷ []) s (row_at (R.rows piece.now) i) ≡ Is (value.now ∷ []) → Lead n (sorting_of key.now) s all leaders.old → Lead n (sorting_of key.now) s (all ++ row_at (R.rows piece.now) i ∷ []) leaders.new) }
-    ensures wide { OnOk result (All (HasWidth (length (row_at (R.rows piece.now) i))) leaders.new.rows) }
-    ensures none { OnOk result (row.new.items ≡ []) }
-{
-    if leaders.asks_for(key, value) {
-        copy_row(row, piece, i)?;
-        leaders.push(row)?;
-    }
-    Ok(())
 }

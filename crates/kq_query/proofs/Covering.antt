@@ -16,7 +16,7 @@ use Rattle.kq_model.specs.Records.{records, schema_of}
 use Rattle.kq_model.specs.Views.{covered, is_between, row_for}
 use Rattle.kq_model.proofs.Growing.{Extends}
 use Rattle.kq_plan.specs.Plans.{planned_of}
-use Rattle.kq_scan.specs.Delta.{is_taken, row_under, rows_between}
+use Rattle.kq_pipe.specs.kq_lent.Ranges.{is_taken, row_under, rows_between}
 use Rattle.kq_value.specs.declared.record.Record.{Record}
 use Rattle.kq_value.specs.declared.schema.Field.{Field}
 use Rattle.kq_value.specs.declared.value.Value.{Value}

@@ -12,7 +12,7 @@ use Rattle.kq_model.specs.History.{History, cursor, view_cursor}
 use Rattle.kq_model.specs.Records.{ExtentItem, extents, is_small_item}
 use Rattle.kq_plan.specs.declared.work.LeafKind.{LeafKind}
 use Rattle.kq_plan.specs.declared.work.LeafKind.TheVariants as kind
-use Rattle.kq_scan.specs.Delta.{count_read, is_later}
+use Rattle.kq_pipe.specs.kq_lent.Ranges.{count_read, is_later}
 use Rattle.kq_value.specs.declared.record.Record.{Record}
 use Rattle.kq_value.specs.declared.record_id.RecordId.{RecordId}
 use Rattle.kq_query.specs.Views.{has_later, looked_at, read_to, records_later}

@@ -25,7 +25,7 @@ use Rattle.kq_pipe.specs.Outcomes.{Row}
 use Rattle.kq_plan.specs.declared.work.LeafKind.{LeafKind}
 use Rattle.kq_plan.specs.declared.work.LeafKind.TheVariants as kind
 use Rattle.kq_plan.specs.Plans.{planned_of}
-use Rattle.kq_scan.specs.Delta.{rows_between}
+use Rattle.kq_pipe.specs.kq_lent.Ranges.{rows_between}
 use Rattle.kq_value.specs.declared.schema.Field.{Field}
 use Rattle.kq_value.specs.Typed.{HasTypes}
 use Rattle.kq_widened.specs.Widened.{widened_record}

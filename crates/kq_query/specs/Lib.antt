@@ -2,3 +2,4 @@ pub mod Views
 pub mod Worlds
 pub mod Printed
 pub mod Answers
+pub mod kq_lent

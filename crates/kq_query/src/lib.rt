@@ -9,4 +9,4 @@ mod views;
 pub use answering::answer;
 pub use kq_pipe::{Alone, Gatherer};
 pub use scope::QueryScope;
-pub use views::{columns_read, view_rows_of};
+pub use views::{read_between, view_rows_of};

@@ -4,20 +4,20 @@ ghost use Rattle.kq_extent.specs.Seen.{held_extents, held_records};
 ghost use Rattle.kq_pipe.specs.kq_grouping.Bodies.{columns_read};
 ghost use Rattle.kq_model.specs.declared.view.View.{View as Seen};
 ghost use Rattle.kq_model.specs.History.{log, view_count};
+ghost use Rattle.kq_pipe.specs.kq_lent.Ranges.{count_read, rows_between};
 ghost use Rattle.kq_pipe.specs.Operators.{AnswersOne};
 ghost use Rattle.kq_plan.specs.Plans.{planned_of};
-ghost use Rattle.kq_scan.specs.Delta.{count_read, rows_between};
 ghost use Rattle.kq_query.specs.Views.{ViewGives, looked_at, up_to, view_numbered};
 
+use crate::made::copy_of;
 use kq_catalog::Snapshot;
 use kq_computed::EvalFault;
 use kq_extent::TableExtents;
 use kq_fold::view_rows;
 use kq_model::View;
-use kq_pipe::Held;
+use kq_pipe::{Held, records_later};
 use kq_plan::{LeafKind, Plan};
 use kq_rows::Rows;
-use kq_scan::delta;
 use kq_value::{Field, Memory};
 use std::alloc::Global;
 
@@ -57,8 +57,8 @@ pub(crate) fn rows_of_view(
     let mark = snapshot.view_cursor(number);
     let extents = snapshot.extents(view.source);
     let to = up_to(kind, mark, cursor);
-    let rows = rows_behind(alloc, extents, columns_read(&view.body), mark, to, read)?;
-    view_rows(alloc, &view.body, snapshot.part(number), &Held::own(rows))
+    let rows = rows_behind(alloc, extents, &view.body, mark, to, read)?;
+    view_rows(alloc, &view.body, snapshot.part(number), &rows)
 }
 
 fn up_to(kind: LeafKind, mark: u64, cursor: u64) -> u64
@@ -70,29 +70,46 @@ fn up_to(kind: LeafKind, mark: u64, cursor: u64) -> u64
     }
 }
 
-// The rows of the records in a range of cursors. No record is looked at where the range has none.
+// The rows of the records in a range of cursors, under the columns that a body reads. No record is looked at where the range has none.
 fn rows_behind(
     alloc: Global,
     extents: &TableExtents,
-    fields: &[Field],
+    body: &Plan,
     above: u64,
     to: u64,
     read: &mut u64,
-) -> Result<Rows, Memory>
+) -> Result<Held, Memory>
     requires read { read.old < 2 ^ 63 }
     requires few { length (held_records extents.now) < 2 ^ 63 }
-    ensures rows { IfOk result (λ rows. rows ≡ rows_between above to fields.now (held_records extents.now)) }
+    ensures rows { IfOk result (λ rows. rows ≡ rows_between above to (columns_read (planned_of body.now)) (held_records extents.now)) }
     ensures read { read.new ≤ read.old + (if nat_lt above to then count_read above (held_extents extents.now) else 0) }
 {
     if above < to {
-        delta(alloc, extents, fields, above, to, read)
+        let rows = read_between(alloc, extents, body, above, to)?;
+        *read += records_later(extents, above);
+        Ok(rows)
     } else {
-        Ok(Rows::new(alloc))
+        Ok(Held::own(Rows::new(alloc)))
     }
 }
 
-/// The columns under which a body reads its table.
-pub fn columns_read(body: &Plan) -> &[Field]
+/// The rows of the records with a cursor above the one and not above the other, under the columns that a body reads. None is copied.
+pub fn read_between(
+    alloc: Global,
+    extents: &TableExtents,
+    body: &Plan,
+    above: u64,
+    to: u64,
+) -> Result<Held, Memory>
+    requires { length (held_records extents.now) < 2 ^ 63 }
+    ensures { IfOk result (λ rows. rows ≡ rows_between above to (columns_read (planned_of body.now)) (held_records extents.now)) }
+{
+    let columns = copy_of(alloc, columns_read(body))?;
+    Held::between(alloc, extents.share()?, columns, above, to)
+}
+
+// The columns under which a body reads its table.
+fn columns_read(body: &Plan) -> &[Field]
     ensures { result.now ≡ columns_read (planned_of body.now) }
 {
     match body.steps.first() {

@@ -1,4 +1,4 @@
-// Groups that threads gather beside each other of a row or two each.
+// What threads gather beside each other of a row or two each.
 use super::steps::{ran, work};
 use kq_command::{Command, Query};
 use kq_engine::Work;
@@ -22,6 +22,15 @@ const BY_KEY_OUT: &[u8] = b"rows 3\nk:long\tn:long\ts:long\n1\t2\t90\n2\t2\t70\n
 const OF_ALL: &str = "E | summarize n = count(), a = min(v), arg_max(v, k)";
 
 const OF_ALL_OUT: &[u8] = b"rows 1\nn:long\ta:long\tv:long\tk:long\n7\t10\t70\t3\n";
+
+const JOINED: &str =
+    "E | join kind=inner (datatable(k:long, w:string) [1, 'one', 3, 'three']) on k | summarize n = count(), s = sum(v) by w | sort by w asc";
+
+const JOINED_OUT: &[u8] = b"rows 2\nw:string\tn:long\ts:long\none\t3\t100\nthree\t2\t110\n";
+
+const GREATEST_TWO: &str = "E | where k < 3 | top 2 by v desc | project v";
+
+const GREATEST_TWO_OUT: &[u8] = b"rows 2\nv:long\n60\n50\n";
 
 const GREATEST: &str =
     ".ingest inline into table E <|\n1,9223372036854775807\n2,9223372036854775807";
@@ -55,7 +64,7 @@ fn prints(reply: &Reply, output: &[u8]) -> bool {
 }
 
 #[test]
-fn parts_of_one_row_and_of_two_come_to_the_groups_of_all(rt: HostRuntime) -> Result<(), Fail> {
+fn parts_of_one_row_and_of_two_come_to_what_all_come_to(rt: HostRuntime) -> Result<(), Fail> {
     let alloc = rt.alloc();
     let trace = ran(alloc, Limits::full(), &[TWO_COLUMNS, FIRST, LATER], &[])?;
     let snapshot = trace.catalog.snapshot()?;
@@ -64,6 +73,10 @@ fn parts_of_one_row_and_of_two_come_to_the_groups_of_all(rt: HostRuntime) -> Res
         (BY_KEY, 2, BY_KEY_OUT),
         (OF_ALL, 1, OF_ALL_OUT),
         (OF_ALL, 2, OF_ALL_OUT),
+        (JOINED, 1, JOINED_OUT),
+        (JOINED, 2, JOINED_OUT),
+        (GREATEST_TWO, 1, GREATEST_TWO_OUT),
+        (GREATEST_TWO, 2, GREATEST_TWO_OUT),
     ] {
         let query = query_of(alloc, text)?;
         let crew = Crew::new(&rt, piece.max(1));

@@ -1,11 +1,9 @@
-use Rattle.std.proofs.Common.{Err, inr, refl, subst, sym}
-use Rattle.std.specs.List.Sorted.{IsPermutation}
+use Rattle.std.proofs.Common.{Err, inr, refl, subst}
 use Rattle.kq_fold.specs.Folds.{FoldsTo}
 use Rattle.kq_fold.specs.declared.group.GroupFault.{GroupFault}
 use Rattle.kq_plan.specs.Plans.{planned_of}
 use Rattle.kq_look.proofs.Behind.{body_of, folding_in, overflows_in}
-use Rattle.kq_model.specs.History.{cursor, log, view_cursor}
-use Rattle.kq_model.specs.Views.{covered}
+use Rattle.kq_model.specs.History.{log}
 use Rattle.kq_query.proofs.Standing.{view_over, view_within}
 use Rattle.kq_look.proofs.folds.fold_view.Goals as goal
 
@@ -17,17 +15,13 @@ fold-requires-clause-body c = let v = c.args.view.now in body_of (log c.args.sna
 
 pub returns-in-Ok-clause-folding : goal.returns-in-Ok-clause-folding
 returns-in-Ok-clause-folding c =
-    let h = c.args.snapshot.now.history in
     let v = c.args.view.now in
     let n = c.args.number in
-    let new = subst (IsPermutation (covered (log h) v (view_cursor h n) (cursor h))) (sym c.own-rows.ensures) c.in_ok-rows_since.ensures in
-    folding_in c.args.snapshot.now n v c.part.result.now c.own-rows.result c.cursor-to.ensures.sound c.requires c.part.ensures new _ refl c.cursor-to.ensures.cursor c.in-Ok.ensures
+    folding_in c.args.snapshot.now n v c.part.result.now c.in_ok-rows.rows c.cursor-to.ensures.sound c.requires c.part.ensures c.in_ok-rows.ensures _ refl c.cursor-to.ensures.cursor c.in-Ok.ensures
 
 pub returns-in-Err-Overflow-clause-refused : goal.returns-in-Err-Overflow-clause-refused
 returns-in-Err-Overflow-clause-refused c =
-    let h = c.args.snapshot.now.history in
     let v = c.args.view.now in
     let n = c.args.number in
-    let new = subst (IsPermutation (covered (log h) v (view_cursor h n) (cursor h))) (sym c.own-rows.ensures) c.in_ok-rows_since.ensures in
-    let over = subst (λ (f : GroupFault). FoldsTo (planned_of v.body) c.part.result.now c.own-rows.result (Err f)) c.in-Err-Overflow.field-0-is c.in-Err-Overflow.ensures in
-    inr (overflows_in c.args.snapshot.now n v c.part.result.now c.own-rows.result c.cursor-to.ensures.sound c.requires c.part.ensures new c.in-Err-Overflow.stage over)
+    let over = subst (λ (f : GroupFault). FoldsTo (planned_of v.body) c.part.result.now c.in_ok-rows.rows (Err f)) c.in-Err-Overflow.field-0-is c.in-Err-Overflow.ensures in
+    inr (overflows_in c.args.snapshot.now n v c.part.result.now c.in_ok-rows.rows c.cursor-to.ensures.sound c.requires c.part.ensures c.in_ok-rows.ensures c.in-Err-Overflow.stage over)

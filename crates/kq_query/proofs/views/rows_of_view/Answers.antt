@@ -4,8 +4,7 @@ use Rattle.kq_pipe.specs.kq_grouping.Bodies.{AnswersMade, columns_read}
 use Rattle.kq_model.specs.History.{log, view_cursor}
 use Rattle.kq_pipe.specs.Outcomes.{Row}
 use Rattle.kq_plan.specs.Plans.{planned_of}
-use Rattle.kq_scan.specs.Delta.{rows_between}
-use Rattle.kq_value.specs.declared.schema.Field.{Field}
+use Rattle.kq_pipe.specs.kq_lent.Ranges.{rows_between}
 use Rattle.kq_query.specs.Views.{read_to}
 use Rattle.kq_query.proofs.Looking.{looked}
 use Rattle.kq_query.proofs.Standing.{few_held, gives_rows, has_body, reaches, table_typed, view_from, view_over, view_part, view_up, view_within}
@@ -45,18 +44,17 @@ returns-clause-rows c =
     let sound = c.cursor-cursor.ensures.sound in
     let e = c.extents-extents in
     let records = held_records e.result.now in
-    let fields = c.columns_read.result.now in
     let over = view_over seen n v sound c.requires.stands in
     let to = reaches h k n c.up_to-to.result c.view_cursor-mark.result c.cursor-cursor.result c.up_to-to.ensures c.view_cursor-mark.ensures c.cursor-cursor.ensures.cursor in
-    let delta : c.own.result ≡ rows_between (view_cursor h n) (read_to h k n) (columns_read (planned_of v.body)) records =
-    c.own.ensures ∙ c.in_ok-rows.ensures.rows
+    let fields = columns_read (planned_of v.body) in
+    let behind : c.in_ok-rows.rows ≡ rows_between (view_cursor h n) (read_to h k n) fields records =
+    c.in_ok-rows.ensures.rows
     ∙ ap (λ (m : ℕ). rows_between m c.up_to-to.result fields records) c.view_cursor-mark.ensures
-    ∙ ap (λ (t : ℕ). rows_between (view_cursor h n) t fields records) to
-    ∙ ap (λ (fs : List Field). rows_between (view_cursor h n) (read_to h k n) fs records) c.columns_read.ensures in
-    gives_rows h n v k e.result.now c.part.result.now over e.ensures.records c.view_rows-2.result
+    ∙ ap (λ (t : ℕ). rows_between (view_cursor h n) t fields records) to in
+    gives_rows h n v k e.result.now c.part.result.now over e.ensures.records c.view_rows.result
     (view_from seen n v sound c.requires.stands) (view_up seen n v k sound c.requires.stands) (view_part h n v c.part.result.now c.requires.stands c.part.ensures)
     (table_typed h v.source over.stands e.ensures.typed)
-    (λ had stands. subst (λ (rows : List Row). AnswersMade (planned_of v.body) (had ++ rows) c.view_rows-2.result) delta (c.view_rows-2.ensures had stands))
+    (λ had stands. subst (λ (rows : List Row). AnswersMade (planned_of v.body) (had ++ rows) c.view_rows.result) behind (c.view_rows.ensures had stands))
 
 pub returns-in_err-rows-clause-read : goal.returns-in_err-rows-clause-read
 returns-in_err-rows-clause-read c =

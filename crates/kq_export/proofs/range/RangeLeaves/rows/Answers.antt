@@ -1,15 +1,14 @@
-use Rattle.std.proofs.Common.{◌≡◌, ◌∙◌, ap, sym, subst, length, List}
+use Rattle.std.proofs.Common.{◌≡◌, sym, subst, length, List}
 use Rattle.kq_computed.specs.Computed.{Is}
 use Rattle.kq_exported.specs.Exported.{TableAlone, only, rows_of_range}
 use Rattle.kq_extent.specs.Seen.{held_records}
 use Rattle.kq_model.specs.History.{log}
+use Rattle.kq_pipe.specs.kq_lent.Ranges.{rows_between}
 use Rattle.kq_pipe.specs.Outcomes.{Row}
 use Rattle.kq_plan.specs.declared.work.LeafKind.{LeafKind}
 use Rattle.kq_plan.specs.declared.work.LeafKind.TheVariants as kind
 use Rattle.kq_plan.specs.Fits.{FitsLeaf}
 use Rattle.kq_query.proofs.Standing.{few_held}
-use Rattle.kq_scan.specs.Delta.{rows_between}
-use Rattle.kq_value.specs.declared.schema.Field.{Field}
 use Rattle.kq_export.specs.Held.{export_of}
 use Rattle.kq_export.specs.Runs.{RangeView, gives_of}
 use Rattle.kq_export.proofs.Alone.{leaf_alone}
@@ -19,8 +18,8 @@ use Rattle.kq_export.proofs.range.RangeLeaves.rows.Goals as goal
 pub extents-extents-requires : goal.extents-extents-requires
 extents-extents-requires c = c.self.invariant.stands
 
-pub delta-requires-clause-few : goal.delta-requires-clause-few
-delta-requires-clause-few c =
+pub lent_between-requires : goal.lent_between-requires
+lent_between-requires c =
     let r = c.self.inside in
     let held = c.extents-extents in
     few_held r.snapshot.now.history r.export.now.table held.result.now held.ensures.records held.ensures.small
@@ -39,9 +38,8 @@ returns c =
     let fits = subst (λ (v : RangeView). FitsLeaf kind.Table (only v.export.source v.export.columns name) columns) (sym view)
     (subst (λ (k : LeafKind). FitsLeaf k (only c.args.self.now.export.source c.args.self.now.export.columns name) columns) c.in-Table.is c.requires) in
     let said = (leaf_alone d.source d.columns name columns fits).0 in
-    let is : c.own.result ≡ rows_between d.end r.to d.columns (held_records held.result.now) =
-    c.own.ensures ∙ c.in_ok-rows-in-Table.ensures.rows ∙ ap (λ (fs : List Field). rows_between d.end r.to fs (held_records held.result.now)) c.as_slice.ensures in
+    let is : c.in_ok-rows-in-Table.rows ≡ rows_between d.end r.to d.columns (held_records held.result.now) = c.in_ok-rows-in-Table.ensures in
     let read = range_read h e c.self.invariant held.result.now held.ensures.records held.ensures.typed d.end r.to in
     let given = subst (λ (rows : List Row). TableAlone (rows_of_range (log h) e.table (length e.columns) d.end r.to) e.columns (Is rows)) (sym is) read in
-    subst (λ (v : RangeView). gives_of v name c.args.kind columns (Is c.own.result)) view
-    (subst (λ (k : LeafKind). gives_of seen name k columns (Is c.own.result)) (sym c.in-Table.is) (said, given))
+    subst (λ (v : RangeView). gives_of v name c.args.kind columns (Is c.in_ok-rows-in-Table.rows)) view
+    (subst (λ (k : LeafKind). gives_of seen name k columns (Is c.in_ok-rows-in-Table.rows)) (sym c.in-Table.is) (said, given))
