@@ -18,6 +18,7 @@ mod merging;
 mod noting;
 mod ordinals;
 mod policies;
+mod rest;
 mod snapshot;
 mod state;
 mod tables;

@@ -23,10 +23,9 @@ ghost use Rattle.kq_catalog.specs.Views.{FindsView, HoldsPart, WasFolded, fold_e
 use crate::edits::{Edits, column_edits, part_edits, policy_edits, table_edits, view_edits};
 use crate::intent::Intent;
 use crate::merging::Merging;
-use crate::noting::with_failures;
 use crate::policies::Policies;
+use crate::rest::{rest_after, rest_shared, rest_with};
 use crate::tables::Tables;
-use crate::tagging::with_commit;
 use crate::views::Views;
 use kq_extent::TableExtents;
 use kq_model::{By, Due, Entry, Event, Limits, Noted, Operation, Table, View};
@@ -273,20 +272,26 @@ impl State {
             made,
         } = self.edits(intent)?;
         let tables = self.tables.with_all(self.alloc, changes)?;
-        let policies = self.policies.with_commit(self.alloc, &commit)?;
-        let views = self.views.with_new(self.alloc, view)?;
-        let failures = with_failures(self.alloc, &self.failures, &commit, self.cursor + 1)?;
-        let tags = with_commit(&self.tags, &commit, self.cursor + 1)?;
+        let rest = rest_after(
+            self.alloc,
+            &self.policies,
+            &self.views,
+            &self.failures,
+            &self.tags,
+            &commit,
+            view,
+            self.cursor + 1,
+        )?;
         let journal = self.journal_with(by, Operation::Commit(commit))?;
         Ok(State {
             alloc: self.alloc,
             limits: self.limits,
             journal,
             tables,
-            policies,
-            views,
-            failures,
-            tags,
+            policies: rest.policies,
+            views: rest.views,
+            failures: rest.failures,
+            tags: rest.tags,
             cursor: self.cursor + 1,
             made: self.made + made,
         })
@@ -330,16 +335,17 @@ impl State {
         let tables = self
             .tables
             .with_merged(self.alloc, table, old.len(), extent)?;
+        let rest = rest_shared(&self.policies, &self.views, &self.failures, &self.tags)?;
         let journal = self.journal_with(by, Operation::Merge { table, old, new })?;
         Ok(State {
             alloc: self.alloc,
             limits: self.limits,
             journal,
             tables,
-            policies: self.policies.share()?,
-            views: self.views.share()?,
-            failures: self.failures.share()?,
-            tags: self.tags.share()?,
+            policies: rest.policies,
+            views: rest.views,
+            failures: rest.failures,
+            tags: rest.tags,
             cursor: self.cursor,
             made: new,
         })
@@ -358,21 +364,19 @@ impl State {
         ensures limits { IfOk result (λ s. s.limits ≡ self.now.limits) }
         ensures history { IfOk result (λ s. s.history ≡ self.now.history ++ fold_event by view to ∷ []) }
     {
-        let tables = self.tables.share()?;
         let views = self.views.with_fold(self.alloc, view, to, part)?;
-        let tags = self.tags.share()?;
-        let policies = self.policies.share()?;
-        let failures = self.failures.share()?;
+        let rest = rest_with(&self.policies, views, &self.failures, &self.tags)?;
+        let tables = self.tables.share()?;
         let journal = self.journal_with(by, Operation::Fold { view, to })?;
         Ok(State {
             alloc: self.alloc,
             limits: self.limits,
             journal,
             tables,
-            policies,
-            views,
-            failures,
-            tags,
+            policies: rest.policies,
+            views: rest.views,
+            failures: rest.failures,
+            tags: rest.tags,
             cursor: self.cursor,
             made: self.made,
         })

@@ -100,7 +100,7 @@ impl Held {
         })
     }
 
-    /// Each of the rows, cut to so many cells, with each of the others that is found for it, cut likewise. No cell is copied. None where the rows do not lie in extents, or too many come.
+    /// Each of the rows, cut to so many cells or filled with nulls, with each of the others that is found for it, likewise. No cell is copied. None where the rows do not lie in extents, or too many come.
     pub fn beside<F: Finder>(
         &self,
         alloc: Global,
@@ -120,6 +120,16 @@ impl Held {
             })),
             None => Ok(None),
         }
+    }
+
+    /// Whether these are the rows of all records of a table, lent as they stand.
+    pub fn are_records(&self) -> bool {
+        matches!(self.place, Place::Lent(_))
+    }
+
+    /// Whether no row is made before it is read: they are records, or are told by pairs of places.
+    pub fn are_lent(&self) -> bool {
+        matches!(self.place, Place::Lent(_) | Place::Beside(_))
     }
 
     /// The number of rows, for which none is made.

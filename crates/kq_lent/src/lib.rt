@@ -1,4 +1,4 @@
-//! The rows that a query reads: rows of its own, the records of extents, which are lent as they stand, or such records beside rows that were found for them, which are held as pairs of places. So a count makes no row, a join copies no cell, and what row operators make of lent records is made of those of their columns that an expression reads, a part of an extent at a time.
+//! The rows that a query reads: rows of its own, the records of extents, which are lent as they stand, or such records by pairs of places: those of a range of cursors, or each beside rows that were found for it. So a count makes no row, a join copies no cell, and what row operators make of lent records is made of those of their columns that an expression reads, a part of an extent at a time.
 //! What operators make of a part is left to `kq_stretch`, and which extents a query reads to the crates above.
 #![tactic(auto)]
 

@@ -53,10 +53,20 @@ fn fold_view(snapshot: &Snapshot, number: u32, view: &View) -> Result<Folding, R
     ensures folding { IfOk result (IsFoldingIn snapshot.now.history number) }
     ensures refused { IfErr result (RefusesBy (FoldsView snapshot.now.history number)) }
 {
+    let rows = rows_since(snapshot, number, view)?;
+    fold_rows(snapshot, number, view, &rows)
+}
+
+// The same of these rows, which the view covers and its part doesn't hold.
+fn fold_rows(snapshot: &Snapshot, number: u32, view: &View, rows: &Held) -> Result<Folding, Refusal>
+    requires view { view_numbered snapshot.now.history number ≡ Some view.now }
+    requires rows { IsPermutation (covered (log snapshot.now.history) view.now (view_cursor snapshot.now.history number) (cursor snapshot.now.history)) rows.now }
+    ensures folding { IfOk result (IsFoldingIn snapshot.now.history number) }
+    ensures refused { IfErr result (RefusesBy (FoldsView snapshot.now.history number)) }
+{
     let alloc = snapshot.allocator();
     let to = snapshot.cursor();
-    let rows = rows_since(snapshot, number, view)?;
-    match fold(alloc, &view.body, snapshot.part(number), &rows) {
+    match fold(alloc, &view.body, snapshot.part(number), rows) {
         Ok(part) => Ok(Folding {
             view: number,
             to,

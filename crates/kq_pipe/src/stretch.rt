@@ -119,6 +119,24 @@ fn flow_from<G: Gatherer>(
 {
     let none = Held::own(Rows::new(alloc));
     let rows = rows_at(done, i, &none);
+    flow_in(alloc, stretch, rows, order_at(done, i), done, gatherer, now)
+}
+
+// The same of these rows.
+fn flow_in<G: Gatherer>(
+    alloc: Global,
+    stretch: &[Step],
+    rows: &Held,
+    ordered: bool,
+    done: &[Outcome],
+    gatherer: &G,
+    now: i64,
+) -> Result<Outcome, Memory>
+    requires ready { G.ready gatherer.now }
+    requires linked { Linked (length done.now) (map stepping_of stretch.now) }
+    requires columns { HasFields (last_of (map stepping_of stretch.now)).doing (last_of (map stepping_of stretch.now)).columns }
+    ensures { IfOk result (MakesOf (map stepping_of stretch.now) (around now done.now) ordered rows.now) }
+{
     if is_count(&stretch[0]) {
         return count(alloc, rows);
     }
@@ -127,7 +145,7 @@ fn flow_from<G: Gatherer>(
         alloc,
         stretch,
         rows,
-        order_at(done, i),
+        ordered,
         lets.as_slice(),
         gatherer,
         now,

@@ -15,7 +15,7 @@ use kq_order::top_rows;
 use kq_value::Memory;
 use std::alloc::{AllocError, Global};
 
-// These, or an overflow of the key at this stage.
+// The first rows in the order, or an overflow of its key at this stage.
 pub(crate) fn keep_first<G: Gatherer>(
     alloc: Global,
     gatherer: &G,
@@ -33,7 +33,7 @@ pub(crate) fn keep_first<G: Gatherer>(
     }
 }
 
-// The same, where most rows can't be among them.
+// The same, where they are fewer than half of the rows that go in.
 fn keep_leading<G: Gatherer>(
     alloc: Global,
     gatherer: &G,
@@ -54,7 +54,7 @@ fn keep_leading<G: Gatherer>(
     }
 }
 
-// The same of rows of which most are among them, once all have come.
+// The same where they are more: once all have come.
 fn keep_sorted<G: Gatherer>(
     alloc: Global,
     gatherer: &G,

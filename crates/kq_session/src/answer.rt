@@ -4,6 +4,7 @@ ghost use mathlib.Core.List.{IsPrefix};
 ghost use Rattle.kq_script.specs.Script.{Block, command};
 ghost use Rattle.kq_script.specs.Item.{IsItemOf};
 ghost use Rattle.kq_value.specs.Typed.{IsMoment};
+ghost use Rattle.kq_engine.specs.Shared.{Applies};
 ghost use Rattle.kq_reply.specs.declared.reply.Reply.TheVariants as replies;
 ghost use Rattle.kq_session.specs.Blocks.{AnswersBlock, AnswersExport, refusal_of, serves_to};
 
@@ -60,13 +61,22 @@ fn answer_text<R: Threads + Wait + Sync, G: Gate, E: Exporter>(
 {
     let shared = service.shared;
     match read_command(service.alloc, text.as_slice()) {
-        Ok(Asked::Engine(command)) => {
-            let work = Work { by, command, now };
-            shared.apply(service.rt, pass, &work, service.gate)
-        }
+        Ok(Asked::Engine(command)) => applied(service, pass, Work { by, command, now }),
         Ok(Asked::Exporter(asked)) => export(service, pass, exporter, &asked),
         Err(fault) => refused(shared, pass, refusal(fault)),
     }
+}
+
+// What the engine answers to a command.
+fn applied<R: Threads + Wait + Sync, G: Gate>(
+    service: &Service<R, G>,
+    pass: &mut Pass,
+    work: Work,
+) -> Outcome
+    requires { pass.old.of ≡ service.now.shared.now.turn }
+    ensures { Applies service.now.shared.now.limits pass.old pass.new work result }
+{
+    service.shared.apply(service.rt, pass, &work, service.gate)
 }
 
 // What the exporter answers over the catalogue as it stands. The answer has the place of the snapshot and makes no commit.

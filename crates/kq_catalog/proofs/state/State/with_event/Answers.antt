@@ -30,41 +30,35 @@ with_all-requires c =
     let staged : AreEdits (cursor_of (hist v) + 1) (1 + extents_made (hist v)) c.args.intent c.in_ok-commit.field-0 = c.in_ok-commit.ensures in
     subst (λ (w : CatalogView). FitAll (tables_in w.held) (edits_by cs)) (sym c.self.view_is) (changes_fit v (cursor_of (hist v) + 1) (1 + extents_made (hist v)) (commit_of c.args.intent) cs sound c.requires.lawful staged.edits)
 
-pub with_commit-requires-clause-stands : goal.with_commit-requires-clause-stands
-with_commit-requires-clause-stands c =
+pub rest_after-requires-clause-stands : goal.rest_after-requires-clause-stands
+rest_after-requires-clause-stands c =
     let v : CatalogView = record { limits = c.self.inside.limits; history = c.self.inside.journal; held = c.self.inside.tables; policies = c.self.inside.policies; views = c.self.inside.views; failures = c.self.inside.failures } in
     let lawful : LawfulCommit v.limits (log (hist v)) (commit_of c.args.intent) = subst (λ (w : CatalogView). LawfulCommit w.limits (log (hist w)) (commit_of c.args.intent)) (sym c.self.view_is) c.requires.lawful in
     let staged : AreEdits (cursor_of (hist c.args.self.now) + 1) (1 + extents_made (hist c.args.self.now)) c.args.intent c.in_ok-commit.field-0 = c.in_ok-commit.ensures in
     subst (SetsStanding (length v.policies)) (sym staged.is) (sets_standing v (commit_of c.args.intent) c.self.invariant.sound lawful)
 
-pub with_commit-requires-clause-few : goal.with_commit-requires-clause-few
-with_commit-requires-clause-few c =
+pub rest_after-requires-clause-few : goal.rest_after-requires-clause-few
+rest_after-requires-clause-few c =
     let v : CatalogView = record { limits = c.self.inside.limits; history = c.self.inside.journal; held = c.self.inside.tables; policies = c.self.inside.policies; views = c.self.inside.views; failures = c.self.inside.failures } in
     let b = bounded v c.self.invariant.sound in
     omega (arith, count_policies v c.self.invariant.sound, b.few_tables, v.limits.few_tables)
 
-pub with_new-requires-clause-new : goal.with_new-requires-clause-new
-with_new-requires-clause-new c =
+pub rest_after-requires-clause-new : goal.rest_after-requires-clause-new
+rest_after-requires-clause-new c =
     let v : CatalogView = record { limits = c.self.inside.limits; history = c.self.inside.journal; held = c.self.inside.tables; policies = c.self.inside.policies; views = c.self.inside.views; failures = c.self.inside.failures } in
     let lawful : LawfulCommit v.limits (log (hist v)) (commit_of c.args.intent) = subst (λ (w : CatalogView). LawfulCommit w.limits (log (hist w)) (commit_of c.args.intent)) (sym c.self.view_is) c.requires.lawful in
     let staged : AreEdits (cursor_of (hist c.args.self.now) + 1) (1 + extents_made (hist c.args.self.now)) c.args.intent c.in_ok-commit.field-0 = c.in_ok-commit.ensures in
     subst (λ (o : Option HeldView). IfSome o (λ (x : HeldView). place_of x.view.name (names_held v.views) ≡ None)) (sym staged.view)
     (new_name v.limits (hist v) (cursor_of (hist c.args.self.now) + 1) c.args.intent v.views c.self.invariant.sound.views lawful)
 
-pub with_new-requires-clause-few : goal.with_new-requires-clause-few
-with_new-requires-clause-few c =
+pub rest_after-requires-clause-few_views : goal.rest_after-requires-clause-few_views
+rest_after-requires-clause-few_views c =
     let v : CatalogView = record { limits = c.self.inside.limits; history = c.self.inside.journal; held = c.self.inside.tables; policies = c.self.inside.policies; views = c.self.inside.views; failures = c.self.inside.failures } in
     let b = bounded v c.self.invariant.sound in
     omega (arith, count_views (hist v) v.views c.self.invariant.sound.views, b.few_views, v.limits.few_views)
 
 pub overflow_add-self-inside : goal.overflow_add-self-inside
 overflow_add-self-inside c =
-    let v : CatalogView = record { limits = c.self.inside.limits; history = c.self.inside.journal; held = c.self.inside.tables; policies = c.self.inside.policies; views = c.self.inside.views; failures = c.self.inside.failures } in
-    let b = bounded v c.self.invariant.sound in
-    omega (arith, c.self.invariant.count, b.few_commits, c.self.inside.limits.few_commits)
-
-pub overflow_add-self-inside-2 : goal.overflow_add-self-inside-2
-overflow_add-self-inside-2 c =
     let v : CatalogView = record { limits = c.self.inside.limits; history = c.self.inside.journal; held = c.self.inside.tables; policies = c.self.inside.policies; views = c.self.inside.views; failures = c.self.inside.failures } in
     let b = bounded v c.self.invariant.sound in
     omega (arith, c.self.invariant.count, b.few_commits, c.self.inside.limits.few_commits)
@@ -99,13 +93,13 @@ invariant_of-result c =
     c.in_ok-journal.ensures ∙ ap (λ (k : Commit). let e : Event = record { by = c.args.by; operation = operation.Commit k } in hist now ++ e ∷ []) staged.is
     ∙ ap (λ (w : CatalogView). hist w ++ event_by c.args.by c.args.intent ∷ []) (sym c.self.view_is) in
     let index = c.self.inside.tags in
-    let tags = c.in_ok-tags.tags in
+    let tags = c.in_ok-rest.rest.tags in
     let adds : AddsTags index (λ t tag. is_tagged_by t tag commit) (c.self.inside.cursor + 1) tags =
-    subst (λ (k : Commit). AddsTags index (λ t tag. is_tagged_by t tag k) (c.self.inside.cursor + 1) tags) staged.is c.in_ok-tags.ensures in
-    let views : c.in_ok-views.views ≡ with_new v.views (view_by (cursor_of (hist v) + 1) c.args.intent) =
-    c.in_ok-views.ensures ∙ ap (with_new v.views) staged.view ∙ ap (λ (w : CatalogView). with_new v.views (view_by (cursor_of (hist w) + 1) c.args.intent)) (sym c.self.view_is) in
-    let policies : c.in_ok-policies.policies ≡ policies_with commit v.policies = c.in_ok-policies.ensures ∙ ap (λ (k : Commit). policies_with k v.policies) staged.is in
-    let failures : c.in_ok-failures.failures ≡ v.failures ++ noted_by (cursor_of (hist v) + 1) commit =
-    c.in_ok-failures.ensures ∙ ap (λ (k : Commit). v.failures ++ noted_by (c.self.inside.cursor + 1) k) staged.is ∙ ap (λ (n : ℕ). v.failures ++ noted_by (n + 1) commit) c.self.invariant.count in
+    subst (λ (k : Commit). AddsTags index (λ t tag. is_tagged_by t tag k) (c.self.inside.cursor + 1) tags) staged.is c.in_ok-rest.ensures.tags in
+    let views : c.in_ok-rest.rest.views ≡ with_new v.views (view_by (cursor_of (hist v) + 1) c.args.intent) =
+    c.in_ok-rest.ensures.views ∙ ap (with_new v.views) staged.view ∙ ap (λ (w : CatalogView). with_new v.views (view_by (cursor_of (hist w) + 1) c.args.intent)) (sym c.self.view_is) in
+    let policies : c.in_ok-rest.rest.policies ≡ policies_with commit v.policies = c.in_ok-rest.ensures.policies ∙ ap (λ (k : Commit). policies_with k v.policies) staged.is in
+    let failures : c.in_ok-rest.rest.failures ≡ v.failures ++ noted_by (cursor_of (hist v) + 1) commit =
+    c.in_ok-rest.ensures.failures ∙ ap (λ (k : Commit). v.failures ++ noted_by (c.self.inside.cursor + 1) k) staged.is ∙ ap (λ (n : ℕ). v.failures ++ noted_by (n + 1) commit) c.self.invariant.count in
     rw (journal, c.in_ok-tables.ensures, policies, views, failures)
     (HoldsHistory-push v c.self.inside.cursor c.self.inside.made made.made (event_by c.args.by c.args.intent) c.args.intent cs index tags c.self.invariant lawful c.requires.begins refl edits staged.made adds)

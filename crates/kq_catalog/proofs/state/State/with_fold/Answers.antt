@@ -19,5 +19,5 @@ invariant_of-result c =
     let ahead : view_cursor (hist v) c.args.view < c.args.to = subst (λ (w : CatalogView). view_cursor (hist w) c.args.view < c.args.to) (sym c.self.view_is) c.requires.ahead in
     let journal : c.in_ok-journal.journal ≡ hist v ++ fold_event c.args.by c.args.view c.args.to ∷ [] =
     c.in_ok-journal.ensures ∙ ap (λ (w : CatalogView). hist w ++ fold_event c.args.by c.args.view c.args.to ∷ []) (sym c.self.view_is) in
-    rw (journal, c.in_ok-tables.ensures, c.in_ok-policies.ensures, c.in_ok-views.ensures, c.in_ok-failures.ensures, c.in_ok-tags.ensures)
+    rw (journal, c.in_ok-tables.ensures, c.in_ok-rest.ensures.policies, c.in_ok-rest.ensures.views ∙ c.in_ok-views.ensures, c.in_ok-rest.ensures.failures, c.in_ok-rest.ensures.tags)
     (HoldsHistory-fold v c.self.inside.cursor c.self.inside.made c.args.by c.args.view c.args.to c.args.part c.self.inside.tags c.self.invariant folded ahead)

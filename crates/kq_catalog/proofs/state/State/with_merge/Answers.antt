@@ -36,8 +36,8 @@ with_merged-requires-clause-some c = λ h at.
     let now = merged_now v m h c.self.invariant.sound picked front at in
     omega (arith, now.within, c.len.ensures)
 
-pub invariant_of-result-2 : goal.invariant_of-result-2
-invariant_of-result-2 c =
+pub invariant_of-result : goal.invariant_of-result
+invariant_of-result c =
     let now = c.args.self.now in
     let v : CatalogView = record { limits = c.self.inside.limits; history = c.self.inside.journal; held = c.self.inside.tables; policies = c.self.inside.policies; views = c.self.inside.views; failures = c.self.inside.failures } in
     let m = c.args.merging in
@@ -49,10 +49,10 @@ invariant_of-result-2 c =
     c.in_ok-journal.ensures ∙ ap (λ (n : ℕ). let event : Event = record { by = c.args.by; operation = operation.Merge m.table m.old n } in hist now ++ event ∷ []) new
     ∙ ap (λ (w : CatalogView). hist w ++ merge_event c.args.by (1 + extents_made (hist v)) m ∷ []) (sym c.self.view_is) in
     let extent : arc_value c.in_ok-extent.extent ≡ e (1 + extents_made (hist v)) = c.in_ok-extent.ensures.ok ∙ c.with_id.ensures ∙ ap e new in
-    let tables : c.tables.inside.held ≡ changed (with_merged (length m.old) (e (1 + extents_made (hist v)))) m.table v.held =
-    c.tables.view_is ∙ c.in_ok-tables.ensures ∙ ap (λ (n : ℕ). changed (with_merged n (arc_value c.in_ok-extent.extent)) m.table v.held) c.len.ensures
+    let tables : c.in_ok-tables.tables ≡ changed (with_merged (length m.old) (e (1 + extents_made (hist v)))) m.table v.held =
+    c.in_ok-tables.ensures ∙ ap (λ (n : ℕ). changed (with_merged n (arc_value c.in_ok-extent.extent)) m.table v.held) c.len.ensures
     ∙ ap (λ (x : ExtentView). changed (with_merged (length m.old) x) m.table v.held) extent in
-    rw (journal, tables, c.in_ok-share.ensures, c.in_ok-share-2.ensures, c.in_ok-share-3.ensures, c.in_ok-share-4.ensures) (HoldsHistory-merge v c.self.inside.cursor c.self.inside.made c.args.by m c.self.inside.tags c.self.invariant picked front)
+    rw (journal, tables, c.in_ok-rest.ensures.policies, c.in_ok-rest.ensures.views, c.in_ok-rest.ensures.failures, c.in_ok-rest.ensures.tags) (HoldsHistory-merge v c.self.inside.cursor c.self.inside.made c.args.by m c.self.inside.tags c.self.invariant picked front)
 
 pub returns-clause-history : goal.returns-clause-history
 returns-clause-history c =
