@@ -1,10 +1,12 @@
 -- Chains over rows.
-use Rattle.std.proofs.Common.{◌≡◌, ◌<◌, ℕ, zero, suc, List, [], ◌∷◌, map, length, get_or, drop, Vec, refl, sym, ap, ◌∙◌, arith}
+use Rattle.std.proofs.Common.{◌≡◌, ◌<◌, ℕ, zero, suc, List, [], ◌∷◌, map, length, get_or, drop, Vec, Result, refl, sym, ap, subst, ◌∙◌, arith}
 use Rattle.std.specs.declared.alloc.Global.{Global}
 use Rattle.std.specs.Prelude.{Box}
 use Rattle.kq_value.specs.declared.value.Value.{Value}
-use Rattle.kq_computed.specs.Computed.{Computed, Is, Overflow, and_then, each}
+use Rattle.kq_computed.specs.Computed.{AnswersAs, Computed, Is, Overflow, and_then, each}
+use Rattle.kq_computed.specs.declared.fault.EvalFault.{EvalFault}
 use Rattle.kq_kernels.specs.Pairs.{each_two}
+use Rattle.kq_fn.specs.declared.function.Function.{Function}
 use Rattle.kq_fn.specs.declared.function.Function.TheVariants as f
 use Rattle.kq_expr.specs.declared.expr.Expr.{Expr}
 use Rattle.kq_expr.specs.declared.expr.Expr.TheOpen.{Expr-F}
@@ -164,15 +166,19 @@ link_stops whole xs ls i l s rows inv h is gives =
 pub linked_long : (v : Vector) (s : Surroundings) (rows : List (List Value)) → linked_over (given (cells_of v)) link.ToLong s rows ≡ each (applied f.ToLong s.now) (fronted (v ∷ []) (bare rows))
 linked_long v s rows = ap (λ c. and_then c (each (applied f.ToLong s.now))) (two-beside (cells_of v) (bare rows))
 
-pub linked_with : (q : Operation) (p : Over) (v w : Vector) (s : Surroundings) (rows : List (List Value)) → p s rows ≡ Is (cells_of w)
-    → linked_over (given (cells_of v)) (link.With q p) s rows ≡ each (applied (function_of q) s.now) (fronted (v ∷ w ∷ []) (bare rows))
-linked_with q p v w s rows e =
-    looks_over q (given (cells_of v) ∷ p ∷ []) s rows
-    ∙ ap (λ c. and_then (and_then (and_then c (λ xs. and_then (Is (bare rows)) (λ rs. each_two (λ x r. Is (x ∷ r)) xs rs))) (λ rs. each_two (λ x r. Is (x ∷ r)) (cells_of v) rs)) (each (applied (function_of q) s.now))) e
-    ∙ ap (λ c. and_then (and_then c (λ rs. each_two (λ x r. Is (x ∷ r)) (cells_of v) rs)) (each (applied (function_of q) s.now))) (two-beside (cells_of w) (bare rows))
-    ∙ ap (λ c. and_then c (each (applied (function_of q) s.now))) (two-beside (cells_of v) (beside (cells_of w) (bare rows)))
+linked_with : (q : Operation) (xs : List Value) (c : Computed (List Value)) (s : Surroundings) (rows : List (List Value))
+    → and_then (and_then (and_then c (λ ys. and_then (Is (bare rows)) (λ rs. each_two (λ y r. Is (y ∷ r)) ys rs))) (λ rs. each_two (λ x r. Is (x ∷ r)) xs rs)) (each (applied (function_of q) s.now))
+    ≡ and_then c (λ ys. each (applied (function_of q) s.now) (beside xs (beside ys (bare rows))))
+linked_with q xs Overflow s rows = refl
+linked_with q xs (Is ys) s rows =
+    ap (λ c. and_then (and_then c (λ rs. each_two (λ x r. Is (x ∷ r)) xs rs)) (each (applied (function_of q) s.now))) (two-beside ys (bare rows))
+    ∙ ap (λ c. and_then c (each (applied (function_of q) s.now))) (two-beside xs (beside ys (bare rows)))
 
-pub linked_with_stops : (q : Operation) (p : Over) (v : Vector) (s : Surroundings) (rows : List (List Value)) → p s rows ≡ Overflow → linked_over (given (cells_of v)) (link.With q p) s rows ≡ Overflow
-linked_with_stops q p v s rows e =
-    looks_over q (given (cells_of v) ∷ p ∷ []) s rows
-    ∙ ap (λ c. and_then (and_then (and_then c (λ xs. and_then (Is (bare rows)) (λ rs. each_two (λ x r. Is (x ∷ r)) xs rs))) (λ rs. each_two (λ x r. Is (x ∷ r)) (cells_of v) rs)) (each (applied (function_of q) s.now))) e
+-- what is answered of the values of both, is answered of the link
+pub answers_with : (q : Operation) (e : Expr) (l : Link Expr) (g : Function) (xs : List Value) (s : Surroundings) (rows : List (List Value)) (r : Result Vector EvalFault)
+    → l ≡ link.With q e → g ≡ function_of q → AnswersAs cells_of (and_then (over e s rows) (λ ys. each (applied g s.now) (beside xs (beside ys (bare rows))))) r
+    → AnswersAs cells_of (linked_over (given xs) (mapped over l) s rows) r
+answers_with q e l g xs s rows r is named answers =
+    subst (λ o. AnswersAs cells_of o r)
+    (ap (λ (h : Function). and_then (over e s rows) (λ ys. each (applied h s.now) (beside xs (beside ys (bare rows))))) named
+    ∙ sym (ap (λ (k : Link Expr). linked_over (given xs) (mapped over k) s rows) is ∙ looks_over q (given xs ∷ over e ∷ []) s rows ∙ linked_with q xs (over e s rows) s rows)) answers

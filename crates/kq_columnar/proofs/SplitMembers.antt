@@ -11,7 +11,7 @@ use Rattle.kq_fn.specs.declared.function.Function.TheVariants as f
 use Rattle.kq_expr.specs.declared.expr.Expr.{Expr}
 use Rattle.kq_expr.specs.declared.expr.Expr.TheOpen.{Expr-F}
 use Rattle.kq_expr.specs.declared.expr.Expr.TheFolds.{fold-roll-Expr}
-use Rattle.kq_expr.specs.declared.expr.Expr.TheVariants.{Literal, Call, rolls-Literal, rolls-Call}
+use Rattle.kq_expr.specs.declared.expr.Expr.TheVariants.{Literal, Column, Cell, Call, rolls-Literal, rolls-Column, rolls-Cell, rolls-Call}
 use Rattle.kq_scalar.specs.Applied.{applied}
 use Rattle.kq_scalar.specs.Val.{Surroundings, cell_of}
 use Rattle.kq_scalar.specs.kq_conversions.Parts.{member_of}
@@ -27,13 +27,21 @@ use Rattle.kq_columnar.proofs.Pairing.{decided, rows-pairs}
 
 -- ---- a member at a place is a call of two arguments
 
-over_of_call : (function : Function) (args : Vec Expr Global) (s : Surroundings) (rows : List (List Value)) → over (Call function args) s rows ≡ called_over function (map over args.items) s rows
+pub over_of_call : (function : Function) (args : Vec Expr Global) (s : Surroundings) (rows : List (List Value)) → over (Call function args) s rows ≡ called_over function (map over args.items) s rows
 over_of_call function args s rows =
     ap (λ (e : Expr). over e s rows) (sym (rolls-Call function args)) ∙ ap (λ (o : Over). o s rows) (fold-roll-Expr Over over_step (Expr-F.Call function args))
 
-over_of_literal : (v : Value) (s : Surroundings) (rows : List (List Value)) → over (Literal v) s rows ≡ Is (map (λ r. v) rows)
+pub over_of_literal : (v : Value) (s : Surroundings) (rows : List (List Value)) → over (Literal v) s rows ≡ Is (map (λ r. v) rows)
 over_of_literal v s rows =
     ap (λ (e : Expr). over e s rows) (sym (rolls-Literal v)) ∙ ap (λ (o : Over). o s rows) (fold-roll-Expr Over over_step (Expr-F.Literal v))
+
+pub over_of_column : (j : ℕ) (s : Surroundings) (rows : List (List Value)) → over (Column j) s rows ≡ Is (map (λ r. cell_of r j) rows)
+over_of_column j s rows =
+    ap (λ (e : Expr). over e s rows) (sym (rolls-Column j)) ∙ ap (λ (o : Over). o s rows) (fold-roll-Expr Over over_step (Expr-F.Column j))
+
+pub over_of_cell : (i : ℕ) (s : Surroundings) (rows : List (List Value)) → over (Cell i) s rows ≡ Is (map (λ r. cell_of s.lets i) rows)
+over_of_cell i s rows =
+    ap (λ (e : Expr). over e s rows) (sym (rolls-Cell i)) ∙ ap (λ (o : Over). o s rows) (fold-roll-Expr Over over_step (Expr-F.Cell i))
 
 same_members : (o p q r : Over) (s : Surroundings) (rows : List (List Value)) → o s rows ≡ p s rows → q s rows ≡ r s rows → called_over f.Member (o ∷ q ∷ []) s rows ≡ called_over f.Member (p ∷ r ∷ []) s rows
 same_members o p q r s rows d e = λ j. and_then (and_then (d j) (λ xs. and_then (and_then (e j) (λ ys. and_then (Is (bare rows)) (λ rs. each_two (λ y r. Is (y ∷ r)) ys rs))) (λ rs. each_two (λ x r. Is (x ∷ r)) xs rs))) (each (applied f.Member s.now))
@@ -43,46 +51,34 @@ are_two : (es : List Expr) (x e : Expr) → drop 1 es ≡ e ∷ [] → x ≡ get
 are_two [] x e two is = absurd (cc)
 are_two (y ∷ es) x e two is = λ j. sym is j ∷ two j
 
-of_split : (args : Vec Expr Global) (given_args : Computed (List (List Value))) (s : Surroundings) (rows : List (List Value)) → values_over (map over args.items) s rows ≡ given_args
-    → over (Call f.Split args) s rows ≡ and_then given_args (each (applied f.Split s.now))
-of_split args given_args s rows e = over_of_call f.Split args s rows ∙ ap (λ c. and_then c (each (applied f.Split s.now))) e
+-- what is answered of a split, is answered of the call
+pub answers_member : (es : List Expr) (x : Expr) (args : Vec Expr Global) (place : Value) (s : Surroundings) (rows : List (List Value)) (r : Result Vector EvalFault)
+    → drop 1 es ≡ Literal place ∷ [] → x ≡ get_or es 0 x → x ≡ Call f.Split args
+    → AnswersAs cells_of (members_at place (called_over f.Split (map over args.items)) s rows) r → AnswersAs cells_of (called_over f.Member (map over es) s rows) r
+answers_member es x args place s rows r two is split answers =
+    subst (λ o. AnswersAs cells_of o r)
+    (sym (ap (λ xs. called_over f.Member (map over xs) s rows) (are_two es x (Literal place) two is)
+    ∙ same_members (over x) (called_over f.Split (map over args.items)) (over (Literal place)) (λ s rows. Is (map (λ r. place) rows)) s rows
+    (ap (λ (d : Expr). over d s rows) split ∙ over_of_call f.Split args s rows) (over_of_literal place s rows))) answers
 
--- a member of a split is one at its columns
-pub member_of_split : (es : List Expr) (x : Expr) (args : Vec Expr Global) (place : Value) (vectors : List Vector) (s : Surroundings) (rows : List (List Value))
-    → drop 1 es ≡ Literal place ∷ [] → x ≡ get_or es 0 x → x ≡ Call f.Split args → values_over (map over args.items) s rows ≡ Is (fronted vectors (bare rows))
-    → called_over f.Member (map over es) s rows ≡ members_at place (at_columns f.Split vectors) s rows
-member_of_split es x args place vectors s rows two is split e =
-    ap (λ xs. called_over f.Member (map over xs) s rows) (are_two es x (Literal place) two is)
-    ∙ same_members (over x) (at_columns f.Split vectors) (over (Literal place)) (λ s rows. Is (map (λ r. place) rows)) s rows
-    (ap (λ (d : Expr). over d s rows) split ∙ of_split args (Is (fronted vectors (bare rows))) s rows e) (over_of_literal place s rows)
-
-pub member_of_split_stops : (es : List Expr) (x : Expr) (args : Vec Expr Global) (place : Value) (s : Surroundings) (rows : List (List Value))
-    → drop 1 es ≡ Literal place ∷ [] → x ≡ get_or es 0 x → x ≡ Call f.Split args → values_over (map over args.items) s rows ≡ Overflow
-    → called_over f.Member (map over es) s rows ≡ Overflow
-member_of_split_stops es x args place s rows two is split e =
-    ap (λ xs. called_over f.Member (map over xs) s rows) (are_two es x (Literal place) two is)
-    ∙ same_members (over x) (λ s rows. Overflow) (over (Literal place)) (λ s rows. Is (map (λ r. place) rows)) s rows
-    (ap (λ (d : Expr). over d s rows) split ∙ of_split args Overflow s rows e) (over_of_literal place s rows)
-
--- what is answered of the columns, is answered of the call
-pub answers_split : (es : List Expr) (x : Expr) (args : Vec Expr Global) (place : Value) (vs ws : List Vector) (s : Surroundings) (rows : List (List Value)) (r : Result Vector EvalFault)
-    → drop 1 es ≡ Literal place ∷ [] → x ≡ get_or es 0 x → x ≡ Call f.Split args → values_over (map over args.items) s rows ≡ Is (fronted vs (bare rows)) → ws ≡ vs
-    → AnswersAs cells_of (members_at place (at_columns f.Split ws) s rows) r → AnswersAs cells_of (called_over f.Member (map over es) s rows) r
-answers_split es x args place vs ws s rows r two is split e same answers =
-    subst (λ o. AnswersAs cells_of o r) (ap (λ (xs : List Vector). members_at place (at_columns f.Split xs) s rows) same ∙ sym (member_of_split es x args place vs s rows two is split e)) answers
+-- what is answered of columns, is answered of what gives them
+pub answers_split : (es : List Expr) (place : Value) (vs ws : List Vector) (s : Surroundings) (rows : List (List Value)) (r : Result Vector EvalFault)
+    → values_over (map over es) s rows ≡ Is (fronted vs (bare rows)) → ws ≡ vs
+    → AnswersAs cells_of (members_at place (at_columns f.Split ws) s rows) r → AnswersAs cells_of (members_at place (called_over f.Split (map over es)) s rows) r
+answers_split es place vs ws s rows r e same answers =
+    subst (λ o. AnswersAs cells_of o r)
+    (ap (λ (xs : List Vector). members_at place (at_columns f.Split xs) s rows) same
+    ∙ sym (same_members (called_over f.Split (map over es)) (at_columns f.Split vs) (λ s rows. Is (map (λ r. place) rows)) (λ s rows. Is (map (λ r. place) rows)) s rows
+    (ap (λ c. and_then c (each (applied f.Split s.now))) e) refl)) answers
 
 -- ---- by arrays
 
-members-beside : (place : Value) (o : Over) (us : List Value) (s : Surroundings) (rows : List (List Value)) → o s rows ≡ Is us
+pub members_beside : (place : Value) (o : Over) (us : List Value) (s : Surroundings) (rows : List (List Value)) → o s rows ≡ Is us
     → members_at place o s rows ≡ each (applied f.Member s.now) (beside us (beside (map (λ r. place) rows) (bare rows)))
-members-beside place o us s rows e =
+members_beside place o us s rows e =
     same_members o (given us) (λ s rows. Is (map (λ r. place) rows)) (λ s rows. Is (map (λ r. place) rows)) s rows e refl
     ∙ ap (λ c. and_then (and_then c (λ rs. each_two (λ x r. Is (x ∷ r)) us rs)) (each (applied f.Member s.now))) (two-beside (map (λ r. place) rows) (bare rows))
     ∙ ap (λ c. and_then c (each (applied f.Member s.now))) (two-beside us (beside (map (λ r. place) rows) (bare rows)))
-
-pub members_of_two : (place : Value) (o : Over) (v w : Vector) (s : Surroundings) (rows : List (List Value)) → o s rows ≡ Is (cells_of v) → map (λ r. place) rows ≡ cells_of w
-    → members_at place o s rows ≡ each (applied f.Member s.now) (fronted (v ∷ w ∷ []) (bare rows))
-members_of_two place o v w s rows e same = members-beside place o (cells_of v) s rows e ∙ ap (λ xs. each (applied f.Member s.now) (beside (cells_of v) (beside xs (bare rows)))) same
 
 pub members_stop : (place : Value) (o : Over) (s : Surroundings) (rows : List (List Value)) → o s rows ≡ Overflow → members_at place o s rows ≡ Overflow
 members_stop place o s rows e = same_members o (λ s rows. Overflow) (λ s rows. Is (map (λ r. place) rows)) (λ s rows. Is (map (λ r. place) rows)) s rows e refl
@@ -122,7 +118,7 @@ module _ (a b : Vector) (vectors : List Vector) (y place : Value) (n m : ℕ) wh
       let us = map (λ x. pieces x y) (cells_of a) in
       let all : length us ≡ n = length-map (λ x. pieces x y) (cells_of a) ∙ h in
       let places : map (λ r. place) rows ≡ replicate n place = all-same place rows n long in
-      members-beside place (at_columns f.Split vectors) us s rows (arrays s rows is h k same long)
+      members_beside place (at_columns f.Split vectors) us s rows (arrays s rows is h k same long)
       ∙ (λ j. each (applied f.Member s.now) (beside us (beside (places j) (all-same [] rows n long j))))
       ∙ rows-pairs (applied f.Member s.now) us (replicate n place) n all (ap length (sym places) ∙ length-map (λ r. place) rows ∙ long)
       ∙ each-beside member_of us n place all

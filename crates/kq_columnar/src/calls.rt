@@ -1,12 +1,14 @@
 // Functions at the values of their arguments, row by row.
-ghost use Rattle.std.specs.Prelude.{◌≡◌, OnOk};
-ghost use Rattle.kq_computed.specs.Computed.{Answers, AnswersAs, each};
+ghost use Rattle.std.specs.Prelude.{◌≡◌, List, map, OnOk};
+ghost use Rattle.kq_computed.specs.Computed.{Answers, AnswersAs, Computed, Is, and_then, each};
 ghost use Rattle.kq_scalar.specs.Applied.{applied};
+ghost use Rattle.kq_value.specs.declared.value.Value.{Value as Cell};
 ghost use Rattle.kq_columnar.specs.Over.{bare};
 ghost use Rattle.kq_vector.specs.Vectors.{cells_of};
 ghost use Rattle.kq_columnar.specs.Vectors.{row_at};
-ghost use Rattle.kq_columnar.specs.Seen.{fronted, rows_in, rows_of, shortest as the_shortest};
+ghost use Rattle.kq_columnar.specs.Seen.{beside, fronted, rows_in, rows_of, shortest as the_shortest};
 
+use crate::gather::value_over;
 use crate::kernels::of_two;
 use crate::parts::converted;
 use crate::piece::Piece;
@@ -28,6 +30,34 @@ pub fn apply_over<'a>(
     ensures { AnswersAs cells_of (each (applied function piece.entry.now) (fronted vectors.now (bare (rows_in piece.entry places.now)))) result }
 {
     apply_all(alloc, function, vectors, places.len(), piece)
+}
+
+/// What a function of two arguments gives of their values at these places, or why there are no values of the second.
+pub fn apply_pair<'a>(
+    alloc: Global,
+    function: Function,
+    firsts: Vector<'a>,
+    seconds: Result<Vector<'a>, EvalFault>,
+    piece: Piece,
+    places: &[usize],
+) -> Result<Vector<'a>, EvalFault>
+    ensures { (c : Computed (List Cell)) → AnswersAs cells_of c seconds.entry → AnswersAs cells_of (and_then c (λ ys. each (applied function piece.entry.now) (beside (cells_of firsts.entry) (beside ys (bare (rows_in piece.entry places.now)))))) result }
+{
+    match seconds {
+        Ok(others) => apply_over(alloc, function, &[firsts, others], piece, places),
+        Err(fault) => Err(fault),
+    }
+}
+
+/// A value for each of the rows at these places.
+pub fn literal_over<'a>(
+    value: &Value,
+    piece: Piece<'a, '_>,
+    places: &[usize],
+) -> Result<Vector<'a>, EvalFault>
+    ensures { AnswersAs cells_of (Is (map (λ r. value.now) (rows_in piece.entry places.now))) result }
+{
+    Ok(value_over(value, piece.columns, places)?)
 }
 
 // By a kernel where one decides all rows, and else row by row.

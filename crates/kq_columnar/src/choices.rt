@@ -1,5 +1,5 @@
 // Some of the places by tests, and columns put together by them.
-ghost use Rattle.std.specs.Prelude.{◌≡◌, not, map, IfOk};
+ghost use Rattle.std.specs.Prelude.{◌≡◌, ◌++◌, ◌∷◌, [], not, map, IfOk};
 ghost use Rattle.kq_value.specs.declared.value.Value.TheVariants.{Long};
 ghost use Rattle.kq_arithmetic.specs.Logic.{is_yes as the_is_yes};
 ghost use Rattle.kq_columnar.specs.Choices.{picked, merged, is_present as the_is_present};
@@ -47,8 +47,15 @@ pub fn present_branch<'v>(alloc: Global, vector: Vector) -> Result<Branch<'v>, M
     ensures tests { IfOk result (λ b. b.tests.items ≡ map the_is_present (cells_of vector.entry)) }
     ensures values { IfOk result (λ b. cells_of b.values ≡ picked b.tests.items (cells_of vector.entry)) }
 {
-    let tests = presences(alloc, &vector)?;
-    let values = picked_cells(alloc, &tests, &vector)?;
+    present_cells(alloc, &vector)
+}
+
+fn present_cells<'v>(alloc: Global, vector: &Vector) -> Result<Branch<'v>, Memory>
+    ensures tests { IfOk result (λ b. b.tests.items ≡ map the_is_present (cells_of vector.now)) }
+    ensures values { IfOk result (λ b. cells_of b.values ≡ picked b.tests.items (cells_of vector.now)) }
+{
+    let tests = presences(alloc, vector)?;
+    let values = picked_cells(alloc, &tests, vector)?;
     Ok(Branch { tests, values })
 }
 
@@ -94,6 +101,22 @@ pub fn other_places(
 {
     let others = negated(alloc, tests)?;
     picked_places(alloc, &others, columns, places)
+}
+
+/// Puts a branch behind the others, and gives the places of the rows with a false test.
+pub fn put_branch<'a>(
+    alloc: Global,
+    branches: &mut Vec<Branch<'a>>,
+    branch: Branch<'a>,
+    columns: &[Vector],
+    places: &[usize],
+) -> Result<Vec<usize>, Memory>
+    ensures branches { IfOk result (λ v. branches.new.items ≡ branches.old.items ++ branch.entry ∷ []) }
+    ensures left { IfOk result (λ v. rows_at columns.now v.items ≡ picked (map not branch.entry.tests.items) (rows_at columns.now places.now)) }
+{
+    let left = other_places(alloc, &branch.tests, columns, places)?;
+    branches.push(branch)?;
+    Ok(left)
 }
 
 fn negated(alloc: Global, tests: &[bool]) -> Result<Vec<bool>, Memory>
@@ -151,9 +174,20 @@ fn merged_branch<'a>(
 ) -> Result<Vector<'a>, Memory>
     ensures { IfOk result (λ c. cells_of c ≡ merged branch.entry.tests.items (cells_of branch.entry.values) (cells_of others.entry)) }
 {
-    match (&branch.values, &others) {
-        (Vector::Longs(ys), Vector::Longs(zs)) => merged_longs(alloc, &branch.tests, ys, zs),
-        (y, z) => merged_cells(alloc, &branch.tests, y, z),
+    merged_values(alloc, &branch.tests, &branch.values, &others)
+}
+
+fn merged_values<'v>(
+    alloc: Global,
+    tests: &[bool],
+    ys: &Vector,
+    zs: &Vector,
+) -> Result<Vector<'v>, Memory>
+    ensures { IfOk result (λ c. cells_of c ≡ merged tests.now (cells_of ys.now) (cells_of zs.now)) }
+{
+    match (ys, zs) {
+        (Vector::Longs(ys), Vector::Longs(zs)) => merged_longs(alloc, tests, ys, zs),
+        (y, z) => merged_cells(alloc, tests, y, z),
     }
 }
 

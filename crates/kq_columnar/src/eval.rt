@@ -1,25 +1,27 @@
 // Expressions over the rows of a piece.
 ghost use Rattle.std.specs.Prelude.{◌≡◌, ◌≤◌, ◌+◌, ◌∷◌, [], IfOk, IfSome, map, drop, length};
 ghost use Rattle.kq_computed.specs.Computed.{Is, and_then, AnswersAs, each};
+ghost use Rattle.kq_scalar.specs.Applied.{applied};
 ghost use Rattle.kq_arithmetic.specs.Logic.{is_yes};
 ghost use Rattle.kq_scalar.specs.Val.{val, surroundings, cell_of};
 ghost use Rattle.kq_expr.specs.declared.expr.Expr.TheVariants.{Literal};
 ghost use Rattle.kq_expr.specs.Terms.{mapped};
-ghost use Rattle.kq_fn.specs.declared.function.Function.TheVariants.{Member};
+ghost use Rattle.kq_fn.specs.declared.function.Function.TheVariants.{Member, Split};
 ghost use Rattle.kq_columnar.specs.Over.{over, called_over, chosen_over, present_over, given, linked_over, chained_over, bare};
 ghost use Rattle.kq_vector.specs.Vectors.{cells_of};
 ghost use Rattle.kq_columnar.specs.Vectors.{rows_at};
-ghost use Rattle.kq_columnar.specs.Seen.{seen, rows_in, all_over, fronted};
+ghost use Rattle.kq_columnar.specs.Choices.{picked};
+ghost use Rattle.kq_columnar.specs.Seen.{seen, rows_in, all_over, fronted, members_at, merged_by};
 
-use crate::calls::apply_over;
-use crate::choices::{Branch, merged_all, other_places, picked_places, present_branch, truths};
-use crate::gather::{column_over, value_over};
+use crate::calls::{apply_over, apply_pair, literal_over};
+use crate::choices::{Branch, merged_all, picked_places, present_branch, put_branch, truths};
+use crate::gather::column_over;
 use crate::piece::Piece;
 use crate::splits::split_members;
 use kq_computed::EvalFault;
 use kq_expr::{Expr, Link};
 use kq_fn::Function;
-use kq_value::{Memory, Ty, Value};
+use kq_value::{Ty, Value};
 use kq_vector::{Vector, cell_at};
 use std::alloc::Global;
 
@@ -39,7 +41,6 @@ pub fn eval_column<'a>(
 }
 
 #[cycle(eval)]
-#[tactic(auto, using(crate::proofs::Branches::called_all, crate::proofs::Chains::over_of_chain, crate::proofs::Chains::chained_same, crate::proofs::Chains::chained_stops))]
 fn eval_over<'a>(
     alloc: Global,
     expr: &Expr,
@@ -49,23 +50,49 @@ fn eval_over<'a>(
     ensures { AnswersAs cells_of (over expr.now (seen piece.entry) (rows_in piece.entry places.now)) result }
 {
     match expr {
-        Expr::Literal(value) => Ok(value_over(value, piece.columns, places)?),
-        Expr::Column(j) => Ok(column_over(alloc, *j, piece.columns, places)?),
-        Expr::Cell(i) => Ok(let_over(*i, piece, places)?),
-        Expr::Call(function, args) => match function {
-            Function::Iff | Function::Case => eval_chosen(alloc, args, piece, places),
-            Function::Coalesce => eval_present(alloc, args, piece, places),
-            Function::Member => eval_member(alloc, args, piece, places),
-            _ => {
-                let vectors = eval_all(alloc, args, piece, places)?;
-                apply_over(alloc, *function, &vectors, piece, places)
-            }
-        },
+        Expr::Literal(value) => literal_over(value, piece, places),
+        Expr::Column(j) => cells_over(alloc, *j, piece, places),
+        Expr::Cell(i) => let_over(*i, piece, places),
+        Expr::Call(function, args) => eval_call(alloc, *function, args, piece, places),
         Expr::Chain(first, links) => {
             let values = eval_over(alloc, first, piece, places)?;
             eval_links(alloc, values, links, piece, places)
         }
     }
+}
+
+// What a call gives. Some functions choose which of their arguments are evaluated.
+#[cycle(eval)]
+fn eval_call<'a>(
+    alloc: Global,
+    function: Function,
+    args: &Vec<Expr>,
+    piece: Piece<'a, '_>,
+    places: &[usize],
+) -> Result<Vector<'a>, EvalFault>
+    ensures { AnswersAs cells_of (called_over function (map over args.now.items) (seen piece.entry) (rows_in piece.entry places.now)) result }
+{
+    match function {
+        Function::Iff | Function::Case => eval_chosen(alloc, args, piece, places),
+        Function::Coalesce => eval_present(alloc, args, piece, places),
+        Function::Member => eval_member(alloc, args, piece, places),
+        _ => eval_applied(alloc, function, args, piece, places),
+    }
+}
+
+// What a function gives of all its arguments.
+#[cycle(eval)]
+fn eval_applied<'a>(
+    alloc: Global,
+    function: Function,
+    args: &Vec<Expr>,
+    piece: Piece<'a, '_>,
+    places: &[usize],
+) -> Result<Vector<'a>, EvalFault>
+    ensures { AnswersAs cells_of (and_then (all_over args.now.items piece.entry places.now) (each (applied function piece.entry.now))) result }
+{
+    let vectors = eval_all(alloc, args, piece, places)?;
+    apply_over(alloc, function, &vectors, piece, places)
 }
 
 // What the links of a chain make of its first values.
@@ -88,7 +115,6 @@ fn eval_links<'a>(
 }
 
 #[cycle(eval)]
-#[tactic(auto, using(crate::proofs::Chains::linked_long, crate::proofs::Chains::linked_with, crate::proofs::Chains::linked_with_stops))]
 fn eval_link<'a>(
     alloc: Global,
     values: Vector<'a>,
@@ -101,21 +127,14 @@ fn eval_link<'a>(
     match link {
         Link::ToLong => apply_over(alloc, Function::ToLong, &[values], piece, places),
         Link::With(operation, operand) => {
-            let others = eval_over(alloc, operand, piece, places)?;
-            apply_over(
-                alloc,
-                operation.function(),
-                &[values, others],
-                piece,
-                places,
-            )
+            let others = eval_over(alloc, operand, piece, places);
+            apply_pair(alloc, operation.function(), values, others, piece, places)
         }
     }
 }
 
 // The member of what stands first: of a split at a literal place without the array.
 #[cycle(eval)]
-#[tactic(auto, using(crate::proofs::SplitMembers::member_of_split, crate::proofs::SplitMembers::member_of_split_stops))]
 fn eval_member<'a>(
     alloc: Global,
     exprs: &Vec<Expr>,
@@ -127,13 +146,26 @@ fn eval_member<'a>(
     if let Some(place) = literal_place(exprs.as_slice()) {
         if let Expr::Call(function, texts) = &exprs[0] {
             if let Function::Split = function {
-                let vectors = eval_all(alloc, texts, piece, places)?;
-                return split_members(alloc, &vectors, place, piece, places);
+                return eval_split(alloc, texts, place, piece, places);
             }
         }
     }
-    let vectors = eval_all(alloc, exprs, piece, places)?;
-    apply_over(alloc, Function::Member, &vectors, piece, places)
+    eval_applied(alloc, Function::Member, exprs, piece, places)
+}
+
+// The members at a place of what a split of these gives.
+#[cycle(eval)]
+fn eval_split<'a>(
+    alloc: Global,
+    texts: &Vec<Expr>,
+    place: &Value,
+    piece: Piece<'a, '_>,
+    places: &[usize],
+) -> Result<Vector<'a>, EvalFault>
+    ensures { AnswersAs cells_of (members_at place.now (called_over Split (map over texts.now.items)) (seen piece.entry) (rows_in piece.entry places.now)) result }
+{
+    let vectors = eval_all(alloc, texts, piece, places)?;
+    split_members(alloc, &vectors, place, piece, places)
 }
 
 // The literal that stands second of two.
@@ -146,11 +178,24 @@ fn literal_place(exprs: &[Expr]) -> Option<&Value>
     }
 }
 
-fn let_over<'a>(i: usize, piece: Piece<'a, '_>, places: &[usize]) -> Result<Vector<'a>, Memory>
-    ensures { IfOk result (λ c. map (λ r. cell_of piece.entry.lets.now i) (rows_in piece.entry places.now) ≡ cells_of c) }
+// The column's cell of each row.
+fn cells_over<'a>(
+    alloc: Global,
+    j: usize,
+    piece: Piece<'a, '_>,
+    places: &[usize],
+) -> Result<Vector<'a>, EvalFault>
+    ensures { AnswersAs cells_of (Is (map (λ r. cell_of r j) (rows_in piece.entry places.now))) result }
+{
+    Ok(column_over(alloc, j, piece.columns, places)?)
+}
+
+// The scalar let's cell for each row.
+fn let_over<'a>(i: usize, piece: Piece<'a, '_>, places: &[usize]) -> Result<Vector<'a>, EvalFault>
+    ensures { AnswersAs cells_of (Is (map (λ r. cell_of piece.entry.lets.now i) (rows_in piece.entry places.now))) result }
 {
     let value = cell_at(piece.lets, i)?;
-    value_over(&value, piece.columns, places)
+    literal_over(&value, piece, places)
 }
 
 #[cycle(eval)]
@@ -179,19 +224,16 @@ fn eval_chosen<'a>(
 ) -> Result<Vector<'a>, EvalFault>
     ensures { AnswersAs cells_of (chosen_over (map over exprs.now.items) (seen piece.entry) (rows_in piece.entry places.now)) result }
 {
-    let mut branches = Vec::new(alloc);
     let mut left = places.to_vec(alloc)?;
+    let mut branches = Vec::new(alloc);
     let mut i = 0;
     while i + 1 < exprs.len() {
         let tests = eval_tests(alloc, &exprs[i], piece, &left)?;
-        let chosen = picked_places(alloc, &tests, piece.columns, &left)?;
-        let values = eval_over(alloc, &exprs[i + 1], piece, &chosen)?;
-        left = other_places(alloc, &tests, piece.columns, &left)?;
-        branches.push(Branch { tests, values })?;
+        let branch = eval_branch(alloc, tests, &exprs[i + 1], piece, &left)?;
+        left = put_branch(alloc, &mut branches, branch, piece.columns, &left)?;
         i += 2;
     }
-    let last = eval_last(alloc, exprs, i, piece, &left)?;
-    Ok(merged_all(alloc, branches, last)?)
+    eval_rest(alloc, branches, exprs, i, piece, &left)
 }
 
 // Whether the expression is true.
@@ -206,6 +248,41 @@ fn eval_tests(
 {
     let values = eval_over(alloc, expr, piece, places)?;
     Ok(truths(alloc, values)?)
+}
+
+// The tests, and the expression's values where they are true.
+#[cycle(eval)]
+fn eval_branch<'a>(
+    alloc: Global,
+    tests: Vec<bool>,
+    expr: &Expr,
+    piece: Piece<'a, '_>,
+    places: &[usize],
+) -> Result<Branch<'a>, EvalFault>
+    ensures tests { IfOk result (λ b. b.tests ≡ tests) }
+    ensures values { AnswersAs (λ b. cells_of b.values) (over expr.now (seen piece.entry) (picked tests.items (rows_in piece.entry places.now))) result }
+{
+    let chosen = picked_places(alloc, &tests, piece.columns, places)?;
+    let values = eval_over(alloc, expr, piece, &chosen)?;
+    Ok(Branch { tests, values })
+}
+
+// The branches, with the last values behind them.
+#[cycle(eval)]
+fn eval_rest<'a>(
+    alloc: Global,
+    branches: Vec<Branch<'a>>,
+    exprs: &Vec<Expr>,
+    i: usize,
+    piece: Piece<'a, '_>,
+    places: &[usize],
+) -> Result<Vector<'a>, EvalFault>
+    requires { length exprs.now.items ≤ i + 1 }
+    ensures chosen { AnswersAs cells_of (and_then (chosen_over (map over (drop i exprs.now.items)) (seen piece.entry) (rows_in piece.entry places.now)) (λ zs. Is (merged_by branches.entry.items zs))) result }
+    ensures present { AnswersAs cells_of (and_then (present_over (map over (drop i exprs.now.items)) (seen piece.entry) (rows_in piece.entry places.now)) (λ zs. Is (merged_by branches.entry.items zs))) result }
+{
+    let last = eval_last(alloc, exprs, i, piece, places)?;
+    Ok(merged_all(alloc, branches, last)?)
 }
 
 // The values that are left where all tests are past.
@@ -224,7 +301,7 @@ fn eval_last<'a>(
     if i < exprs.len() {
         eval_over(alloc, &exprs[i], piece, places)
     } else {
-        Ok(value_over(&Value::Null(Ty::Long), piece.columns, places)?)
+        literal_over(&Value::Null(Ty::Long), piece, places)
     }
 }
 
@@ -238,16 +315,14 @@ fn eval_present<'a>(
 ) -> Result<Vector<'a>, EvalFault>
     ensures { AnswersAs cells_of (present_over (map over exprs.now.items) (seen piece.entry) (rows_in piece.entry places.now)) result }
 {
-    let mut branches = Vec::new(alloc);
     let mut left = places.to_vec(alloc)?;
+    let mut branches = Vec::new(alloc);
     let mut i = 0;
     while i + 1 < exprs.len() {
         let values = eval_over(alloc, &exprs[i], piece, &left)?;
         let branch = present_branch(alloc, values)?;
-        left = other_places(alloc, &branch.tests, piece.columns, &left)?;
-        branches.push(branch)?;
+        left = put_branch(alloc, &mut branches, branch, piece.columns, &left)?;
         i += 1;
     }
-    let last = eval_last(alloc, exprs, i, piece, &left)?;
-    Ok(merged_all(alloc, branches, last)?)
+    eval_rest(alloc, branches, exprs, i, piece, &left)
 }

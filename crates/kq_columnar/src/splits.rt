@@ -9,8 +9,7 @@ ghost use Rattle.kq_scalar.specs.kq_texts.Texts.{pieces};
 ghost use Rattle.kq_vector.specs.Vectors.{cells_of};
 ghost use Rattle.kq_columnar.specs.Seen.{at_columns, members_at, rows_in, seen};
 
-use crate::calls::apply_over;
-use crate::gather::value_over;
+use crate::calls::{apply_over, apply_pair, literal_over};
 use crate::piece::Piece;
 use kq_computed::EvalFault;
 use kq_fn::Function;
@@ -47,8 +46,8 @@ fn members_of_arrays<'a>(
     ensures { AnswersAs cells_of (members_at place.now (at_columns Split vectors.now) (seen piece.entry) (rows_in piece.entry places.now)) result }
 {
     let arrays = apply_over(alloc, Function::Split, vectors, piece, places)?;
-    let others = value_over(place, piece.columns, places)?;
-    apply_over(alloc, Function::Member, &[arrays, others], piece, places)
+    let others = literal_over(place, piece, places);
+    apply_pair(alloc, Function::Member, arrays, others, piece, places)
 }
 
 // The members, where one text splits all the others, which lie where they can be lent.

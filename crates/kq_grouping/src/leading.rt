@@ -1,10 +1,11 @@
 // The first rows in an order, of those that come through row operators.
-ghost use Rattle.std.specs.Prelude.{◌≡◌, ℕ, List, IfOk};
+ghost use Rattle.std.specs.Prelude.{◌≡◌, ℕ, List, [], IfOk};
 ghost use Rattle.std.specs.List.{All};
 ghost use Rattle.kq_lent.specs.kq_piecewise.Operators.{Row};
 ghost use Rattle.kq_lent.specs.kq_piecewise.Pieces.{piece_of};
 ghost use Rattle.kq_lent.specs.kq_scalar.Val.{Surroundings, surroundings};
 ghost use Rattle.kq_order.specs.Answered.{AnswersOne};
+ghost use Rattle.kq_order.specs.Leading.{Lead};
 ghost use Rattle.kq_order.specs.Orders.{Topped};
 ghost use Rattle.kq_plan.specs.Plans.{Sorting, sorting_of};
 ghost use Rattle.kq_rows.specs.Chunks.{HasWidth};
@@ -72,15 +73,30 @@ fn top_all(
     ensures { IfOk result (LeadsTo flow.old.width count (sorting_of key.now) (surroundings now lets.now) flow.old.to_come) }
 {
     let mut leaders = Leaders::new(alloc);
+    top_with(alloc, &mut leaders, flow, count, key, lets, now)
+}
+
+// The same, beginning with leaders of no rows.
+fn top_with(
+    alloc: Global,
+    leaders: &mut Leaders,
+    flow: &mut Flow,
+    count: u64,
+    key: &SortKey,
+    lets: &[Value],
+    now: i64,
+) -> Result<Leading, Memory>
+    requires lead { Lead count (sorting_of key.now) (surroundings now lets.now) [] leaders.old }
+    requires none { leaders.old.rows ≡ [] }
+    ensures { IfOk result (LeadsTo flow.old.width count (sorting_of key.now) (surroundings now lets.now) flow.old.to_come) }
+{
     loop {
         match flow.next()? {
-            Next::Piece(piece) => {
-                match take_in(alloc, &mut leaders, &piece, count, key, lets, now) {
-                    Ok(()) => {}
-                    Err(EvalFault::Overflow) => return overflow(flow),
-                    Err(EvalFault::Memory) => return Err(AllocError),
-                }
-            }
+            Next::Piece(piece) => match take_in(alloc, leaders, piece, count, key, lets, now) {
+                Ok(()) => {}
+                Err(EvalFault::Overflow) => return overflow(flow),
+                Err(EvalFault::Memory) => return Err(AllocError),
+            },
             Next::End => return told(leaders.first(alloc, count, key, lets, now)),
             Next::Failed(n) => return Ok(Leading::Failed(n)),
         }

@@ -20,20 +20,20 @@ use kq_value::{Memory, Value};
 use std::alloc::Global;
 
 // Takes the rows of a piece in, and keeps those that may be among the first.
-pub(crate) fn take_in<R: Relation>(
+pub(crate) fn take_in<R: Relation + Drop>(
     alloc: Global,
     leaders: &mut Leaders,
-    piece: &R,
+    piece: R,
     count: u64,
     key: &SortKey,
     lets: &[Value],
     now: i64,
 ) -> Result<(), EvalFault>
-    requires { (w : ℕ) × All (HasWidth w) leaders.old.rows × All (HasWidth w) (R.rows piece.now) }
-    ensures takes { Advance count (sorting_of key.now) (surroundings now lets.now) (R.rows piece.now) leaders.old leaders.new result }
-    ensures wide { (w : ℕ) → All (HasWidth w) leaders.old.rows → All (HasWidth w) (R.rows piece.now) → OnOk result (All (HasWidth w) leaders.new.rows) }
+    requires { (w : ℕ) × All (HasWidth w) leaders.old.rows × All (HasWidth w) (R.rows piece) }
+    ensures takes { Advance count (sorting_of key.now) (surroundings now lets.now) (R.rows piece) leaders.old leaders.new result }
+    ensures wide { (w : ℕ) → All (HasWidth w) leaders.old.rows → All (HasWidth w) (R.rows piece) → OnOk result (All (HasWidth w) leaders.new.rows) }
 {
-    match add_piece(alloc, leaders, piece, count, key, lets, now) {
+    match add_piece(alloc, leaders, &piece, count, key, lets, now) {
         Ok(()) => leaders.settle(alloc, count, key, lets, now),
         Err(fault) => Err(fault),
     }

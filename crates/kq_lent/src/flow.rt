@@ -6,11 +6,11 @@ ghost use Rattle.kq_stretch.specs.kq_scalar.Val.{surroundings};
 ghost use Rattle.kq_stretch.specs.Operators.{rowwise_of};
 ghost use Rattle.kq_stretch.specs.Pieces.{rows_in as piece_rows};
 ghost use Rattle.kq_stretch.specs.Ran.{failure_of, ran, width_in_end};
-ghost use Rattle.kq_lent.specs.Flowing.{IsLeastToFail};
+ghost use Rattle.kq_lent.specs.Flowing.{IsLeastToFail, flowing};
 ghost use Rattle.kq_lent.specs.Held.{IsReadable, rows_in};
-ghost use Rattle.kq_lent.specs.Opened.{ReadsOpen};
+ghost use Rattle.kq_lent.specs.Opened.{IsOpen, ReadsOpen};
 ghost use Rattle.kq_lent.specs.Sources.{source_rows};
-ghost use Rattle.kq_lent.specs.Unread.{width_of};
+ghost use Rattle.kq_lent.specs.Unread.{UnreadView, width_of};
 ghost use Rattle.kq_lent.specs.Yielded.{Yields};
 
 use crate::place::Place;
@@ -91,21 +91,14 @@ impl<'a> Flow<'a> {
             self.lets,
             self.now,
         )? {
-            Some(part) => match pass(self.alloc, self.operators, part, self.lets, self.now)? {
-                Passed::Rows(piece) => Ok(Next::Piece(piece)),
-                Passed::Failed(n) => {
-                    let unread = &mut self.unread;
-                    let least = least_of_rest(
-                        self.alloc,
-                        self.operators,
-                        unread,
-                        n,
-                        self.lets,
-                        self.now,
-                    )?;
-                    Ok(Next::Failed(least))
-                }
-            },
+            Some(part) => next_of(
+                self.alloc,
+                self.operators,
+                part,
+                &mut self.unread,
+                self.lets,
+                self.now,
+            ),
             None => Ok(Next::End),
         }
     }
@@ -142,6 +135,27 @@ fn next_open<'a>(
         }
     }
     Ok(None)
+}
+
+// What comes of a part that has been read, before what is left.
+fn next_of<'a>(
+    alloc: Global,
+    operators: &[Operator],
+    part: Piece<Source<'a>>,
+    unread: &mut Unread<'a>,
+    lets: &[Value],
+    now: i64,
+) -> Result<Next<'a>, Memory>
+    requires { same_width (piece_rows source_rows part) }
+    ensures { (all : UnreadView) → IsOpen (map rowwise_of operators.now) (surroundings now lets.now) all (piece_rows source_rows part.entry) unread.old → IfOk result (Yields (flowing (map rowwise_of operators.now) (surroundings now lets.now) all) (flowing (map rowwise_of operators.now) (surroundings now lets.now) unread.new)) }
+{
+    match pass(alloc, operators, part, lets, now)? {
+        Passed::Rows(piece) => Ok(Next::Piece(piece)),
+        Passed::Failed(n) => {
+            let least = least_of_rest(alloc, operators, unread, n, lets, now)?;
+            Ok(Next::Failed(least))
+        }
+    }
 }
 
 // The least number of an operator that fails on rows, where the one with this number fails on a row before those that are left.

@@ -31,7 +31,18 @@ pub(crate) fn pick_framed<'a>(
     ensures { IfOk result (λ o. IfSome o (λ v. cells_of v ≡ map (λ p. cell_of (row_at frame.now p) j) places.now)) }
 {
     match frame.lend(j, 0, frame.len()) {
-        Some(whole) => Ok(Some(whole.picked(alloc, places)?)),
+        Some(whole) => pick_cells(alloc, &whole, places),
         None => Ok(None),
     }
+}
+
+// The cells of a column at these places, and a null past its end.
+pub(crate) fn pick_cells<'a>(
+    alloc: Global,
+    whole: &Vector<'a>,
+    places: &[usize],
+) -> Result<Option<Vector<'a>>, Memory>
+    ensures { IfOk result (λ o. IfSome o (λ v. cells_of v ≡ map (cell_of (cells_of whole.now)) places.now)) }
+{
+    Ok(Some(whole.picked(alloc, places)?))
 }

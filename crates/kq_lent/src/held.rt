@@ -15,7 +15,7 @@ ghost use Rattle.kq_lent.specs.Unread.{width_of};
 
 use crate::beside::Beside;
 use crate::finder::Finder;
-use crate::first::{first_copies, first_rows};
+use crate::first::{all_copies, first_copies, first_rows};
 use crate::flow::Flow;
 use crate::gathered::Gathered;
 use crate::lending::Lending;
@@ -193,13 +193,7 @@ impl Held {
     {
         match &self.place {
             Place::Own(rows) => Ok(Gathered::Own(rows)),
-            Place::Framed(frame) => Ok(Gathered::Copied(frame.to_rows(alloc)?)),
-            Place::Lent(extents) => Ok(Gathered::Copied(extents.all_rows(alloc)?)),
-            Place::Beside(rows) => Ok(Gathered::Copied(first_copies(
-                alloc,
-                &self.place,
-                rows.count(),
-            )?)),
+            place => Ok(Gathered::Copied(all_copies(alloc, place)?)),
         }
     }
 
@@ -209,12 +203,7 @@ impl Held {
     {
         match self.place {
             Place::Own(rows) => Ok(rows),
-            Place::Framed(frame) => frame.to_rows(alloc),
-            Place::Lent(extents) => extents.all_rows(alloc),
-            Place::Beside(rows) => {
-                let count = rows.count();
-                first_copies(alloc, &Place::Beside(rows), count)
-            }
+            place => all_copies(alloc, &place),
         }
     }
 }

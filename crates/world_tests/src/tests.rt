@@ -1,5 +1,6 @@
 mod artefacts;
 mod feeds;
+mod files;
 mod hold;
 mod objects;
 mod replies;

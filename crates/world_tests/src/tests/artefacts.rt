@@ -1,25 +1,18 @@
 // Artefacts, in memory and as files.
-ghost use Rattle.std.specs.Prelude.{◌≡◌, false};
-
-use kq_world::{Artefacts, Failed, FolderArtefacts, MemoryArtefacts, RealWorld, World};
+use super::files::{had, name_of};
+use kq_value::Memory;
+use kq_world::{Artefact, Artefacts, Failed, FolderArtefacts, MemoryArtefacts, RealWorld, World};
 use std::alloc::Global;
-use std::fmt::Write;
-use std::test::Fail;
-use std::{fs, process, str};
+use std::fs;
+use std::process::Abort;
 
-// What was put, in order: each as `NAME=BYTES;`.
-fn told(alloc: Global, artefacts: &MemoryArtefacts) -> Result<String, Fail> {
-    let mut text = String::new(alloc);
-    for put in artefacts.puts() {
-        let bytes = str::from_utf8(put.bytes.as_slice())?;
-        write!(text, "{}={bytes};", put.name.as_str())?;
-    }
-    Ok(text)
+// Artefacts whose second put fails.
+fn artefacts(alloc: Global) -> Result<MemoryArtefacts, Memory> {
+    let fails = [2].to_vec(alloc)?;
+    Ok(MemoryArtefacts::new(alloc, fails))
 }
 
-#[test]
-fn artefacts_in_memory_keep_what_was_put(rt: HostRuntime) -> Result<(), Fail> {
-    let mut artefacts = MemoryArtefacts::new(rt.alloc(), [2].to_vec(rt.alloc())?);
+fn put_each(rt: &impl Abort, artefacts: &mut MemoryArtefacts) {
     for (name, bytes, want) in [
         ("a", b"1".as_slice(), Ok(())),
         ("b", b"2".as_slice(), Err(Failed)),
@@ -29,9 +22,30 @@ fn artefacts_in_memory_keep_what_was_put(rt: HostRuntime) -> Result<(), Fail> {
         let put = artefacts.put(name, bytes);
         assert!(rt; put == want, "at {name}");
     }
-    let text = told(rt.alloc(), &artefacts)?;
-    assert!(rt; text.as_str() == "a=1;b=3;a=;" && artefacts.faults() == 1);
-    Ok(())
+}
+
+fn is_put(artefact: &Artefact, name: &str, bytes: &[u8]) -> bool {
+    artefact.name.as_str() == name && artefact.bytes.as_slice() == bytes
+}
+
+// Whether these were put, in order.
+fn are_put(puts: &[Artefact]) -> bool {
+    match puts {
+        [a, b, c] => is_put(a, "a", b"1") && is_put(b, "b", b"3") && is_put(c, "a", b""),
+        _ => false,
+    }
+}
+
+#[test]
+fn artefacts_in_memory_keep_what_was_put(rt: HostRuntime) {
+    let kept = match artefacts(rt.alloc()) {
+        Ok(mut artefacts) => {
+            put_each(&rt, &mut artefacts);
+            are_put(artefacts.puts()) && artefacts.faults() == 1
+        }
+        Err(_) => false,
+    };
+    assert!(rt; kept);
 }
 
 // Puts it, and then the other in its place.
@@ -39,26 +53,37 @@ fn puts_twice(artefacts: &mut FolderArtefacts, name: &str) -> bool {
     artefacts.put(name, b"a long one\n") == Ok(()) && artefacts.put(name, b"1\n") == Ok(())
 }
 
-// The file's bytes, after which there is no such file.
-fn taken_away(rt: &HostRuntime, name: &str) -> Result<Vec<u8>, Fail> {
-    let bytes = fs::read(rt, name)?;
-    fs::remove_file(rt, name)?;
-    Ok(bytes)
+// Whether it can't be put where no folder is.
+fn fails_nowhere(
+    alloc: Global,
+    artefacts: &mut FolderArtefacts,
+    name: &str,
+) -> Result<bool, Memory> {
+    let nowhere = format!(in alloc; "{name}/a.csv")?;
+    Ok(artefacts.put(nowhere.as_str(), b"1\n") == Err(Failed))
+}
+
+// Whether no file with `.part` added is left.
+fn left_no_part(rt: HostRuntime, name: &str) -> Result<bool, Memory> {
+    let part = format!(in rt.alloc(); "{name}.part")?;
+    Ok(fs::read(&rt, part.as_str()).is_err())
+}
+
+fn is_whole(rt: HostRuntime, artefacts: &mut FolderArtefacts, name: &str) -> Result<bool, Memory> {
+    let done = puts_twice(artefacts, name);
+    let failed = fails_nowhere(rt.alloc(), artefacts, name)?;
+    let left = had(rt, name, b"1\n");
+    Ok(done && failed && left && left_no_part(rt, name)?)
+}
+
+fn is_file(rt: HostRuntime) -> Result<bool, Memory> {
+    let name = name_of(rt, "csv")?;
+    is_whole(rt, &mut FolderArtefacts::new(rt), name.as_str())
 }
 
 #[test]
-fn a_real_artefact_is_a_whole_file(rt: HostRuntime) -> Result<(), Fail> {
-    let id = process::id(rt.process());
-    let name = format!(in rt.alloc(); "/tmp/kq_world_{id}.csv")?;
-    let part = format!(in rt.alloc(); "{name}.part")?;
-    let nowhere = format!(in rt.alloc(); "{name}/a.csv")?;
-    let mut artefacts = FolderArtefacts::new(rt);
-    let done = puts_twice(&mut artefacts, name.as_str());
-    let failed = artefacts.put(nowhere.as_str(), b"1\n") == Err(Failed);
-    let bytes = taken_away(&rt, name.as_str())?;
-    let left = fs::read(&rt, part.as_str()).is_ok();
-    assert!(rt; done && failed && !left && bytes.as_slice() == b"1\n".as_slice());
-    Ok(())
+fn a_real_artefact_is_a_whole_file(rt: HostRuntime) {
+    assert!(rt; is_file(rt) == Ok(true));
 }
 
 fn sends<T: Send>(_x: &T) {}

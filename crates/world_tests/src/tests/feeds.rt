@@ -2,24 +2,27 @@
 ghost use Rattle.std.specs.Prelude.{◌≡◌, false, All, IfOk};
 ghost use Rattle.kq_world.specs.World.{IsFresh};
 
+use super::files::{had, name_of};
 use kq_value::{Bytes, Memory, Text};
 use kq_world::{
     Failed, Feed, FileSink, FileSource, ListClock, MemoryArtefacts, MemorySink, MemorySource,
     MemoryWorld, OpenFault, Parts, RealWorld, Sink, Source, World, put_all,
 };
 use std::alloc::Global;
+use std::fs;
 use std::fs::File;
-use std::test::Fail;
-use std::{fs, process};
+use std::process::Abort;
 
 fn parts(alloc: Global, bytes: &[u8]) -> Result<Parts<MemorySource, MemorySink, ListClock>, Memory>
     ensures { IfOk result IsFresh }
 {
-    let bytes = Bytes::from_vec(bytes.to_vec(alloc)?);
+    let bytes = bytes.to_vec(alloc)?;
+    let moments = [7].to_vec(alloc)?;
+    let sink = MemorySink::new(alloc, 1, Vec::new(alloc))?;
     Ok(Parts {
-        source: MemorySource::new(bytes, 1, Vec::new(alloc)),
-        sink: MemorySink::new(alloc, 1, Vec::new(alloc))?,
-        clock: ListClock::new([7].to_vec(alloc)?),
+        source: MemorySource::new(Bytes::from_vec(bytes), 1, Vec::new(alloc)),
+        sink,
+        clock: ListClock::new(moments),
     })
 }
 
@@ -41,13 +44,13 @@ fn feeds(alloc: Global) -> Result<Vec<Feed>, Memory>
     Ok(Vec::from_array(alloc, [a, b, again])?)
 }
 
-// A world of these feeds, whose second opening fails.
-fn world(alloc: Global) -> Result<MemoryWorld, Memory>
+// A world whose session 0 reads these bytes, with these feeds, of whose openings the second fails.
+pub(super) fn world(alloc: Global, bytes: &[u8]) -> Result<MemoryWorld, Memory>
     ensures { IfOk result (λ w. ⟦<MemoryWorld as World>⟧.begun w ≡ false) }
 {
-    let first = parts(alloc, b"0")?;
-    let feeds = feeds(alloc)?;
     let opens = [2, 9].to_vec(alloc)?;
+    let feeds = feeds(alloc)?;
+    let first = parts(alloc, bytes)?;
     let artefacts = MemoryArtefacts::new(alloc, Vec::new(alloc));
     Ok(MemoryWorld::new(alloc, first, feeds, opens, artefacts))
 }
@@ -58,10 +61,7 @@ fn opened(world: &mut MemoryWorld, name: &str) -> Result<usize, OpenFault> {
     Ok(parts.source.left().len())
 }
 
-#[test]
-fn a_feed_is_opened_once_by_its_name(rt: HostRuntime) -> Result<(), Fail> {
-    let mut world = world(rt.alloc())?;
-    assert_eq!(rt; world.first().source.left(), b"0".as_slice());
+fn open_each(rt: &impl Abort, world: &mut MemoryWorld) {
     for (name, want) in [
         ("a", Ok(1)),
         ("b", Err(OpenFault::Failed)),
@@ -71,53 +71,88 @@ fn a_feed_is_opened_once_by_its_name(rt: HostRuntime) -> Result<(), Fail> {
         ("b", Ok(3)),
         ("b", Err(OpenFault::Failed)),
     ] {
-        let found = opened(&mut world, name);
+        let found = opened(world, name);
         assert!(rt; found == want, "at {name}");
     }
     assert!(rt; world.faults() == 4 && world.asked().len() == 7);
-    Ok(())
-}
-
-// Reads `print 1` to its end, and answers.
-fn is_answered(world: &mut RealWorld, name: &str) -> bool {
-    let Ok(mut parts) = world.open_feed(name) else {
-        return false;
-    };
-    let mut buf = [0; 9];
-    let read = parts.source.read(&mut buf);
-    let ended = parts.source.read(&mut [0; 9]);
-    let put = put_all(&mut parts.sink, b"rows 1\n");
-    read == Ok(8) && buf == *b"print 1\n\0" && ended == Ok(0) && put == Ok(())
-}
-
-// The file's bytes, after which there is no such file.
-fn taken_away(rt: &HostRuntime, name: &str) -> Result<Vec<u8>, Fail> {
-    let bytes = fs::read(rt, name)?;
-    fs::remove_file(rt, name)?;
-    Ok(bytes)
 }
 
 #[test]
-fn a_feed_is_a_file_and_answers_into_another(rt: HostRuntime) -> Result<(), Fail> {
-    let id = process::id(rt.process());
-    let name = format!(in rt.alloc(); "/tmp/kq_world_{id}.kql")?;
-    let mut world = RealWorld::new(rt);
-    let missing = matches!(world.open_feed(name.as_str()), Err(OpenFault::Failed));
-    fs::write(&rt, name.as_str(), b"print 1\n".as_slice())?;
-    let answered = is_answered(&mut world, name.as_str());
-    fs::remove_file(&rt, name.as_str())?;
+fn a_feed_is_opened_once_by_its_name(rt: HostRuntime) {
+    let begun = match world(rt.alloc(), b"0") {
+        Ok(mut world) => {
+            let first = world.first().source.left() == b"0".as_slice();
+            open_each(&rt, &mut world);
+            first
+        }
+        Err(_) => false,
+    };
+    assert!(rt; begun);
+}
+
+// Reads `print 1` to its end.
+fn is_read<S: Source>(source: &mut S) -> bool {
+    let mut buf = [0; 9];
+    let read = source.read(&mut buf);
+    let ended = source.read(&mut [0; 9]);
+    read == Ok(8) && buf == *b"print 1\n\0" && ended == Ok(0)
+}
+
+// Reads the feed to its end, and answers.
+fn is_answered(world: &mut RealWorld, name: &str) -> bool {
+    match world.open_feed(name) {
+        Ok(mut parts) => {
+            is_read(&mut parts.source) && put_all(&mut parts.sink, b"rows 1\n") == Ok(())
+        }
+        Err(_) => false,
+    }
+}
+
+fn is_missing(world: &mut RealWorld, name: &str) -> bool {
+    matches!(world.open_feed(name), Err(OpenFault::Failed))
+}
+
+// Whether the feed can be opened exactly while its file is there, and is answered.
+fn is_served(rt: HostRuntime, world: &mut RealWorld, name: &str) -> bool {
+    let missing = is_missing(world, name);
+    let written = fs::write(&rt, name, b"print 1\n".as_slice()).is_ok();
+    let answered = is_answered(world, name);
+    let read = had(rt, name, b"print 1\n");
+    missing && written && answered && read
+}
+
+fn has_answer(rt: HostRuntime, name: &str) -> Result<bool, Memory> {
     let out = format!(in rt.alloc(); "{name}.out")?;
-    let written = taken_away(&rt, out.as_str())?;
-    assert!(rt; missing && answered && written.as_slice() == b"rows 1\n".as_slice());
-    Ok(())
+    Ok(had(rt, out.as_str(), b"rows 1\n"))
+}
+
+fn is_file(rt: HostRuntime) -> Result<bool, Memory> {
+    let name = name_of(rt, "kql")?;
+    let served = is_served(rt, &mut RealWorld::new(rt), name.as_str());
+    Ok(has_answer(rt, name.as_str())? && served)
+}
+
+#[test]
+fn a_feed_is_a_file_and_answers_into_another(rt: HostRuntime) {
+    assert!(rt; is_file(rt) == Ok(true));
+}
+
+fn fails_to_read(rt: HostRuntime) -> bool {
+    match File::open(&rt, "/tmp") {
+        Ok(file) => FileSource::new(file).read(&mut [0; 4]) == Err(Failed),
+        Err(_) => false,
+    }
+}
+
+fn fails_to_write(rt: HostRuntime) -> bool {
+    match File::open(&rt, "/tmp") {
+        Ok(file) => FileSink::new(file).write(b"a") == Err(Failed),
+        Err(_) => false,
+    }
 }
 
 // A folder can be opened, and is no file.
 #[test]
-fn files_that_fail(rt: HostRuntime) -> Result<(), Fail> {
-    let mut source = FileSource::new(File::open(&rt, "/tmp")?);
-    assert!(rt; source.read(&mut [0; 4]) == Err(Failed));
-    let mut sink = FileSink::new(File::open(&rt, "/tmp")?);
-    assert!(rt; sink.write(b"a") == Err(Failed));
-    Ok(())
+fn files_that_fail(rt: HostRuntime) {
+    assert!(rt; fails_to_read(rt) && fails_to_write(rt));
 }

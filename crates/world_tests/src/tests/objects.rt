@@ -1,16 +1,16 @@
 // Each object once through its trait.
 ghost use Rattle.std.specs.Prelude.{◌≡◌, ◌<◌, false, IfOk};
 
+use super::feeds::world;
 use kq_value::{Bytes, Memory};
 use kq_world::{
-    Clock, Failed, Gate, ListClock, MemoryArtefacts, MemorySink, MemorySource, MemoryWorld,
-    OpenGate, Parts, Point, RealWorld, Sink, Source, StdinSource, StdoutSink, SystemClock, World,
-    put_all,
+    Clock, Failed, Gate, ListClock, MemorySink, MemorySource, MemoryWorld, OpenGate, Parts, Point,
+    RealWorld, Source, StdinSource, StdoutSink, SystemClock, World, put_all,
 };
 use std::alloc::Global;
 use std::cell::Cell;
 use std::io;
-use std::test::Fail;
+use std::process::Abort;
 use std::time::Duration;
 
 // A source whose second read fails.
@@ -22,9 +22,7 @@ fn source(alloc: Global, bytes: &[u8], step: usize) -> Result<MemorySource, Memo
     Ok(MemorySource::new(Bytes::from_vec(bytes.to_vec(alloc)?), step, fails))
 }
 
-#[test]
-fn a_source_gives_its_bytes_in_steps(rt: HostRuntime) -> Result<(), Fail> {
-    let mut source = source(rt.alloc(), b"abcde", 2)?;
+fn read_each(rt: &impl Abort, source: &mut MemorySource) {
     for (want, front, left) in [
         (Ok(2), *b"ab\0\0", b"cde".as_slice()),
         (Err(Failed), *b"\0\0\0\0", b"cde".as_slice()),
@@ -37,32 +35,60 @@ fn a_source_gives_its_bytes_in_steps(rt: HostRuntime) -> Result<(), Fail> {
         assert!(rt; read == want && buf == front && source.left() == left);
     }
     assert_eq!(rt; source.faults(), 1);
-    Ok(())
 }
 
 #[test]
-fn a_sink_takes_its_bytes_in_steps(rt: HostRuntime) -> Result<(), Fail> {
-    let mut sink = MemorySink::new(rt.alloc(), 3, [2].to_vec(rt.alloc())?)?;
+fn a_source_gives_its_bytes_in_steps(rt: HostRuntime) {
+    match source(rt.alloc(), b"abcde", 2) {
+        Ok(mut source) => read_each(&rt, &mut source),
+        Err(_) => assert!(rt; false, "memory"),
+    }
+}
+
+// A sink whose second write fails.
+fn sink(alloc: Global) -> Result<MemorySink, Memory> {
+    let fails = [2].to_vec(alloc)?;
+    MemorySink::new(alloc, 3, fails)
+}
+
+fn write_each(rt: &impl Abort, sink: &mut MemorySink) {
     for (piece, want, bytes) in [
         (b"hello".as_slice(), Err(Failed), b"hel".as_slice()),
         (b"p".as_slice(), Ok(()), b"help".as_slice()),
     ] {
-        let put = put_all(&mut sink, piece);
+        let put = put_all(sink, piece);
         assert!(rt; put == want && sink.bytes() == bytes);
     }
     assert_eq!(rt; sink.faults(), 1);
-    Ok(())
 }
 
 #[test]
-fn the_last_reading_of_a_list_repeats(rt: HostRuntime) -> Result<(), Fail> {
-    let first = 638_396_640_000_000_000;
-    let list = [first, 0, 3_155_378_975_999_999_999, first + 1];
-    let mut clock = ListClock::new(list.to_vec(rt.alloc())?);
-    for want in [first, 0, 3_155_378_975_999_999_999, first + 1, first + 1] {
+fn a_sink_takes_its_bytes_in_steps(rt: HostRuntime) {
+    match sink(rt.alloc()) {
+        Ok(mut sink) => write_each(&rt, &mut sink),
+        Err(_) => assert!(rt; false, "memory"),
+    }
+}
+
+const FIRST: i64 = 638_396_640_000_000_000;
+
+fn clock(alloc: Global) -> Result<ListClock, Memory> {
+    let list = [FIRST, 0, 3_155_378_975_999_999_999, FIRST + 1].to_vec(alloc)?;
+    Ok(ListClock::new(list))
+}
+
+fn ask_each(rt: &impl Abort, clock: &mut ListClock) {
+    for want in [FIRST, 0, 3_155_378_975_999_999_999, FIRST + 1, FIRST + 1] {
         assert_eq!(rt; clock.now(), want);
     }
-    Ok(())
+}
+
+#[test]
+fn the_last_reading_of_a_list_repeats(rt: HostRuntime) {
+    match clock(rt.alloc()) {
+        Ok(mut clock) => ask_each(&rt, &mut clock),
+        Err(_) => assert!(rt; false, "memory"),
+    }
 }
 
 fn begins<W: World>(world: &mut W, gate: &impl Gate) -> Parts<W::Source, W::Sink, W::Clock>
@@ -77,29 +103,23 @@ fn begins<W: World>(world: &mut W, gate: &impl Gate) -> Parts<W::Source, W::Sink
 
 fn sends<T: Send>(_x: &T) {}
 
-fn memory_world(alloc: Global) -> Result<MemoryWorld, Memory>
-    ensures { IfOk result (λ w. ⟦<MemoryWorld as World>⟧.begun w ≡ false) }
+fn gives_objects(world: &mut MemoryWorld) -> bool
+    requires { ⟦<MemoryWorld as World>⟧.begun world.old ≡ false }
 {
-    let source = source(alloc, b"a", 1)?;
-    let sink = MemorySink::new(alloc, 1, Vec::new(alloc))?;
-    let clock = ListClock::new([7].to_vec(alloc)?);
-    let parts = Parts {
-        source,
-        sink,
-        clock,
-    };
-    let artefacts = MemoryArtefacts::new(alloc, Vec::new(alloc));
-    Ok(MemoryWorld::new(alloc, parts, Vec::new(alloc), Vec::new(alloc), artefacts))
-}
-
-#[test]
-fn a_world_in_memory_gives_its_objects(rt: HostRuntime) -> Result<(), Fail> {
-    let parts = begins(&mut memory_world(rt.alloc())?, &OpenGate);
-    assert_eq!(rt; parts.source.left(), b"a".as_slice());
+    let parts = begins(world, &OpenGate);
     sends(&parts.source);
     sends(&parts.sink);
     sends(&parts.clock);
-    Ok(())
+    parts.source.left() == b"a".as_slice()
+}
+
+#[test]
+fn a_world_in_memory_gives_its_objects(rt: HostRuntime) {
+    let given = match world(rt.alloc(), b"a") {
+        Ok(mut world) => gives_objects(&mut world),
+        Err(_) => false,
+    };
+    assert!(rt; given);
 }
 
 #[test]
@@ -141,6 +161,12 @@ impl std::rt::Clock for Once {
     }
 }
 
+// Whether a clock gives this reading, and repeats it where the next one fails.
+fn repeats(since: Duration, want: i64) -> bool {
+    let mut clock = SystemClock::new(Once(Cell::new(Some(since))));
+    clock.now() == want && clock.now() == want
+}
+
 #[test]
 fn the_system_clock_counts_ticks_and_repeats(rt: HostRuntime) {
     // 9999-12-31 23:59:59, and the second after it.
@@ -151,12 +177,8 @@ fn the_system_clock_counts_ticks_and_repeats(rt: HostRuntime) {
         (last, 999_999_999, 3_155_378_975_999_999_999),
         (last + 1, 0, 0),
     ] {
-        let since = Duration::new(seconds, nanos);
-        let mut clock = SystemClock::new(Once(Cell::new(Some(since))));
-        let first = clock.now();
-        let second = clock.now();
-        assert!(rt; first == want && second == want);
+        assert!(rt; repeats(Duration::new(seconds, nanos), want));
     }
     // 2024-01-01
-    assert!(rt; SystemClock::new(rt).now() > 638_396_640_000_000_000);
+    assert!(rt; SystemClock::new(rt).now() > FIRST);
 }

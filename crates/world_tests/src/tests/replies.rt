@@ -5,35 +5,34 @@ use kq_answer::{Cause, Why};
 use kq_printed::write_reply;
 use kq_reply::{Refusal, Reply};
 use kq_value::{Bytes, Memory, Text};
-use kq_world::{Failed, MemorySink, put_all};
+use kq_world::{MemorySink, put_all};
 use std::alloc::Global;
-use std::test::Fail;
 
-// What the reply prints into a sink that takes `step` bytes a call, and nothing where the sink fails.
-fn printed(alloc: Global, reply: &Reply, step: usize) -> Result<Vec<u8>, Fail>
+// Whether the reply prints this into a sink that takes `step` bytes a call.
+fn is_printed(alloc: Global, reply: &Reply, step: usize, want: &str) -> Result<bool, Memory>
     requires { 0 < step }
 {
     let mut sink = MemorySink::new(alloc, step, Vec::new(alloc))?;
-    match write_reply(reply, &mut sink) {
-        Ok(()) => Ok(sink.bytes().to_vec(alloc)?),
-        Err(Failed) => Ok(Vec::new(alloc)),
-    }
+    let written = write_reply(reply, &mut sink).is_ok();
+    Ok(written && sink.bytes() == want.as_bytes())
 }
 
 // The reply prints this, however much the sink takes a call.
-fn prints(alloc: Global, reply: &Reply, want: &str) -> Result<bool, Fail> {
-    let slow = printed(alloc, reply, 1)?;
-    let fast = printed(alloc, reply, 4096)?;
-    Ok(slow.as_slice() == want.as_bytes() && fast.as_slice() == want.as_bytes())
+fn prints(alloc: Global, reply: &Reply, want: &str) -> Result<bool, Memory> {
+    Ok(is_printed(alloc, reply, 1, want)? && is_printed(alloc, reply, 4096, want)?)
+}
+
+fn has_number(reply: &Reply, number: u8) -> bool {
+    match reply {
+        Reply::Refused(refusal) => refusal.number() == number && reply.kind() == number,
+        _ => false,
+    }
 }
 
 // The refusal has this number, and prints this.
-fn is_refused(alloc: Global, refusal: Refusal, number: u8, want: &str) -> Result<bool, Fail> {
-    let numbered = refusal.number() == number;
-    let reply = Reply::Refused(refusal);
+fn is_refused(alloc: Global, reply: &Reply, number: u8, want: &str) -> Result<bool, Memory> {
     let text = format!(in alloc; "refused {want}\n\n")?;
-    let printed = prints(alloc, &reply, text.as_str())?;
-    Ok(numbered && reply.kind() == number && printed)
+    Ok(prints(alloc, reply, text.as_str())? && has_number(reply, number))
 }
 
 fn cycle(alloc: Global, table: &str) -> Result<Refusal, Memory> {
@@ -88,57 +87,65 @@ fn refusal_of(alloc: Global, number: u8) -> Result<Option<(Refusal, &'static str
     }))
 }
 
-#[test]
-fn refusals_print_their_texts(rt: HostRuntime) -> Result<(), Fail> {
-    for number in 1..27 {
-        match refusal_of(rt.alloc(), number)? {
-            Some((refusal, want)) => {
-                let held = is_refused(rt.alloc(), refusal, number, want)?;
-                assert!(rt; held, "{want}");
-            }
-            None => assert!(rt; [4, 5, 7, 17, 18, 23].contains(&number), "{number}"),
-        }
+// The refusal of this number prints its words, or there is none.
+fn is_told(alloc: Global, number: u8) -> Result<bool, Memory> {
+    match refusal_of(alloc, number)? {
+        Some((refusal, want)) => is_refused(alloc, &Reply::Refused(refusal), number, want),
+        None => Ok([4, 5, 7, 17, 18, 23].contains(&number)),
     }
-    Ok(())
+}
+
+#[test]
+fn refusals_print_their_texts(rt: HostRuntime) {
+    for number in 1..27 {
+        let held = is_told(rt.alloc(), number);
+        assert!(rt; held == Ok(true), "{number}");
+    }
+}
+
+// The sink, of which the call of this number fails, gets a beginning of a reply.
+fn gets_beginning(sink: &mut MemorySink, fails_at: u64) -> bool {
+    let refused = write_reply(&Reply::Ingested { cursor: 2, rows: 3 }, sink).is_err();
+    let begins = b"ingested 2 rows 3\n\n".starts_with(sink.bytes());
+    let len = sink.bytes().len() as u64;
+    refused && sink.faults() == 1 && begins && len == fails_at.saturating_sub(1)
 }
 
 // A reply that is cut at the call of this number, of one byte each, leaves a beginning of its text.
-fn is_cut(alloc: Global, fails_at: u64) -> Result<bool, Fail> {
-    let reply = Reply::Ingested { cursor: 2, rows: 3 };
-    let mut sink = MemorySink::new(alloc, 1, [fails_at].to_vec(alloc)?)?;
-    let refused = write_reply(&reply, &mut sink).is_err();
-    let begins = b"ingested 2 rows 3\n\n".starts_with(sink.bytes());
-    let len = sink.bytes().len() as u64;
-    Ok(refused && sink.faults() == 1 && begins && len == fails_at.saturating_sub(1))
+fn is_cut(alloc: Global, fails_at: u64) -> Result<bool, Memory> {
+    let fails = [fails_at].to_vec(alloc)?;
+    let mut sink = MemorySink::new(alloc, 1, fails)?;
+    Ok(gets_beginning(&mut sink, fails_at))
 }
 
 #[test]
-fn a_fault_at_any_call_is_answered_and_leaves_a_beginning(rt: HostRuntime) -> Result<(), Fail> {
+fn a_fault_at_any_call_is_answered_and_leaves_a_beginning(rt: HostRuntime) {
     for fails_at in 1..20 {
-        let held = is_cut(rt.alloc(), fails_at)?;
-        assert!(rt; held, "at {fails_at}");
+        let held = is_cut(rt.alloc(), fails_at);
+        assert!(rt; held == Ok(true), "at {fails_at}");
     }
-    let whole = is_cut(rt.alloc(), 20)?;
-    assert!(rt; !whole);
-    Ok(())
+    assert!(rt; is_cut(rt.alloc(), 20) == Ok(false));
+}
+
+// The reply is out after so many calls, of which the next one fails.
+fn is_out(alloc: Global, reply: &Reply, calls: u64) -> Result<bool, Memory> {
+    let fails = [calls.saturating_add(1)].to_vec(alloc)?;
+    let mut sink = MemorySink::new(alloc, 4096, fails)?;
+    let written = write_reply(reply, &mut sink).is_ok();
+    Ok(written && put_all(&mut sink, b"x").is_err())
+}
+
+// Rows of so many bytes are out after so many calls.
+fn are_out(alloc: Global, len: usize, calls: u64) -> Result<bool, Memory> {
+    let text = Bytes::from_vec(vec![in alloc; b'a'; len]?);
+    is_out(alloc, &Reply::Rows { text }, calls)
 }
 
 // A short reply leaves in one write, and an answer that is longer than that in its own and its last line's.
 #[test]
-fn a_short_reply_leaves_in_one_write(rt: HostRuntime) -> Result<(), Fail> {
+fn a_short_reply_leaves_in_one_write(rt: HostRuntime) {
     for (len, calls) in [(1, 1), (4095, 1), (4096, 2)] {
-        let text = Bytes::from_vec(vec![in rt.alloc(); b'a'; len]?);
-        let held = is_out(rt.alloc(), &Reply::Rows { text }, calls)?;
-        assert!(rt; held, "at {len}");
+        let held = are_out(rt.alloc(), len, calls);
+        assert!(rt; held == Ok(true), "at {len}");
     }
-    Ok(())
-}
-
-// The reply is out after so many calls, of which the next one fails.
-fn is_out(alloc: Global, reply: &Reply, calls: u64) -> Result<bool, Fail> {
-    let fails = [calls.saturating_add(1)].to_vec(alloc)?;
-    let mut sink = MemorySink::new(alloc, 4096, fails)?;
-    let written = write_reply(reply, &mut sink).is_ok();
-    let next = put_all(&mut sink, b"x").is_err();
-    Ok(written && next)
 }

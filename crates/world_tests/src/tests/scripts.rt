@@ -1,13 +1,11 @@
 // Scripts read from memory.
 ghost use Rattle.std.specs.Prelude.{◌<◌};
+ghost use Rattle.kq_script.specs.Reading.{IsUnclosed};
 
-use kq_script::{Item, ScriptReader};
+use kq_script::{Item, ScriptFault, ScriptReader};
 use kq_value::{Bytes, Memory};
 use kq_world::MemorySource;
 use std::alloc::Global;
-use std::fmt::Write;
-use std::str;
-use std::test::Fail;
 
 // A source of these bytes: at most `step` a read, and the call of the number `fails` fails.
 fn source(alloc: Global, script: &str, step: usize, fails: u64) -> Result<MemorySource, Memory>
@@ -18,60 +16,62 @@ fn source(alloc: Global, script: &str, step: usize, fails: u64) -> Result<Memory
     Ok(MemorySource::new(bytes, step, fails))
 }
 
-// Writes the item, and a bar after it.
-fn write_item(text: &mut String, item: &Item) -> Result<(), Fail> {
+// Whether the item is told so.
+fn is_item(item: &Item, word: &str) -> bool {
     match item {
-        Item::Command(bytes) => text.push_str(str::from_utf8(bytes.as_slice())?)?,
-        Item::TooLong { bytes } => write!(text, "TooLong {bytes}")?,
-        Item::Lost => text.push_str("Lost")?,
-        Item::Finished => {}
+        Item::Command(bytes) => bytes.as_slice() == word.as_bytes(),
+        Item::TooLong { bytes } => *bytes == 9 && word == "TooLong 9",
+        Item::Lost => word == "Lost",
+        Item::Finished => word == "end",
     }
-    text.push('|')?;
-    Ok(())
 }
 
-// What a script gives, in a text.
-fn given(
+fn word_of(fault: ScriptFault) -> &'static str {
+    match fault {
+        ScriptFault::ReadFault => "ReadFault",
+        ScriptFault::InputLimit => "InputLimit",
+    }
+}
+
+// Whether the reader gives these items, of which each but the last has a bar behind it.
+fn is_read(reader: &mut ScriptReader, source: &mut MemorySource, want: &str) -> bool
+    requires { IsUnclosed reader.old }
+{
+    for word in want.split('|') {
+        match reader.next_command(source) {
+            Ok(Item::Finished) => return word == "end",
+            Ok(item) => {
+                if !is_item(&item, word) {
+                    return false;
+                }
+            }
+            Err(fault) => return word == word_of(fault),
+        }
+    }
+    false
+}
+
+// Whether the source gives these items.
+fn gives(
     alloc: Global,
     source: &mut MemorySource,
     command: u64,
     input: u64,
-) -> Result<String, Fail> {
+    want: &str,
+) -> Result<bool, Memory> {
     let mut reader = ScriptReader::new(alloc, command, input)?;
-    let mut text = String::new(alloc);
-    for _round in 0..64 {
-        match reader.next_command(source) {
-            Ok(Item::Finished) => {
-                text.push_str("end")?;
-                break;
-            }
-            Ok(item) => write_item(&mut text, &item)?,
-            Err(fault) => {
-                write!(text, "{fault:?}")?;
-                break;
-            }
-        }
-    }
-    Ok(text)
+    Ok(is_read(&mut reader, source, want))
 }
 
-fn gives(
-    alloc: Global,
-    script: &str,
-    step: usize,
-    command: u64,
-    input: u64,
-    want: &str,
-) -> Result<bool, Fail>
+fn is_split(alloc: Global, script: &str, step: usize, want: &str) -> Result<bool, Memory>
     requires { 0 < step }
 {
     let mut source = source(alloc, script, step, 0)?;
-    let text = given(alloc, &mut source, command, input)?;
-    Ok(text.as_str() == want)
+    gives(alloc, &mut source, 64, 4294967296, want)
 }
 
 #[test]
-fn scripts_are_split_however_the_reads_are_cut(rt: HostRuntime) -> Result<(), Fail> {
+fn scripts_are_split_however_the_reads_are_cut(rt: HostRuntime) {
     for (script, want) in [
         ("", "end"),
         ("print 1\n\nprint 2\n\nE\n", "print 1|print 2|E|end"),
@@ -83,15 +83,20 @@ fn scripts_are_split_however_the_reads_are_cut(rt: HostRuntime) -> Result<(), Fa
         ("  /\n\n\r// a\n\n/ /", "  /|\r// a|/ /|end"),
     ] {
         for step in [1, 2, 3, 7, 4096] {
-            let held = gives(rt.alloc(), script, step, 64, 4294967296, want)?;
-            assert!(rt; held, "{script:?} by {step}");
+            let held = is_split(rt.alloc(), script, step, want);
+            assert!(rt; held == Ok(true), "{script:?} by {step}");
         }
     }
-    Ok(())
+}
+
+// Commands have at most 8 bytes here, and scripts as many as `input` says.
+fn is_limited(alloc: Global, script: &str, input: u64, want: &str) -> Result<bool, Memory> {
+    let mut source = source(alloc, script, 6, 0)?;
+    gives(alloc, &mut source, 8, input, want)
 }
 
 #[test]
-fn blocks_and_scripts_have_limits(rt: HostRuntime) -> Result<(), Fail> {
+fn blocks_and_scripts_have_limits(rt: HostRuntime) {
     let two = "print 1\n\nprint 2\n\nE\n";
     for (script, input, want) in [
         ("print 100\n\nE\n", 64, "TooLong 9|E|end"),
@@ -100,16 +105,18 @@ fn blocks_and_scripts_have_limits(rt: HostRuntime) -> Result<(), Fail> {
         (two, 20, "print 1|print 2|InputLimit"),
         (two, 21, "print 1|print 2|E|end"),
     ] {
-        let held = gives(rt.alloc(), script, 6, 8, input, want)?;
-        assert!(rt; held, "{script:?}");
+        let held = is_limited(rt.alloc(), script, input, want);
+        assert!(rt; held == Ok(true), "{script:?}");
     }
-    Ok(())
+}
+
+// The second read fails, behind two closed blocks.
+fn is_cut_off(alloc: Global) -> Result<bool, Memory> {
+    let mut source = source(alloc, "a\n\nb\n\nc\n\nd", 7, 2)?;
+    Ok(gives(alloc, &mut source, 64, 64, "a|b|ReadFault")? && source.faults() == 1)
 }
 
 #[test]
-fn a_failing_read_comes_after_the_closed_blocks(rt: HostRuntime) -> Result<(), Fail> {
-    let mut source = source(rt.alloc(), "a\n\nb\n\nc\n\nd", 7, 2)?;
-    let text = given(rt.alloc(), &mut source, 64, 64)?;
-    assert!(rt; text.as_str() == "a|b|ReadFault" && source.faults() == 1);
-    Ok(())
+fn a_failing_read_comes_after_the_closed_blocks(rt: HostRuntime) {
+    assert!(rt; is_cut_off(rt.alloc()) == Ok(true));
 }

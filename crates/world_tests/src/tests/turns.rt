@@ -5,8 +5,8 @@ ghost use Rattle.kq_turn.specs.Passes.{IsIdle};
 
 use kq_turn::{Grows, Pass, Turn};
 use std::alloc::Global;
+use std::process::Abort;
 use std::sync::Wait;
-use std::test::Fail;
 use std::thread;
 use std::thread::Threads;
 
@@ -131,14 +131,19 @@ fn is_run(items: &[u64], first: u64, end: u64) -> bool {
     next == end
 }
 
-#[test]
-fn two_threads_give_a_list_1000_times_each(rt: HostRuntime) -> Result<(), Fail> {
-    let (log, count) = by_two(&rt, rt.alloc()).ok_or("memory")?;
+fn check_two(rt: &impl Abort, items: &[u64], count: u64) {
     assert_eq!(rt; count, 2000);
-    assert_eq!(rt; log.items.len(), 2000);
-    assert!(rt; is_run(&log.items, 0, 1000));
-    assert!(rt; is_run(&log.items, 5000, 6000));
-    Ok(())
+    assert_eq!(rt; items.len(), 2000);
+    assert!(rt; is_run(items, 0, 1000));
+    assert!(rt; is_run(items, 5000, 6000));
+}
+
+#[test]
+fn two_threads_give_a_list_1000_times_each(rt: HostRuntime) {
+    match by_two(&rt, rt.alloc()) {
+        Some((log, count)) => check_two(&rt, log.items.as_slice(), count),
+        None => assert!(rt; false, "memory"),
+    }
 }
 
 // What several threads add to an empty list, a thread for each unit of the pass's worth. The passes
@@ -214,18 +219,21 @@ fn by_eight<R: Threads + Wait + Sync>(rt: &R, alloc: Global) -> Option<(Log, u64
     Some((turn.close(all.pass), all.count))
 }
 
-#[test]
-fn eight_threads_with_passes_joined_in_turn(rt: HostRuntime) -> Result<(), Fail> {
-    let (log, count) = by_eight(&rt, rt.alloc()).ok_or("memory")?;
+fn check_eight(rt: &impl Abort, items: &[u64], count: u64) {
     assert_eq!(rt; count, 8000);
-    assert_eq!(rt; log.items.len(), 8000);
+    assert_eq!(rt; items.len(), 8000);
     for thread in 1..9u64 {
-        assert!(rt;
-            is_run(&log.items, 1000 * thread, 1000 * thread + 1000),
-            "thread {thread}"
-        );
+        let held = is_run(items, 1000 * thread, 1000 * thread + 1000);
+        assert!(rt; held, "thread {thread}");
     }
-    Ok(())
+}
+
+#[test]
+fn eight_threads_with_passes_joined_in_turn(rt: HostRuntime) {
+    match by_eight(&rt, rt.alloc()) {
+        Some((log, count)) => check_eight(&rt, log.items.as_slice(), count),
+        None => assert!(rt; false, "memory"),
+    }
 }
 
 // Three passes on one thread, split and joined in several ways before the turn is closed.
@@ -254,8 +262,10 @@ fn by_three_passes<R: Wait>(rt: &R, alloc: Global) -> Option<Log>
 }
 
 #[test]
-fn a_turn_closes_after_every_pass_was_joined(rt: HostRuntime) -> Result<(), Fail> {
-    let log = by_three_passes(&rt, rt.alloc()).ok_or("memory")?;
-    assert!(rt; log.items.as_slice() == [1, 2, 3, 4, 5, 6, 7].as_slice());
-    Ok(())
+fn a_turn_closes_after_every_pass_was_joined(rt: HostRuntime) {
+    let counted = match by_three_passes(&rt, rt.alloc()) {
+        Some(log) => log.items.as_slice() == [1, 2, 3, 4, 5, 6, 7].as_slice(),
+        None => false,
+    };
+    assert!(rt; counted);
 }

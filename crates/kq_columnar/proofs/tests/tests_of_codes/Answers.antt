@@ -1,8 +1,8 @@
-use Rattle.std.proofs.Common.{◌<◌, ℕ, length, get_or, [], ◌∷◌, ◌++◌, arith, add-one, ap, ◌∙◌}
-use Rattle.std.proofs.lemmas.List.{map-append}
+use Rattle.std.proofs.Common.{◌≡◌, ◌<◌, ℕ, List, map, length, get_or, [], ◌∷◌, ◌++◌, arith, add-one, ap, subst, ◌∙◌}
+use Rattle.std.proofs.lemmas.List.{map-append, take_all}
 use Rattle.kq_value.specs.declared.value.Value.{Value}
 use Rattle.kq_scalar.specs.Val.{cell_of}
-use Rattle.kq_columnar.specs.Seen.{paired}
+use Rattle.kq_columnar.specs.Seen.{beside_one, paired, truths_of}
 use Rattle.kq_columnar.proofs.Rows.{map_next, item_cell}
 use Rattle.kq_columnar.proofs.tests.tests_of_codes.Goals as goal
 
@@ -16,3 +16,7 @@ loop-code-preserved c =
     let k : code < length words = omega arith in
     let p = ap (λ (x : Value). paired c.args.function x c.args.value.now) (item_cell words code c.index-words-code.result k c.index-words-code.is) ∙ c.in-Some.ensures in
     rw (c.in_ok-push-in-Some.ensures.items, add-one, map-append, map_next (cell_of words) codes i 0 h, map-append) (λ j. c.loop-code.invariant j ++ p j ∷ [])
+
+pub returns : goal.returns
+returns c =
+    subst (λ (xs : List ℕ). beside_one c.args.function c.args.value.now (map (cell_of c.args.words.now) xs) ≡ truths_of c.loop-code.truths.items) (take_all c.loop-code.code-index c.args.codes.now (omega arith)) c.loop-code.invariant
