@@ -1,8 +1,9 @@
-// Stands between a program and the C library (LD_PRELOAD), counts its calls of a kind, and lets one of them fail, or ends the program in its place.
+// Stands between a program and the C library (LD_PRELOAD), counts its calls of a kind, and lets some of them fail, or ends the program in its place.
 //
 //   FAULTS       the file, of one `struct told`, into which it counts; with none it does nothing
-//   FAULTS_KIND  allocation, read, write, create (an open that may make a file), sync or rename
-//   FAULTS_AT    the number, from 1, of the call of that kind that fails
+//   FAULTS_KIND  allocation, read, write, create (an open that may make a file), sync or rename; of several calls, with commas between them
+//   FAULTS_AT    the number, from 1, of the call of that kind that fails; of several, with commas
+//   FAULTS_OF    the name of the file whose calls alone are counted for it, or 0, 1 or 2; of several, with commas; with none those of all files
 //   FAULTS_END   the status with which the program ends at that call; with none the call fails
 //   FAULTS_STEP  the most bytes that a read or a write moves; 0: as many as the program asks for
 #define _GNU_SOURCE
@@ -32,9 +33,19 @@ struct told {
   char path[256];
 };
 
+// A call that is to fail: the file is a name, "" for any, and the calls are those so far that could have been it.
+struct wanted {
+  enum kind kind;
+  unsigned long at;
+  char file[64];
+  _Atomic unsigned long calls;
+};
+
+enum { MOST_WANTED = 8 };
+
 static struct told *told;
-static enum kind kind = KINDS;
-static unsigned long at;
+static struct wanted wanted[MOST_WANTED];
+static int wanted_count;
 static size_t step;
 static const char *ends;
 
@@ -66,27 +77,56 @@ static void find(void) {
   real_malloc = dlsym(RTLD_NEXT, "malloc");
 }
 
+// Copies what stands before the next comma, and returns what stands behind it.
+static const char *part(const char *from, char *to, size_t room) {
+  size_t length = from ? strcspn(from, ",") : 0;
+  snprintf(to, room, "%.*s", (int)length, from ? from : "");
+  return from && from[length] ? from + length + 1 : NULL;
+}
+
+static void want(const char *names_of_kinds, const char *numbers, const char *files) {
+  while (names_of_kinds && wanted_count < MOST_WANTED) {
+    struct wanted *next = &wanted[wanted_count++];
+    char name[32], number[32];
+    names_of_kinds = part(names_of_kinds, name, sizeof name);
+    numbers = part(numbers, number, sizeof number);
+    files = part(files, next->file, sizeof next->file);
+    next->at = strtoul(number, NULL, 10);
+    next->kind = KINDS;
+    for (int of = 0; of < KINDS; of++)
+      if (!strcmp(name, names[of])) next->kind = of;
+  }
+}
+
 __attribute__((constructor)) static void begin(void) {
   if (!real_malloc) find();
-  const char *path = getenv("FAULTS"), *name = getenv("FAULTS_KIND"), *number = getenv("FAULTS_AT"), *most = getenv("FAULTS_STEP");
+  const char *path = getenv("FAULTS"), *most = getenv("FAULTS_STEP");
   if (!path) return;
   int file = open(path, O_RDWR);
   if (file < 0) return;
   void *place = mmap(NULL, sizeof(struct told), PROT_READ | PROT_WRITE, MAP_SHARED, file, 0);
   close(file);
   if (place == MAP_FAILED) return;
-  at = number ? strtoul(number, NULL, 10) : 0;
   step = most ? strtoul(most, NULL, 10) : 0;
   ends = getenv("FAULTS_END");
-  for (int of = 0; name && of < KINDS; of++)
-    if (!strcmp(name, names[of])) kind = of;
+  want(getenv("FAULTS_KIND"), getenv("FAULTS_AT"), getenv("FAULTS_OF"));
   told = place;
 }
 
-static int fails(enum kind of) {
+static int is_named(const char *path, const char *name) {
+  const char *last = strrchr(path, '/');
+  return !strcmp(last ? last + 1 : path, name);
+}
+
+// Whether this call of a file, or of none, is one that is to fail.
+static int fails(enum kind of, const char *path) {
+  int found = 0;
   if (!told) return 0;
-  unsigned long number = atomic_fetch_add(&told->calls[of], 1) + 1;
-  if (of != kind || number != at) return 0;
+  atomic_fetch_add(&told->calls[of], 1);
+  for (int i = 0; i < wanted_count; i++)
+    if (wanted[i].kind == of && (!*wanted[i].file || is_named(path, wanted[i].file)))
+      found |= atomic_fetch_add(&wanted[i].calls, 1) + 1 == wanted[i].at;
+  if (!found) return 0;
   atomic_fetch_add(&told->failed, 1);
   if (ends) _exit(atoi(ends));
   return 1;
@@ -101,13 +141,13 @@ static void *from_early(size_t bytes) {
 
 void *malloc(size_t bytes) {
   if (!real_malloc) return from_early(bytes);
-  if (fails(ALLOCATION)) return errno = ENOMEM, NULL;
+  if (fails(ALLOCATION, "")) return errno = ENOMEM, NULL;
   return real_malloc(bytes);
 }
 
 void *calloc(size_t items, size_t bytes) {
   if (!real_calloc) return from_early(items * bytes);
-  if (fails(ALLOCATION)) return errno = ENOMEM, NULL;
+  if (fails(ALLOCATION, "")) return errno = ENOMEM, NULL;
   return real_calloc(items, bytes);
 }
 
@@ -117,17 +157,17 @@ void *realloc(void *place, size_t bytes) {
     size_t most = place ? early + sizeof early - (char *)place : 0;
     return moved ? memcpy(moved, place ? place : moved, bytes < most ? bytes : most) : NULL;
   }
-  if (fails(ALLOCATION)) return errno = ENOMEM, NULL;
+  if (fails(ALLOCATION, "")) return errno = ENOMEM, NULL;
   return real_realloc(place, bytes);
 }
 
 void *aligned_alloc(size_t unit, size_t bytes) {
-  if (fails(ALLOCATION)) return errno = ENOMEM, NULL;
+  if (fails(ALLOCATION, "")) return errno = ENOMEM, NULL;
   return real_aligned_alloc(unit, bytes);
 }
 
 int posix_memalign(void **place, size_t unit, size_t bytes) {
-  if (fails(ALLOCATION)) return ENOMEM;
+  if (fails(ALLOCATION, "")) return ENOMEM;
   return real_posix_memalign(place, unit, bytes);
 }
 
@@ -137,21 +177,20 @@ void free(void *place) {
 
 // Whether the call fails; notes of which file.
 static int fault_at(enum kind of, const char *path) {
-  if (!fails(of)) return 0;
+  if (!fails(of, path)) return 0;
   snprintf(told->path, sizeof told->path, "%s", path);
   errno = EIO;
   return 1;
 }
 
+// The same of an open file, whose path is its number where that is 0, 1 or 2.
 static int fault(enum kind of, int file) {
-  if (!fails(of)) return 0;
-  char link[64];
+  char link[64], path[256];
+  if (!told) return 0;
   snprintf(link, sizeof link, "/proc/self/fd/%d", file);
-  ssize_t length = readlink(link, told->path, sizeof told->path - 1);
-  told->path[length < 0 ? 0 : length] = 0;
-  if (file == 0 || file == 1 || file == 2) snprintf(told->path, sizeof told->path, "%d", file);
-  errno = EIO;
-  return 1;
+  ssize_t length = file > 2 ? readlink(link, path, sizeof path - 1) : snprintf(path, sizeof path, "%d", file);
+  path[length < 0 ? 0 : length] = 0;
+  return fault_at(of, path);
 }
 
 static size_t within(size_t bytes) { return step && bytes > step ? step : bytes; }

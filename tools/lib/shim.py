@@ -32,3 +32,9 @@ def environment(shim, path, kind, at, step, end=None):
     """The variables by which a program has its `at`th call of a kind fail, or ends there with the status `end`."""
     found = {"LD_PRELOAD": shim, "FAULTS": path, "FAULTS_KIND": kind, "FAULTS_AT": str(at), "FAULTS_STEP": str(step)}
     return found if end is None else {**found, "FAULTS_END": str(end)}
+
+
+def with_faults(shim, path, faults, step):
+    """The same where several calls fail: of each its kind, its number and the file whose calls alone are counted, or 0, 1 or 2, or "" for all."""
+    kinds, numbers, files = (",".join(str(fault[i]) for fault in faults) for i in range(3))
+    return {**environment(shim, path, kinds, numbers, step), "FAULTS_OF": files}

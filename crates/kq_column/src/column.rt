@@ -1,8 +1,10 @@
 // Columns.
-ghost use Rattle.std.specs.Prelude.{◌≡◌, ◌↔◌, ◌<◌, ◌≤◌, ◌-◌, ◌^◌, [], All, flat_map, length, IfOk, IfSome, IsNone, Some, slice_get, take, drop};
+ghost use Rattle.std.specs.Prelude.{◌≡◌, ◌↔◌, ◌<◌, ◌≤◌, ◌-◌, ◌^◌, [], All, flat_map, length, IfOk, IfSome, IsNone, IsTrue, Some, slice_get, take, drop};
 ghost use Rattle.kq_value.specs.Typed.{HasType};
 ghost use Rattle.kq_column.specs.Bounds.{AreBounds};
 ghost use Rattle.kq_column.specs.Cells.{cells_present, column_of, IsAtMost, IsWider};
+ghost use Rattle.kq_column.specs.Forms.{cells_in};
+ghost use Rattle.kq_column.specs.Zones.{is_zone};
 ghost use Rattle.kq_vector.specs.Vectors.{cells_of};
 
 use crate::builder::Builder;
@@ -46,9 +48,7 @@ impl Column {
         ensures { IfOk result (λ c. c ≡ column_of column rows.now) }
     {
         let form = Form::build(alloc, ty, rows, column)?;
-        let zone = form.zone()?;
-        let layout = Layout::from_form(form)?;
-        Ok(Column { layout, zone })
+        Column::from_form(form)
     }
 
     /// The cells that a builder was given.
@@ -56,9 +56,7 @@ impl Column {
         ensures { IfOk result (λ c. c ≡ builder.cells) }
     {
         let form = builder.into_form()?;
-        let zone = form.zone()?;
-        let layout = Layout::from_form(form)?;
-        Ok(Column { layout, zone })
+        Column::from_form(form)
     }
 
     /// The cells of parts, one part after another, all of one type. No row is made.
@@ -67,7 +65,22 @@ impl Column {
         ensures { IfOk result (λ c. c ≡ flat_map cells_of parts.now) }
     {
         let form = Form::joined(alloc, ty, parts)?;
+        Column::from_form(form)
+    }
+
+    // The column of a form's cells, with their bounds.
+    fn from_form(form: Form) -> Result<Column, Memory>
+        ensures { IfOk result (λ c. c ≡ cells_in form) }
+    {
         let zone = form.zone()?;
+        Column::with_zone(form, zone)
+    }
+
+    // The same where the bounds are known.
+    fn with_zone(form: Form, zone: Option<(Value, Value)>) -> Result<Column, Memory>
+        requires { IsTrue (is_zone (cells_in form) zone) }
+        ensures { IfOk result (λ c. c ≡ cells_in form) }
+    {
         let layout = Layout::from_form(form)?;
         Ok(Column { layout, zone })
     }

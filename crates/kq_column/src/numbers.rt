@@ -6,6 +6,7 @@ ghost use Rattle.kq_value.specs.declared.value.Value.{Value as Cell};
 ghost use Rattle.kq_value.specs.Typed.{HasType};
 ghost use Rattle.kq_column.specs.Built.{AreBuilt};
 ghost use Rattle.kq_column.specs.Cells.{column_of, IsWider};
+ghost use Rattle.kq_column.specs.Growing.{AreGrown};
 ghost use Rattle.kq_vector.specs.Numbers.{marked, number_cell, AreNumbers, IsOfNumbers};
 ghost use Rattle.kq_column.specs.Zones.{is_zone};
 ghost use Rattle.kq_vector.specs.Vectors.{cells_of};
@@ -95,19 +96,22 @@ impl Numbers {
         let mut nulls = Vec::with_capacity(alloc, rows.len())?;
         let mut any = false;
         for i in 0..rows.len() {
-            let number = number_of(ty, cell_at(rows, column, i));
-            any = any | number.is_none();
-            nulls.push(number.is_none())?;
-            numbers.push(number.unwrap_or(0))?;
+            let null = add_cell(ty, cell_at(rows, column, i), &mut numbers, &mut nulls)?;
+            any = any | null;
         }
+        Ok(Numbers::from_marks(ty, numbers, nulls, any))
+    }
+
+    // Numbers whose marks are left out where none is null.
+    pub fn from_marks(ty: Ty, numbers: Vec<i64>, nulls: Vec<bool>, any: bool) -> Numbers
+        requires { AreGrown ty nulls.items numbers.items any }
+        ensures { result ≡ map (number_cell ty) (marked nulls.items numbers.items) }
+    {
         if any {
-            return Ok(Numbers { ty, numbers, nulls });
+            return Numbers::from_parts(ty, numbers, nulls);
         }
-        Ok(Numbers {
-            ty,
-            numbers,
-            nulls: Vec::new(alloc),
-        })
+        let plain = Vec::new(*numbers.allocator());
+        Numbers::from_parts(ty, numbers, plain)
     }
 
     pub fn len(&self) -> usize
@@ -161,14 +165,7 @@ impl Numbers {
             let more = add_part(ty, part, &mut numbers, &mut nulls)?;
             any = any | more;
         }
-        if any {
-            return Ok(Numbers { ty, numbers, nulls });
-        }
-        Ok(Numbers {
-            ty,
-            numbers,
-            nulls: Vec::new(alloc),
-        })
+        Ok(Numbers::from_marks(ty, numbers, nulls, any))
     }
 }
 

@@ -39,6 +39,10 @@ beside [] rs = []
 beside (x ∷ xs) [] = []
 beside (x ∷ xs) (r ∷ rs) = (x ∷ r) ∷ beside xs rs
 
+-- a function at these first arguments and the second ones, for each of the rows at these places
+abbrev pub applied_beside : Function → List Value → Piece → List ℕ → List Value → Computed (List Value)
+applied_beside function xs piece places = λ ys. each (applied function piece.now) (beside xs (beside ys (bare (rows_in piece places))))
+
 -- columns in front of rows
 abbrev pub fronted : List Vector → List (List Value) → List (List Value)
 fronted [] rs = rs

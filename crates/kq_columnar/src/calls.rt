@@ -6,7 +6,7 @@ ghost use Rattle.kq_value.specs.declared.value.Value.{Value as Cell};
 ghost use Rattle.kq_columnar.specs.Over.{bare};
 ghost use Rattle.kq_vector.specs.Vectors.{cells_of};
 ghost use Rattle.kq_columnar.specs.Vectors.{row_at};
-ghost use Rattle.kq_columnar.specs.Seen.{beside, fronted, rows_in, rows_of, shortest as the_shortest};
+ghost use Rattle.kq_columnar.specs.Seen.{applied_beside, fronted, rows_in, rows_of, shortest as the_shortest};
 
 use crate::gather::value_over;
 use crate::kernels::of_two;
@@ -41,7 +41,7 @@ pub fn apply_pair<'a>(
     piece: Piece,
     places: &[usize],
 ) -> Result<Vector<'a>, EvalFault>
-    ensures { (c : Computed (List Cell)) → AnswersAs cells_of c seconds.entry → AnswersAs cells_of (and_then c (λ ys. each (applied function piece.entry.now) (beside (cells_of firsts.entry) (beside ys (bare (rows_in piece.entry places.now)))))) result }
+    ensures { (c : Computed (List Cell)) → AnswersAs cells_of c seconds.entry → AnswersAs cells_of (and_then c (applied_beside function (cells_of firsts.entry) piece.entry places.now)) result }
 {
     match seconds {
         Ok(others) => apply_over(alloc, function, &[firsts, others], piece, places),

@@ -1,16 +1,16 @@
 // Reading a command.
 ghost use Rattle.std.specs.Prelude.{◌≡◌, ◌≤◌, ◌∷◌, Some, None, true, All, IfErr, IfOk, OnErr, length};
 ghost use Rattle.std.specs.Option.{option_map};
-ghost use Rattle.kq_command.specs.InText.{ColumnIn, ColumnsIn, ControlIn, IsPiece, MaybeExportIn};
-ghost use Rattle.kq_command.specs.Meanings.{behind, column_of, columns_of};
-ghost use Rattle.kq_command.specs.Reads.{IsCommandOf, IsControlOf, IsExport, ReadsAs, ReadsText};
-ghost use Rattle.kq_command.specs.Unsupported.{IsTyped, column_fault, control_fault, first_of};
+ghost use Rattle.kq_command.specs.InText.{ColumnIn, ColumnsIn, ControlIn, IsPiece, IsString, MaybeExportIn, NameIn, PropertiesIn};
+ghost use Rattle.kq_command.specs.Meanings.{behind, column_of, columns_of, identifier_of, string_at as said};
+ghost use Rattle.kq_command.specs.Reads.{IsCommandOf, IsControlOf, IsExport, ReadsAs, ReadsText, ingestion_of};
+ghost use Rattle.kq_command.specs.Unsupported.{IsTyped, column_fault, control_fault, first_of, ingest_fault, properties_fault};
 ghost use Rattle.kq_control.specs.ControlTrees.{control as command, query};
-ghost use Rattle.kq_control.specs.ControlViews.{columns_of as columns_view, control_of, export_of};
+ghost use Rattle.kq_control.specs.ControlViews.{columns_of as columns_view, control_of, export_of, properties_of as properties_view};
 ghost use Rattle.kq_control.specs.Statements.{IsStatement};
 ghost use Rattle.kq_grammar.specs.TabularViews.{query_of};
 
-use crate::columns::{Column, Columns};
+use crate::columns::{Column, Columns, Identifier};
 use crate::command::{Asked, Change, Command, CommandFault, Export, Query, Show};
 use crate::ingestion::Ingestion;
 use crate::meanings::{identifier, piece, string_at};
@@ -19,11 +19,11 @@ use crate::properties::read_properties;
 use crate::rows::rows_after;
 use crate::unsupported::unsupported;
 use crate::views::{new_export, new_view};
-use kq_control::{ColumnList, Control, ExportDefinition, Statement};
+use kq_control::{ColumnList, Control, ExportDefinition, PropertyList, Statement};
 use kq_grammar::{Column as WrittenColumn, Name, Query as WrittenQuery};
 use kq_spelled::ty_of;
 use kq_syntax::Symbol;
-use kq_value::Memory;
+use kq_value::{Memory, Text};
 use std::alloc::Global;
 
 /// The command that a block of text is.
@@ -87,27 +87,24 @@ fn command_in(memory: &mut Requests, text: &str, control: Control) -> Result<Ask
     ensures refused { OnErr result (memory.new.refused ≡ true) }
 {
     Ok(Asked::Engine(match control {
-        Control::CreateTable(name, columns) => Command::Change(Change::CreateTable {
-            name: identifier(memory, text, name)?,
-            columns: columns_in(memory, text, &columns)?,
-        }),
-        Control::AlterMerge(name, columns) => Command::Change(Change::AlterMerge {
-            name: identifier(memory, text, name)?,
-            columns: columns_in(memory, text, &columns)?,
-        }),
-        Control::Ingest(table, list, mark) => Command::Change(Change::Ingest(Ingestion {
-            table: identifier(memory, text, table)?,
-            properties: read_properties(memory, text, &list)?,
-            body: memory.text(rows_after(text, mark))?,
-        })),
-        Control::CreateView(view) => {
-            let view = new_view(memory, text, Box::into_inner(view))?;
-            Command::Change(Change::CreateView(view))
+        Control::CreateTable(name, columns) => {
+            let (name, columns) = table_in(memory, text, name, &columns)?;
+            Command::Change(Change::CreateTable { name, columns })
         }
-        Control::SetPolicy(target, policy) => Command::Change(Change::SetPolicy {
-            target: identifier(memory, text, target)?,
-            policy: string_at(memory, text, policy)?,
-        }),
+        Control::AlterMerge(name, columns) => {
+            let (name, columns) = table_in(memory, text, name, &columns)?;
+            Command::Change(Change::AlterMerge { name, columns })
+        }
+        Control::Ingest(table, list, mark) => Command::Change(Change::Ingest(ingestion_in(
+            memory, text, table, &list, mark,
+        )?)),
+        Control::CreateView(view) => {
+            Command::Change(Change::CreateView(new_view(memory, text, view)?))
+        }
+        Control::SetPolicy(target, policy) => {
+            let (target, policy) = policy_in(memory, text, target, policy)?;
+            Command::Change(Change::SetPolicy { target, policy })
+        }
         Control::ShowView(view) => Command::Show(Show::View(identifier(memory, text, view)?)),
         Control::ShowFailures => Command::Show(Show::Failures),
         Control::ShowExtents(table) => Command::Show(Show::Extents(identifier(
@@ -120,6 +117,61 @@ fn command_in(memory: &mut Requests, text: &str, control: Control) -> Result<Ask
             return Ok(Asked::Exporter(export_in(memory, text, name, export)?));
         }
     }))
+}
+
+// A table's name and its columns.
+fn table_in(
+    memory: &mut Requests,
+    text: &str,
+    name: Name,
+    list: &ColumnList,
+) -> Result<(Identifier, Columns), Memory>
+    requires stand { NameIn text.now name × ColumnsIn text.now (columns_view list.now) }
+    requires typed { first_of (column_fault text.now) (list.now.first ∷ list.now.others.items) ≡ None }
+    ensures name { IfOk result (λ p. p.0 ≡ identifier_of text.now name) }
+    ensures columns { IfOk result (λ p. columns_of text.now (list.now.first ∷ list.now.others.items) ≡ Some p.1) }
+    ensures refused { OnErr result (memory.new.refused ≡ true) }
+{
+    let name = identifier(memory, text, name)?;
+    let columns = columns_in(memory, text, list)?;
+    Ok((name, columns))
+}
+
+// What is to be ingested into a table.
+fn ingestion_in(
+    memory: &mut Requests,
+    text: &str,
+    table: Name,
+    list: &Option<PropertyList>,
+    mark: Symbol,
+) -> Result<Ingestion, Memory>
+    requires stand { NameIn text.now table × PropertiesIn text.now (option_map properties_view list.now) × IsPiece text.now mark }
+    requires supported { properties_fault (ingest_fault text.now) (option_map properties_view list.now) ≡ None }
+    ensures value { IfOk result (λ i. i ≡ ingestion_of text.now table (option_map properties_view list.now) mark) }
+    ensures refused { OnErr result (memory.new.refused ≡ true) }
+{
+    Ok(Ingestion {
+        table: identifier(memory, text, table)?,
+        properties: read_properties(memory, text, list)?,
+        body: memory.text(rows_after(text, mark))?,
+    })
+}
+
+// The name of a policy's table, and what the policy says.
+fn policy_in(
+    memory: &mut Requests,
+    text: &str,
+    target: Name,
+    policy: Symbol,
+) -> Result<(Identifier, Text), Memory>
+    requires stand { NameIn text.now target × IsString text.now policy }
+    ensures target { IfOk result (λ p. p.0 ≡ identifier_of text.now target) }
+    ensures policy { IfOk result (λ p. p.1 ≡ said text.now policy) }
+    ensures refused { OnErr result (memory.new.refused ≡ true) }
+{
+    let target = identifier(memory, text, target)?;
+    let policy = string_at(memory, text, policy)?;
+    Ok((target, policy))
 }
 
 // An export that is to be made, or one that is to run.
@@ -136,7 +188,7 @@ fn export_in(
 {
     match export {
         Some(export) => {
-            let export = new_export(memory, text, name, Box::into_inner(export))?;
+            let export = new_export(memory, text, name, export)?;
             Ok(Export::Define(export))
         }
         None => Ok(Export::Run(identifier(memory, text, Name::Word(name))?)),

@@ -1,7 +1,7 @@
 -- The numbers of keys of one cell, and what is known of words.
 use Rattle.std.proofs.Common.{◌≡◌, ◌<◌, ◌≤◌, ◌⊎◌, ◌+◌, inl, inr, ℕ, zero, suc, ℤ, pos, List, [], ◌∷◌, ◌++◌, Option, Some, None, length, map, replicate, take, get_or, set, refl, sym, ap, ◌∙◌, subst, arith, add-one, append-nil, length-append}
 use Rattle.std.proofs.lemmas.Bool.{cases_eq}
-use Rattle.std.proofs.lemmas.List.{get_or_append_left, get_or-map, get_or-set_same, get_or-set_other, length-map, replicate_more}
+use Rattle.std.proofs.lemmas.List.{get_or_append_left, get_or_default, get_or_past, get_or-map, get_or-set_same, get_or-set_other, length-map, replicate_more}
 use Rattle.std.proofs.lemmas.Option.{unwrap_or-slice_get}
 use Rattle.kq_agg.specs.Alone.{alone, cell_as, each_alone}
 use Rattle.kq_agg.specs.declared.reading.Reading.{Reading}
@@ -36,6 +36,12 @@ take_words words codes i h =
     take_mapped alone cells i (Null ty.Long) (omega (arith, length-map codes (cell_of words))) ∙ last_alone cells i _ _ (get_or-map (cell_of words) codes i 0 (Null ty.Long) h)
 
 -- ---- words
+
+pub word_alone : (words : List Value) (at : ℕ) (v : Value) (key : Key) → at < length words → v ≡ get_or words at v → key ≡ v ∷ [] → key ≡ alone (cell_of words at)
+word_alone words at v key h is e = e ∙ ap alone (is ∙ get_or_default words at v (Null ty.Long) h ∙ sym (unwrap_or-slice_get words at (Null ty.Long)))
+
+pub no_word_alone : (words : List Value) (at : ℕ) (key : Key) → length words ≤ at → key ≡ Null ty.Long ∷ [] → key ≡ alone (cell_of words at)
+no_word_alone words at key h e = e ∙ ap alone (sym (unwrap_or-slice_get words at (Null ty.Long) ∙ get_or_past words at (Null ty.Long) h))
 
 abbrev no_number : Option ℕ
 no_number = None

@@ -241,6 +241,33 @@ rows_more states keys i rows row h e = next_keys states keys i rows h ∙ throug
 pub rows_lost : (states : List Numbered) (keys : List Row) (i : ℕ) (rows : List Row) → i < length keys → and_then (cells_from states i) (λ x. Is (row_at keys i ++ x)) ≡ Overflow → rows_after states (drop i keys) i rows ≡ Overflow
 rows_lost states keys i rows h e = next_keys states keys i rows h ∙ lost_rows (cells_from states i) (rows_from states (drop (i + 1) keys) (i + 1)) (row_at keys i) rows e
 
+-- ---- the cells of a group, one aggregate after another
+
+through_cells : (c d : Computed Row) (before mid : Row) → and_then c (λ x. Is (before ++ x)) ≡ Is mid → and_then (and_then c (λ x. and_then d (λ y. Is (x ++ y)))) (λ cells. Is (before ++ cells)) ≡ and_then d (λ cells. Is (mid ++ cells))
+through_cells Overflow d before mid e = absurd cc
+through_cells (Is x) Overflow before mid e = refl
+through_cells (Is x) (Is y) before mid e = let is : before ++ x ≡ mid = cc in ap Is (sym (append_assoc before x y) ∙ ap (λ (r : Row). r ++ y) is)
+
+lost_cells : (c d : Computed Row) (before : Row) → and_then c (λ x. Is (before ++ x)) ≡ Overflow → and_then (and_then c (λ x. and_then d (λ y. Is (x ++ y)))) (λ cells. Is (before ++ cells)) ≡ Overflow
+lost_cells Overflow d before e = refl
+lost_cells (Is x) d before e = absurd cc
+
+-- the cells from a number of aggregates on, after those that are there
+abbrev pub cells_after : List Numbered → ℕ → Row → Computed Row
+cells_after states n before = and_then (cells_from states n) (λ cells. Is (before ++ cells))
+
+next_states : (states : List Numbered) (i n : ℕ) (s : Numbered) (before : Row) → i < length states → s ≡ get_or states i s → cells_after (drop i states) n before ≡ cells_after (s ∷ drop (i + 1) states) n before
+next_states states i n s before h is = ap (λ (those : List Numbered). cells_after those n before) (drop_more states i s h ∙ ap (λ (t : Numbered). t ∷ drop (i + 1) states) (sym is))
+
+pub cells_more : (states : List Numbered) (i n : ℕ) (s : Numbered) (before mid : Row) → i < length states → s ≡ get_or states i s → and_then (finished s.types (kept_at s.kept n)) (λ cells. Is (before ++ cells)) ≡ Is mid
+    → cells_after (drop i states) n before ≡ cells_after (drop (i + 1) states) n mid
+cells_more states i n s before mid h is puts = next_states states i n s before h is ∙ through_cells (finished s.types (kept_at s.kept n)) (cells_from (drop (i + 1) states) n) before mid puts
+
+pub cells_lost : (states : List Numbered) (i n : ℕ) (s : Numbered) (start before out : Row) (met : EvalFault) → i < length states → s ≡ get_or states i s → cells_after states n start ≡ cells_after (drop i states) n before
+    → AnswersAs {A = Unit {0}} (λ done. out) (and_then (finished s.types (kept_at s.kept n)) (λ cells. Is (before ++ cells))) (Err met) → AnswersAs {A = Unit {0}} (λ done. out) (cells_after states n start) (Err met)
+cells_lost states i n s start before out fault.Overflow h is whole lost = whole ∙ next_states states i n s before h is ∙ lost_cells (finished s.types (kept_at s.kept n)) (cells_from (drop (i + 1) states) n) before lost
+cells_lost states i n s start before out fault.Memory h is whole lost = tt
+
 -- the length of a row
 pub row_wide : (c : Computed Row) (k row : Row) (w v : ℕ) → length k ≡ w → ((x : Row) → c ≡ Is x → length x ≡ v) → and_then c (λ x. Is (k ++ x)) ≡ Is row → length row ≡ w + v
 row_wide Overflow k row w v h l e = absurd cc

@@ -129,8 +129,7 @@ impl Groups {
             count,
             numbers.as_slice(),
             args,
-        )?;
-        Ok(())
+        )
     }
 
     /// The same of keys of one cell each, those of a column.
@@ -154,8 +153,7 @@ impl Groups {
             count,
             numbers.as_slice(),
             args,
-        )?;
-        Ok(())
+        )
     }
 
     /// The same of so many rows, all of the one key of no cells.
@@ -179,8 +177,7 @@ impl Groups {
             groups,
             numbers.as_slice(),
             args,
-        )?;
-        Ok(())
+        )
     }
 
     /// The same of so many rows with keys of several cells, those that stand in these columns.
@@ -208,8 +205,7 @@ impl Groups {
             groups,
             numbers.as_slice(),
             args,
-        )?;
-        Ok(())
+        )
     }
 
     /// Takes in the groups of another, key by key: their rows come after those that are there. After a refusal the groups are to be dropped.

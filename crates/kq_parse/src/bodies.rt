@@ -1,23 +1,24 @@
 // Sources and operators that have no sources inside, without their words.
 ghost use Rattle.std.specs.Prelude.{◌≡◌};
 ghost use Rattle.std.specs.Option.{option_map};
+ghost use Rattle.kq_clause.specs.Reading.{item};
 ghost use Rattle.kq_expression.specs.Reading.{expression};
 ghost use Rattle.kq_grammar.specs.TabularViews.{body_of, from_of};
-ghost use Rattle.kq_grammar.specs.Views.{grouping_view, tree_of};
+ghost use Rattle.kq_grammar.specs.Trees as tree;
+ghost use Rattle.kq_grammar.specs.Views.{grouping_view, item_view, tree_of};
 ghost use Rattle.kq_parse.specs.Reading as spec;
 ghost use Rattle.kq_syntax.specs.Classes as k;
 ghost use Rattle.kq_syntax.specs.Classes.{of};
-ghost use Rattle.kq_syntax.specs.Forms.{skip};
+ghost use Rattle.kq_syntax.specs.Forms.{both, skip};
 ghost use Rattle.kq_syntax.specs.Outcomes.{IsOutcome};
 
-use crate::build;
 use crate::words::expect_table_word;
 use kq_clause::{
     read_aggregates, read_cells, read_columns, read_grouping, read_item, read_join_kind, read_key,
     read_names,
 };
 use kq_expression::{read_expression, read_name};
-use kq_grammar::{Cell, Column, Expression, Grouping, Name, OperatorBody, SourceBody};
+use kq_grammar::{Cell, Column, Expression, Grouping, Item, Name, OperatorBody, SourceBody};
 use kq_syntax::{Class, ClauseWord, Cursor, ReservedWord, Stop, Symbol};
 use kq_token::{Operator, Punctuation};
 use std::alloc::Global;
@@ -46,7 +47,12 @@ pub(crate) fn read_range(
     let from = read_bound(alloc, cursor, ClauseWord::From, budget)?;
     let to = read_bound(alloc, cursor, ClauseWord::To, budget)?;
     let step = read_bound(alloc, cursor, ClauseWord::Step, budget)?;
-    Ok(build::range(name, from, to, step))
+    Ok(SourceBody::Range {
+        name,
+        from,
+        to,
+        step,
+    })
 }
 
 // An expression behind a word, in a box, since it is owned while others are read.
@@ -100,7 +106,11 @@ pub(crate) fn read_datatable(
 {
     let (first, others) = columns_in_parentheses(alloc, cursor, budget)?;
     let cells = cells_in_brackets(alloc, cursor, budget)?;
-    Ok(build::datatable(first, others, cells))
+    Ok(SourceBody::Datatable {
+        first,
+        others,
+        cells,
+    })
 }
 
 // A name that a source begins with.
@@ -214,16 +224,22 @@ pub(crate) fn read_summarize(
     Ok(OperatorBody::Summarize(first, others, grouping))
 }
 
-// What stands behind `mv-expand`.
-#[tactic(auto, unfolding(crate::specs::Reading::expansion))]
-pub(crate) fn read_expansion(
+// What stands behind `count`, which is nothing.
+pub(crate) fn counting() -> OperatorBody
+    ensures { body_of result ≡ tree.count }
+{
+    OperatorBody::Count
+}
+
+// What stands behind `mv-expand`: the item, and the word of the type where it is said.
+pub(crate) fn read_expanded(
     alloc: Global,
     cursor: &mut Cursor<'_>,
     budget: usize,
-) -> Result<OperatorBody, Stop>
-    ensures { IsOutcome body_of (spec.expansion budget cursor.old) result cursor.new }
+) -> Result<(Item, Option<Symbol>), Stop>
+    ensures { IsOutcome (λ p. (item_view p.0, p.1)) (both (item budget) spec.maybe_element_type cursor.old) result cursor.new }
 {
     let item = read_item(alloc, cursor, budget)?;
     let word = maybe_element_type(cursor)?;
-    Ok(OperatorBody::MvExpand(item, word))
+    Ok((item, word))
 }

@@ -1,7 +1,7 @@
 // Sources and operators that may have sources inside, and pipes. The readers take that of the sources inside as a value, so
 // that each is proved by itself.
 ghost use Rattle.std.specs.Prelude.{◌≡◌, ◌<◌, map};
-ghost use Rattle.kq_grammar.specs.TabularViews.{arm_of, arms_of, body_of, from_of, operator_of, operators_of, source_of, tabular_of, union_of};
+ghost use Rattle.kq_grammar.specs.TabularViews.{arm_of, arms_of, body_of, from_of, join_of, operator_of, operators_of, source_of, tabular_of, union_of};
 ghost use Rattle.kq_grammar.specs.Trees as tree;
 ghost use Rattle.kq_parse.specs.Nests.{Nests};
 ghost use Rattle.kq_parse.specs.Reading as spec;
@@ -11,15 +11,15 @@ ghost use Rattle.kq_syntax.specs.Outcomes.{IsOutcome};
 ghost use Rattle.kq_syntax.specs.Several.{first_and_others};
 
 use crate::bodies::{
-    read_datatable, read_distinct, read_expansion, read_kind, read_range, read_summarize,
+    counting, read_datatable, read_distinct, read_expanded, read_kind, read_range, read_summarize,
     read_table_name, read_top, read_view,
 };
-use crate::build;
 use crate::words::{expect_operator_word, expect_source_word, sees_source_word};
 use kq_clause::{read_items, read_join_keys, read_keys, read_names, read_renamings};
 use kq_expression::{read_expression, read_name};
 use kq_grammar::{
-    Arm, JoinKey, Name, Operator, OperatorBody, OperatorKey, Source, SourceBody, Tabular, Union,
+    Arm, Join, JoinKey, Name, Operator, OperatorBody, OperatorKey, Source, SourceBody, Tabular,
+    Union,
 };
 use kq_syntax::{
     Behind, Class, ClauseWord, Cursor, Part, ReservedWord, SourceWord, Stop, Symbol, more,
@@ -55,10 +55,10 @@ impl<F: Fn(Global, &mut Cursor<'_>, usize) -> Result<Box<Tabular>, Stop>> Reader
     {
         if cursor.sees(Class::Sign(Punctuation::OpenParenthesis)) {
             let (paren, inner) = self.nesting(cursor)?;
-            return Ok(build::grouped(paren, inner));
+            return Ok(Arm::Grouped(paren, inner));
         }
         let name = read_name(cursor)?;
-        Ok(build::named(name))
+        Ok(Arm::Named(name))
     }
 
     #[tactic(auto, unfolding(crate::specs::Reading::more_arms))]
@@ -96,7 +96,11 @@ impl<F: Fn(Global, &mut Cursor<'_>, usize) -> Result<Box<Tabular>, Stop>> Reader
         ensures { IsOutcome union_of (spec.plain_union (spec.tabular self.now.budget) self.now.turns cursor.old) result cursor.new }
     {
         let (first, others) = self.arms(cursor)?;
-        Ok(build::union(None, first, others))
+        Ok(Union {
+            kind: None,
+            first,
+            others,
+        })
     }
 
     // What stands behind the word `kind`, which may be the name of an arm.
@@ -107,12 +111,20 @@ impl<F: Fn(Global, &mut Cursor<'_>, usize) -> Result<Box<Tabular>, Stop>> Reader
     {
         if !cursor.sees(Class::Operator(Sign::Assign)) {
             let others = self.more_arms(cursor)?;
-            return Ok(build::union(None, build::named(Name::Word(word)), others));
+            return Ok(Union {
+                kind: None,
+                first: Arm::Named(Name::Word(word)),
+                others,
+            });
         }
         cursor.expect(Class::Operator(Sign::Assign))?;
         let kind = cursor.expect(Class::UnionKind)?;
         let (first, others) = self.arms(cursor)?;
-        Ok(build::union(Some(kind), first, others))
+        Ok(Union {
+            kind: Some(kind),
+            first,
+            others,
+        })
     }
 
     #[tactic(auto, unfolding(crate::specs::Reading::union, crate::specs::Reading::kind_union))]
@@ -133,14 +145,14 @@ impl<F: Fn(Global, &mut Cursor<'_>, usize) -> Result<Box<Tabular>, Stop>> Reader
         ensures { IsOutcome from_of (spec.from (spec.tabular self.now.budget) self.now.turns word cursor.old) result cursor.new }
     {
         match word {
-            SourceWord::MaterializedView => Ok(build::view(read_view(cursor)?)),
+            SourceWord::MaterializedView => Ok(SourceBody::View(read_view(cursor)?)),
             SourceWord::Print => {
                 let (first, others) = read_items(self.alloc, cursor, self.turns)?;
-                Ok(build::print(first, others))
+                Ok(SourceBody::Print(first, others))
             }
             SourceWord::Range => read_range(self.alloc, cursor, self.turns),
             SourceWord::Datatable => read_datatable(self.alloc, cursor, self.turns),
-            SourceWord::Union => Ok(build::union_source(self.union(cursor)?)),
+            SourceWord::Union => Ok(SourceBody::Union(self.union(cursor)?)),
         }
     }
 
@@ -151,28 +163,34 @@ impl<F: Fn(Global, &mut Cursor<'_>, usize) -> Result<Box<Tabular>, Stop>> Reader
     {
         if cursor.sees(Class::Sign(Punctuation::OpenParenthesis)) {
             let (paren, inner) = self.nesting(cursor)?;
-            return Ok(build::nested(paren, inner));
+            return Ok(Source::Nested(paren, inner));
         }
         if sees_source_word(cursor) {
             let (symbol, word) = expect_source_word(cursor)?;
             let body = self.from(word, cursor)?;
-            return Ok(build::worded(symbol, body));
+            return Ok(Source::Worded(symbol, body));
         }
-        Ok(build::table(read_table_name(cursor)?))
+        Ok(Source::Table(read_table_name(cursor)?))
     }
 
     #[tactic(auto, unfolding(crate::specs::Reading::join))]
-    fn join(&self, cursor: &mut Cursor<'_>) -> Result<OperatorBody, Stop>
+    fn join(&self, cursor: &mut Cursor<'_>) -> Result<Join, Stop>
         requires { Nests self.now.budget (F.pre self.now.tabular) (F.post self.now.tabular) }
-        ensures { IsOutcome body_of (spec.join (spec.tabular self.now.budget) self.now.turns cursor.old) result cursor.new }
+        ensures { IsOutcome join_of (spec.join (spec.tabular self.now.budget) self.now.turns cursor.old) result cursor.new }
     {
         let kind = maybe_kind(cursor)?;
         let (_paren, right) = self.nesting(cursor)?;
         let (first, others) = keys_on(self.alloc, cursor, self.turns)?;
-        Ok(build::join(kind, right, first, others))
+        Ok(Join {
+            kind,
+            right,
+            first,
+            others,
+        })
     }
 
     // What stands behind the word of an operator that has rows inside or a list of parts.
+    #[tactic(auto, unfolding(crate::specs::Reading::expansion))]
     fn body(&self, key: OperatorKey, cursor: &mut Cursor<'_>) -> Result<OperatorBody, Stop>
         requires { Nests self.now.budget (F.pre self.now.tabular) (F.post self.now.tabular) }
         ensures { IsOutcome body_of (spec.body (spec.tabular self.now.budget) self.now.turns key cursor.old) result cursor.new }
@@ -198,7 +216,7 @@ impl<F: Fn(Global, &mut Cursor<'_>, usize) -> Result<Box<Tabular>, Stop>> Reader
                 Ok(OperatorBody::ProjectRename(first, others))
             }
             OperatorKey::Take => Ok(OperatorBody::Take(cursor.expect(Class::WholeNumber)?)),
-            OperatorKey::Count => Ok(build::count()),
+            OperatorKey::Count => Ok(counting()),
             OperatorKey::Sort => {
                 cursor.expect(Class::Reserved(ReservedWord::By))?;
                 let (first, others) = read_keys(self.alloc, cursor, self.turns)?;
@@ -207,29 +225,13 @@ impl<F: Fn(Global, &mut Cursor<'_>, usize) -> Result<Box<Tabular>, Stop>> Reader
             OperatorKey::Top => read_top(self.alloc, cursor, self.turns),
             OperatorKey::Distinct => read_distinct(self.alloc, cursor, self.turns),
             OperatorKey::Summarize => read_summarize(self.alloc, cursor, self.turns),
-            OperatorKey::Join => self.join(cursor),
-            OperatorKey::Union => Ok(build::unite(self.union(cursor)?)),
-            OperatorKey::MvExpand => read_expansion(self.alloc, cursor, self.turns),
+            OperatorKey::Join => Ok(OperatorBody::Join(self.join(cursor)?)),
+            OperatorKey::Union => Ok(OperatorBody::Unite(self.union(cursor)?)),
+            OperatorKey::MvExpand => {
+                let (item, word) = read_expanded(self.alloc, cursor, self.turns)?;
+                Ok(OperatorBody::MvExpand(item, word))
+            }
         }
-    }
-
-    #[tactic(auto, unfolding(crate::specs::Reading::operator))]
-    fn operator(&self, cursor: &mut Cursor<'_>) -> Result<Operator, Stop>
-        requires { Nests self.now.budget (F.pre self.now.tabular) (F.post self.now.tabular) }
-        ensures { IsOutcome operator_of (spec.operator (spec.tabular self.now.budget) self.now.turns cursor.old) result cursor.new }
-    {
-        let (word, key) = expect_operator_word(cursor)?;
-        let body = self.body(key, cursor)?;
-        Ok(build::operator(word, body))
-    }
-
-    // The source in a box, since it is owned while the operators are read.
-    fn boxed_source(&self, cursor: &mut Cursor<'_>) -> Result<Box<Source>, Stop>
-        requires { Nests self.now.budget (F.pre self.now.tabular) (F.post self.now.tabular) }
-        ensures { IsOutcome (λ b. source_of b.value) (spec.source (spec.tabular self.now.budget) self.now.turns cursor.old) result cursor.new }
-    {
-        let source = self.source(cursor)?;
-        Ok(Box::new(self.alloc, source)?)
     }
 
     fn operators(&self, cursor: &mut Cursor<'_>) -> Result<Vec<Operator>, Stop>
@@ -255,9 +257,9 @@ impl<F: Fn(Global, &mut Cursor<'_>, usize) -> Result<Box<Tabular>, Stop>> Reader
         requires { Nests self.now.budget (F.pre self.now.tabular) (F.post self.now.tabular) }
         ensures { IsOutcome (λ b. tabular_of b.value) (spec.pipeline (spec.tabular self.now.budget) self.now.turns cursor.old) result cursor.new }
     {
-        let source = self.boxed_source(cursor)?;
+        let source = Box::new(self.alloc, self.source(cursor)?)?;
         let operators = self.operators(cursor)?;
-        Ok(Box::new(self.alloc, build::tabular(source, operators))?)
+        Ok(Box::new(self.alloc, Tabular { source, operators })?)
     }
 }
 
@@ -320,8 +322,11 @@ impl<'a, F: Fn(Global, &mut Cursor<'_>, usize) -> Result<Box<Tabular>, Stop>> Pa
 
     ghost callable = { λ o. Nests o.0.now.budget (F.pre o.0.now.tabular) (F.post o.0.now.tabular) };
 
+    #[tactic(auto, unfolding(crate::specs::Reading::operator))]
     fn read(&self, cursor: &mut Cursor<'_>) -> Result<Operator, Stop> {
-        self.0.operator(cursor)
+        let (word, key) = expect_operator_word(cursor)?;
+        let body = self.0.body(key, cursor)?;
+        Ok(Operator { word, body })
     }
 }
 

@@ -1,6 +1,7 @@
 -- What an expression gives of each word, it gives of each row with the word.
-use Rattle.std.proofs.Common.{◌≡◌, ◌<◌, ◌+◌, ℕ, zero, suc, List, [], ◌∷◌, map, length, get_or, Some, refl, sym, ap, ◌∙◌, subst, arith}
+use Rattle.std.proofs.Common.{◌≡◌, ◌<◌, ◌+◌, ℕ, zero, suc, List, [], ◌∷◌, map, length, get_or, Option, None, Some, refl, sym, ap, ◌∙◌, subst, arith}
 use Rattle.std.specs.List.{All, range_with_len, slice_get}
+use Rattle.std.specs.Prelude.{IfSome}
 use Rattle.std.proofs.lemmas.List.Elements.{All-nil, All-cons, All-head, All-tail}
 use Rattle.kq_value.specs.declared.value.Value.{Value}
 use Rattle.kq_computed.specs.Computed.{Computed, Is, Overflow, and_then, each}
@@ -10,7 +11,7 @@ use Rattle.kq_columnar.specs.Vectors.{row_at, rows_at}
 use Rattle.kq_columnar.specs.kq_scalar.Val.{Surroundings, val, cell_of}
 use Rattle.kq_expr.specs.declared.expr.Expr.{Expr}
 use Rattle.kq_piecewise.specs.Pieces.{columns_read}
-use Rattle.kq_piecewise.specs.Words.{AreByWord, AreCodesAt, ReadsWords}
+use Rattle.kq_piecewise.specs.Words.{AreByCodes, AreByWord, AreCodesAt, ReadsWords}
 use Rattle.kq_piecewise.specs.declared.worded.Worded.{Worded}
 use Rattle.kq_piecewise.proofs.Reading.{Same, reads_alone}
 use Rattle.kq_piecewise.proofs.Standing.{cell_at_columns}
@@ -72,3 +73,8 @@ pub by_codes : (e : Expr) (s : Surroundings) (columns : List Vector) (w : Worded
     → AreCodesAt w.codes.now places count found → made ≡ map (cell_of vs) found → each (val e s) (rows_at columns places) ≡ Is made
 by_codes e s columns w vs made places found count long reads by codes is =
     all_by_codes e s columns w vs places found reads by codes.are (subst (λ (n : ℕ). All (λ c. c < n) found) long codes.below) ∙ ap (λ (us : List Value). Is us) (sym is)
+
+pub by_codes_if : (e : Expr) (s : Surroundings) (columns : List Vector) (w : Worded) (o : Option Vector) (places found : List ℕ) (count : ℕ) → count ≡ length w.words.now → ReadsWords e columns w → AreCodesAt w.codes.now places count found
+    → IfSome o (λ (v : Vector). AreByCodes e s w.column w.words.now found (cells_of v)) → IfSome o (λ (v : Vector). each (val e s) (rows_at columns places) ≡ Is (cells_of v))
+by_codes_if e s columns w None places found count long reads codes by = tt
+by_codes_if e s columns w (Some v) places found count long reads codes by = by_codes e s columns w by.values (cells_of v) places found count long reads by.by codes by.are

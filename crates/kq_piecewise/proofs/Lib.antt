@@ -1,5 +1,6 @@
 pub mod Alone
 mod Chains
+mod Joined
 pub mod Filled
 pub mod Kept
 pub mod Laws

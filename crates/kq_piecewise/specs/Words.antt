@@ -19,6 +19,12 @@ pub record ReadsWords (e : Expr) (columns : List Vector) (w : Worded) : Type 0 w
 pub record AreByWord (e : Expr) (s : Surroundings) (column : ℕ) (words values : List Value) : Type 0 where
   pub each : (row : List Value) (i : ℕ) → i < length words → cell_of row column ≡ cell_of words i → val e s row ≡ Is (cell_of values i)
 
+-- these are the expression's values at the words with these codes
+pub record AreByCodes (e : Expr) (s : Surroundings) (column : ℕ) (words : List Value) (codes : List ℕ) (cells : List Value) : Type 0 where
+  pub values : List Value
+  pub by : AreByWord e s column words values
+  pub are : cells ≡ map (cell_of values) codes
+
 -- these are the codes at the places, each below the count
 pub record AreCodesAt (codes places : List ℕ) (count : ℕ) (found : List ℕ) : Type 0 where
   pub are : map Some found ≡ map (slice_get codes) places

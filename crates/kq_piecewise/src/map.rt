@@ -1,12 +1,12 @@
 // The rows that expressions make of each row.
-ghost use Rattle.std.specs.Prelude.{◌≡◌, ◌<◌, ◌≤◌, ◌++◌, ◌∷◌, [], IfOk, OnOk, length, map};
-ghost use Rattle.std.specs.List.{All};
+ghost use Rattle.std.specs.Prelude.{◌≡◌, ◌<◌, ◌≤◌, ◌++◌, ◌-◌, ◌∷◌, [], IfOk, OnOk, length, map};
+ghost use Rattle.std.specs.List.{All, concat, range_with_len};
 ghost use Rattle.kq_computed.specs.Computed.{Answers, AnswersAs, each};
 ghost use Rattle.kq_expr.specs.Terms.{term_of};
 ghost use Rattle.kq_rows.specs.Chunks.{HasWidth, row_at};
 ghost use Rattle.kq_columnar.specs.kq_scalar.Val.{surroundings};
 ghost use Rattle.kq_piecewise.specs.Operators.{values_at};
-ghost use Rattle.kq_piecewise.specs.Pieces.{piece_of};
+ghost use Rattle.kq_piecewise.specs.Pieces.{Hold, columns_copied, piece_of};
 ghost use Rattle.kq_piecewise.specs.Sources.{GiveBehind, MakeRows, cells_from, row_from, rows_from};
 
 use crate::columns::columns_in;
@@ -14,6 +14,7 @@ use crate::piece::{PIECE, places_below};
 use crate::reads::copied_of;
 use crate::relation::Relation;
 use crate::sources::{Source, source_of, take_cell};
+use kq_columnar::Vector;
 use kq_computed::EvalFault;
 use kq_expr::Expr;
 use kq_rows::Rows;
@@ -58,9 +59,32 @@ fn sources_of<'v, R: Relation>(
     let copied = copied_of(alloc, exprs)?;
     let columns = columns_in(alloc, relation, from, to, &copied)?;
     let places = places_below(alloc, to - from)?;
+    sources_over(
+        alloc, relation, from, to, exprs, &columns, &places, lets, now,
+    )
+}
+
+// The same over the columns that were copied of these rows, and the places of the rows in them.
+fn sources_over<'v, R: Relation>(
+    alloc: Global,
+    relation: &'v R,
+    from: usize,
+    to: usize,
+    exprs: &[Expr],
+    columns: &[Vector],
+    places: &[usize],
+    lets: &[Value],
+    now: i64,
+) -> Result<Vec<Source<'v>>, EvalFault>
+    requires piece { (from ≤ to) × (to ≤ length (R.rows relation.now)) }
+    requires columns { Hold columns.now (piece_of (R.rows relation.now) from to) (concat (map columns_copied exprs.now)) }
+    requires places { places.now ≡ range_with_len 0 (to - from) }
+    ensures rows { MakeRows (map term_of exprs.now) (surroundings now lets.now) (piece_of (R.rows relation.now) from to) result }
+    ensures wide { IfOk result (λ xs. length xs.items ≡ length exprs.now) }
+{
     let mut sources = Vec::new(alloc);
     for expr in exprs {
-        let source = source_of(alloc, expr, &columns, &places, lets, now)?;
+        let source = source_of(alloc, expr, columns, places, lets, now)?;
         sources.push(lent_source(alloc, relation, from, to, source)?)?;
     }
     Ok(sources)

@@ -38,8 +38,22 @@ pub(crate) fn eval_piece<'v, R: Relation>(
 {
     let reads = columns_of(alloc, from_ref(expr))?;
     let columns = columns_in(alloc, relation, from, to, &reads)?;
-    let places = places_below(alloc, to - from)?;
-    eval_owned(alloc, expr, &columns, &places, lets, now)
+    eval_first(alloc, expr, &columns, to - from, lets, now)
+}
+
+// The values of an expression over the first rows of the columns, so many.
+fn eval_first<'v>(
+    alloc: Global,
+    expr: &Expr,
+    columns: &[Vector],
+    count: usize,
+    lets: &[Value],
+    now: i64,
+) -> Result<Vector<'v>, EvalFault>
+    ensures { AnswersAs cells_of (each (val expr.now (surroundings now lets.now)) (rows_at columns.now (range_with_len 0 count))) result }
+{
+    let places = places_below(alloc, count)?;
+    eval_owned(alloc, expr, columns, &places, lets, now)
 }
 
 // The values of an expression over the rows of the columns at these places, none of them lent.

@@ -6,7 +6,7 @@ ghost use Rattle.kq_columnar.specs.Vectors.{rows_at};
 ghost use Rattle.kq_columnar.specs.kq_scalar.Val.{surroundings, val};
 ghost use Rattle.kq_vector.specs.Vectors.{cell_of, cells_of};
 ghost use Rattle.kq_piecewise.specs.Pieces.{columns_read};
-ghost use Rattle.kq_piecewise.specs.Words.{AreByWord, AreCodesAt, ReadsWords};
+ghost use Rattle.kq_piecewise.specs.Words.{AreByCodes, AreByWord, AreCodesAt, ReadsWords};
 
 use crate::piece::places_below;
 use crate::reads::columns_of;
@@ -39,11 +39,27 @@ pub(crate) fn eval_by_word<'v>(
     if read.words.len() > places.len() / 2 {
         return Ok(None);
     }
-    let Some(codes) = codes_at(alloc, read.codes, places, read.words.len())? else {
-        return Ok(None);
-    };
-    match word_values(alloc, expr, read.column, read.words, lets, now)? {
-        Some(values) => Ok(Some(values.picked(alloc, &codes)?)),
+    match codes_at(alloc, read.codes, places, read.words.len())? {
+        Some(codes) => values_by(alloc, expr, read.column, read.words, &codes, lets, now),
+        None => Ok(None),
+    }
+}
+
+// The values of the expression at the words with these codes, unless it overflows at a word.
+fn values_by<'v>(
+    alloc: Global,
+    expr: &Expr,
+    column: usize,
+    words: &[Value],
+    codes: &[usize],
+    lets: &[Value],
+    now: i64,
+) -> Result<Option<Vector<'v>>, Memory>
+    requires { All (λ n. n ≡ column) (columns_read expr.now) }
+    ensures { IfOk result (λ o. IfSome o (λ v. AreByCodes expr.now (surroundings now lets.now) column words.now codes.now (cells_of v))) }
+{
+    match word_values(alloc, expr, column, words, lets, now)? {
+        Some(values) => Ok(Some(values.picked(alloc, codes)?)),
         None => Ok(None),
     }
 }

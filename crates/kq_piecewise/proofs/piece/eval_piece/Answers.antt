@@ -23,9 +23,9 @@ returns g c =
     let columns = c.in_ok-columns.columns.items in
     let read : c.deref.result.now ≡ columns_read e = c.deref.ensures.value ∙ c.in_ok-reads.ensures ∙ ap (λ (es : List Expr). concat (map columns_read es)) c.from_ref.ensures.value ∙ reads_one e in
     let held = subst (λ (js : List ℕ). Hold columns rows js) read c.in_ok-columns.ensures in
-    let places : c.deref-3.result.now ≡ range_with_len 0 (c.args.to - c.args.from) = c.deref-3.ensures.value ∙ c.in_ok-places.ensures in
-    let is : each (val e s) (rows_at c.deref-2.result.now c.deref-3.result.now) ≡ each (meaning (term_of e) s) rows =
-    ((λ j. each (val e s) (rows_at (c.deref-2.ensures.value j) (places j)))
-    ∙ stands_for e s columns rows (c.args.to - c.args.from) long held) in
-    let values = subst (λ (o : Computed (List Value)). AnswersAs cells_of o c.eval_owned.result) is (subst (λ (z : ℤ). AnswersAs cells_of (each (val e (surroundings z c.args.lets.now)) (rows_at c.deref-2.result.now c.deref-3.result.now)) c.eval_owned.result) same c.eval_owned.ensures) in
-    record { values = values; beside = answered_long (meaning (term_of e) s) cells_of rows (c.args.to - c.args.from) c.eval_owned.result long values }
+    let count = c.args.to - c.args.from in
+    let is : each (val e s) (rows_at c.deref-2.result.now (range_with_len 0 count)) ≡ each (meaning (term_of e) s) rows =
+    ((λ j. each (val e s) (rows_at (c.deref-2.ensures.value j) (range_with_len 0 count)))
+    ∙ stands_for e s columns rows count long held) in
+    let values = subst (λ (o : Computed (List Value)). AnswersAs cells_of o c.eval_first.result) is (subst (λ (z : ℤ). AnswersAs cells_of (each (val e (surroundings z c.args.lets.now)) (rows_at c.deref-2.result.now (range_with_len 0 count))) c.eval_first.result) same c.eval_first.ensures) in
+    record { values = values; beside = answered_long (meaning (term_of e) s) cells_of rows (c.args.to - c.args.from) c.eval_first.result long values }

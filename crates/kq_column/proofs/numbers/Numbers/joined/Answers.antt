@@ -5,6 +5,7 @@ use Rattle.kq_value.specs.Typed.{HasType}
 use Rattle.kq_vector.specs.Vectors.{cells_of}
 use Rattle.kq_column.specs.Built.{AreBuilt}
 use Rattle.kq_vector.specs.declared.vector.Vector.{Vector}
+use Rattle.kq_column.proofs.Grown.{grown_from}
 use Rattle.kq_column.proofs.Joined.{built_none, joined_more}
 use Rattle.kq_column.proofs.numbers.Numbers.joined.Goals as goal
 
@@ -23,3 +24,6 @@ loop-part-preserved c =
     subst (λ (cells : List Value). AreBuilt c.args.ty c.add_part.new.nulls.items c.add_part.new.numbers.items (c.loop-part.any || c.in_ok-more.more) cells)
     (sym (joined_more cells_of parts i p c.loop-part-test.true (sym c.part-item.is)))
     (c.in_ok-more.ensures c.loop-part.any (flat_map cells_of (take i parts)) c.loop-part.invariant)
+
+pub from_marks-requires : goal.from_marks-requires
+from_marks-requires c = grown_from c.args.ty _ _ _ _ c.requires.numbers c.loop-part.invariant

@@ -4,6 +4,7 @@ use Rattle.std.specs.Vec.{with_items}
 use Rattle.std.proofs.lemmas.List.{length-map, with_items_is}
 use Rattle.kq_agg.specs.Alone.{alone, each_alone}
 use Rattle.kq_vector.specs.Vectors.{cells_of}
+use Rattle.std.proofs.lemmas.Result.{on_ok_weaker}
 use Rattle.kq_agg.specs.Tables.{Numbered}
 use Rattle.kq_rows.specs.Chunks.{HasWidth}
 use Rattle.kq_group.specs.Arguments.{rows_given}
@@ -32,9 +33,13 @@ returns c =
     let new : Grouping = record { width = c.numbers_of_column.new.self.width; keys = c.numbers_of_column.new.self.keys; states = c.gather_all.new.states } in
     let long : length c.gather_all.new.states ≡ length c.self.inside.states.items = c.gather_all.auto.states ∙ ap length c.as_mut_slice.ensures.value in
     let states : (with_items c.self.inside.states c.gather_all.new.states).items ≡ c.gather_all.new.states = with_items_is c.self.inside.states c.gather_all.new.states (long ∙ sym c.self.inside.states.ok.0) in
+    let gathered = rw (c.as_slice.ensures.value, c.len-count.ensures.count, c.as_mut_slice.ensures.value) at c.gather_all.ensures in
+    on_ok_weaker c.gather_all.result
+    (λ gathers.
     subst (λ (ss : List Numbered). AddsRows keys (rows_given (length cells) args) c.args.self.now (record { width = c.numbers_of_column.new.self.width; keys = c.numbers_of_column.new.self.keys; states = ss })) (sym states)
     (subst (λ (g : Grouping). AddsRows keys (rows_given (length cells) args) g new) is
     (AddsRows-given seen new keys args c.in_ok-numbers.numbers.items (length cells) (subst HasAllGroups (sym is) c.requires.whole) c.numbers_of_column.ensures.width long
     (subst (λ (g : Grouping). length args ≡ length g.states) (sym is) c.requires.each) (length-map cells alone) c.requires.along table.apart
     (subst (λ (w : ℕ). All (HasWidth w) c.numbers_of_column.new.self.keys) c.numbers_of_column.ensures.width table.wide) c.in_ok-numbers.ensures.numbers
-    (rw (c.as_slice.ensures.value, c.len-count.ensures.count, c.as_mut_slice.ensures.value) at c.in_ok-gather_all.ensures)))
+    gathers)))
+    gathered

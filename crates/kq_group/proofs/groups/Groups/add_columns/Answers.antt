@@ -2,6 +2,7 @@ use Rattle.std.proofs.Common.{◌≡◌, ℕ, List, length, map, sym, ap, ◌∙
 use Rattle.std.specs.List.{All}
 use Rattle.std.specs.Vec.{with_items}
 use Rattle.std.proofs.lemmas.List.{with_items_is}
+use Rattle.std.proofs.lemmas.Result.{on_ok_weaker}
 use Rattle.kq_agg.specs.Tables.{Numbered}
 use Rattle.kq_rows.specs.Chunks.{HasWidth}
 use Rattle.kq_vector.specs.Vectors.{cells_of}
@@ -36,9 +37,13 @@ returns c =
     let new : Grouping = record { width = c.numbers_of_columns.new.self.width; keys = c.numbers_of_columns.new.self.keys; states = c.gather_all.new.states } in
     let long : length c.gather_all.new.states ≡ length c.self.inside.states.items = c.gather_all.auto.states ∙ ap length c.as_mut_slice.ensures.value in
     let states : (with_items c.self.inside.states c.gather_all.new.states).items ≡ c.gather_all.new.states = with_items_is c.self.inside.states c.gather_all.new.states (long ∙ sym c.self.inside.states.ok.0) in
+    let gathered = rw (c.as_slice.ensures.value, c.len-groups.ensures.count, c.as_mut_slice.ensures.value) at c.gather_all.ensures in
+    on_ok_weaker c.gather_all.result
+    (λ gathers.
     subst (λ (ss : List Numbered). AddsRows keys (rows_given count args) c.args.self.now (record { width = c.numbers_of_columns.new.self.width; keys = c.numbers_of_columns.new.self.keys; states = ss })) (sym states)
     (subst (λ (g : Grouping). AddsRows keys (rows_given count args) g new) is
     (AddsRows-given seen new keys args c.in_ok-numbers.numbers.items count (subst HasAllGroups (sym is) c.requires.whole) c.numbers_of_columns.ensures.width long
     (subst (λ (g : Grouping). length args ≡ length g.states) (sym is) c.requires.each) (length-rows_of count columns c.requires.beside) c.requires.along table.apart
     (subst (λ (w : ℕ). All (HasWidth w) c.numbers_of_columns.new.self.keys) c.numbers_of_columns.ensures.width table.wide) c.in_ok-numbers.ensures.numbers
-    (rw (c.as_slice.ensures.value, c.len-groups.ensures.count, c.as_mut_slice.ensures.value) at c.in_ok-gather_all.ensures)))
+    gathers)))
+    gathered

@@ -1,4 +1,4 @@
-use Rattle.std.proofs.Common.{◌≡◌, ◌+◌, ◌++◌, ◌∷◌, [], List, take, ap, ◌∙◌, rules}
+use Rattle.std.proofs.Common.{◌≡◌, ◌+◌, ◌++◌, ◌∷◌, [], List, length, take, ap, sym, ◌∙◌, rules}
 use Rattle.std.proofs.lemmas.List.{take_more}
 use Rattle.std.proofs.lemmas.Option.{get_or_from_slice_get}
 use Rattle.kq_value.specs.declared.value.Value.{Value}
@@ -18,3 +18,10 @@ loop-i-preserved c =
           (Numbers-step c.args.self.now.keys c.loop-i.self.keys c.number.new.self.keys c.loop-i.numbers.items (take i keys) c.in_ok-number.number row c.loop-i.invariant.numbers
           c.in_ok-number.ensures.keys c.in_ok-number.ensures.number.0 c.in_ok-number.ensures.number.1);
     }
+
+pub number-requires-clause-wide : goal.number-requires-clause-wide
+number-requires-clause-wide c =
+    let keys = c.args.keys.now in
+    let i = c.loop-i.i in
+    let row = c.row.result.now in
+    sym (ap length (get_or_from_slice_get keys i row row c.row.ensures)) ∙ c.requires.wide i row (search rules) ∙ sym c.loop-i.invariant.width

@@ -1,7 +1,9 @@
-use Rattle.std.proofs.Common.{◌<◌, ◌∙◌, length, get_or, map, take, arith}
+use Rattle.std.proofs.Common.{◌<◌, ◌∙◌, length, get_or, map, take, refl, subst, arith, rules}
+use Rattle.std.proofs.lemmas.List.{length-map, take_all}
 use Rattle.kq_agg.specs.Alone.{alone, each_alone}
 use Rattle.kq_vector.specs.Vectors.{cell_of}
-use Rattle.kq_group.proofs.ColumnKeys.{take_words}
+use Rattle.kq_group.specs.Keys.{Numbers}
+use Rattle.kq_group.proofs.ColumnKeys.{Numbers-none, known_none, take_words}
 use Rattle.kq_group.proofs.Tables.{Numbers-step}
 use Rattle.kq_group.proofs.key_table.KeyTable.numbers_of_words.Goals as goal
 
@@ -20,3 +22,20 @@ loop-i-preserved c =
           c.in_ok-number.ensures.keys c.in_ok-number.ensures.number.0 c.in_ok-number.ensures.number.1);
       known = c.in_ok-number.ensures.known;
     }
+
+pub loop-i-init : goal.loop-i-init
+loop-i-init c =
+    let keys = c.args.self.now.keys in
+    let words = c.args.words.now in
+    let known = c.in_ok-known.ensures.items_if_clones_equal (λ y same. search rules) in
+    record {
+      table = c.requires.table;
+      width = refl;
+      numbers = rw c.in_ok-numbers.ensures.items (Numbers-none keys c.requires.table.apart);
+      known = rw known (known_none keys words (length words));
+    }
+
+pub returns-clause-numbers : goal.returns-clause-numbers
+returns-clause-numbers c =
+    let cells = map (cell_of c.args.words.now) c.args.codes.now in
+    subst (Numbers c.args.self.now.keys c.loop-i.self.keys c.loop-i.numbers.items) (take_all c.loop-i.i (each_alone cells) (omega (arith, length-map cells alone, length-map c.args.codes.now (cell_of c.args.words.now)))) c.loop-i.invariant.numbers

@@ -5,7 +5,7 @@ use Rattle.kq_columnar.specs.kq_scalar.Val.{surroundings}
 use Rattle.kq_piecewise.specs.Operators.{values_at}
 use Rattle.kq_piecewise.specs.Pieces.{piece_of}
 use Rattle.kq_piecewise.specs.Sources.{rows_from}
-use Rattle.kq_piecewise.proofs.map.sources_of.Given as goal
+use Rattle.kq_piecewise.proofs.map.sources_over.Given as goal
 
 abbrev pub invariant-loop-expr : goal.invariant-loop-expr
 invariant-loop-expr g l =

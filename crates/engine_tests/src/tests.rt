@@ -1,0 +1,5 @@
+mod parts;
+mod query;
+mod steps;
+mod views;
+mod widened;
