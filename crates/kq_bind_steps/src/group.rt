@@ -26,9 +26,9 @@ fn keys_made<N: Names>(
     alloc: Global,
     scope: &Scope<N>,
     flow: &Flow,
-    keys: &Option<Grouping>,
+    keys: &Option<Box<Grouping>>,
 ) -> Result<Made, BindFault>
-    ensures { let items = the.grouping_items (option_map grouping_view keys.now) in
+    ensures { let items = the.grouping_items (option_map (λ b. grouping_view b.value) keys.now) in
         AnswersVerdict made_of (items_made (the_names (scoping_of N.known scope.now)) (the_columns (flow_of flow.now)) [] true made_nothing items) result }
 {
     match keys {
@@ -65,10 +65,10 @@ pub fn grouped<N: Names>(
     flow: Flow,
     first: &Aggregate,
     others: &[Aggregate],
-    keys: &Option<Grouping>,
+    keys: &Option<Box<Grouping>>,
 ) -> Result<Flow, BindFault>
     ensures { let given = aggregate_view first.now ∷ map aggregate_view others.now in
-        let items = the.grouping_items (option_map grouping_view keys.now) in
+        let items = the.grouping_items (option_map (λ b. grouping_view b.value) keys.now) in
         AnswersVerdict flow_of (the.grouped (scoping_of N.known scope.now) (flow_of flow) given items) result }
 {
     let made = keys_made(alloc, scope, &flow, keys)?;

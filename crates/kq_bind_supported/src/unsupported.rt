@@ -51,8 +51,8 @@ fn in_aggregates(text: &str, first: &Aggregate, others: &[Aggregate]) -> Option<
     }
 }
 
-fn in_grouping(text: &str, keys: &Option<Grouping>) -> Option<usize>
-    ensures { result ≡ the.unsupported_grouping text.now (option_map grouping_view keys.now) }
+fn in_grouping(text: &str, keys: &Option<Box<Grouping>>) -> Option<usize>
+    ensures { result ≡ the.unsupported_grouping text.now (option_map (λ b. grouping_view b.value) keys.now) }
 {
     match keys {
         None => None,

@@ -41,7 +41,7 @@ one_source (Source-F.Worded t b) = worded t b
 
 abbrev pub one_from : SourceBody-F ArmTree BodyTree SourceTree FromTree BodyTree (Symbol × BodyTree) TabularTree UnionTree → FromTree
 one_from (SourceBody-F.View t) = view t
-one_from (SourceBody-F.Print i is) = print (item_view i) (map item_view is.items)
+one_from (SourceBody-F.Print i is) = print (item_view i.value) (map item_view is.items)
 one_from (SourceBody-F.Range n a b c) = range n (tree_of a.value) (tree_of b.value) (tree_of c.value)
 one_from (SourceBody-F.Datatable c cs ls) = datatable c cs.items ls.items
 one_from (SourceBody-F.Union u) = union u
@@ -57,22 +57,22 @@ abbrev pub one_operator : Operator-F ArmTree BodyTree SourceTree FromTree BodyTr
 one_operator o = (o.word, o.body)
 
 abbrev pub one_body : OperatorBody-F ArmTree BodyTree SourceTree FromTree BodyTree (Symbol × BodyTree) TabularTree UnionTree → BodyTree
-one_body (OperatorBody-F.Where e) = filter (tree_of e)
-one_body (OperatorBody-F.Extend i is) = extend (item_view i) (map item_view is.items)
-one_body (OperatorBody-F.Project i is) = project (item_view i) (map item_view is.items)
+one_body (OperatorBody-F.Where e) = filter (tree_of e.value)
+one_body (OperatorBody-F.Extend i is) = extend (item_view i.value) (map item_view is.items)
+one_body (OperatorBody-F.Project i is) = project (item_view i.value) (map item_view is.items)
 one_body (OperatorBody-F.ProjectAway n ns) = project_away n ns.items
 one_body (OperatorBody-F.ProjectRename p ps) = project_rename p ps.items
 one_body (OperatorBody-F.Take t) = take t
 one_body OperatorBody-F.Count = count
-one_body (OperatorBody-F.Sort q qs) = sort (key_view q) (map key_view qs.items)
-one_body (OperatorBody-F.Top t q) = top t (key_view q)
+one_body (OperatorBody-F.Sort q qs) = sort (key_view q.value) (map key_view qs.items)
+one_body (OperatorBody-F.Top t q) = top t (key_view q.value)
 one_body (OperatorBody-F.Distinct n ns) = distinct n ns.items
 one_body (OperatorBody-F.DistinctAll t) = distinct_all t
-one_body (OperatorBody-F.Summarize a more g) = summarize (aggregate_view a) (map aggregate_view more.items) (option_map grouping_view g)
-one_body (OperatorBody-F.SummarizeBy g) = summarize_by (grouping_view g)
+one_body (OperatorBody-F.Summarize a more g) = summarize (aggregate_view a) (map aggregate_view more.items) (option_map (λ b. grouping_view b.value) g)
+one_body (OperatorBody-F.SummarizeBy g) = summarize_by (grouping_view g.value)
 one_body (OperatorBody-F.Join j) = j
 one_body (OperatorBody-F.Unite u) = unite u
-one_body (OperatorBody-F.MvExpand i t) = mv_expand (item_view i) t
+one_body (OperatorBody-F.MvExpand i t) = mv_expand (item_view i.value) t
 
 abbrev pub one_join : Join-F ArmTree BodyTree SourceTree FromTree BodyTree (Symbol × BodyTree) TabularTree UnionTree → BodyTree
 one_join j = join j.kind j.right.value j.first j.others.items

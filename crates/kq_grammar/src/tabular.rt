@@ -30,7 +30,7 @@ pub enum Source {
 pub enum SourceBody {
     /// The string behind `materialized_view`.
     View(Symbol),
-    Print(Item, Vec<Item>),
+    Print(Box<Item>, Vec<Item>),
     Range {
         name: Name,
         from: Box<Expression>,
@@ -71,30 +71,31 @@ pub struct Operator {
     pub body: OperatorBody,
 }
 
-/// An operator without its word.
+/// An operator without its word. Parts that hold expressions stand in boxes: Rattle's own compiler refuses a program in which
+/// this type's drop takes each of them apart in place.
 #[cycle(tabular)]
 #[derive(Drop)]
 pub enum OperatorBody {
-    Where(Expression),
-    Extend(Item, Vec<Item>),
-    Project(Item, Vec<Item>),
+    Where(Box<Expression>),
+    Extend(Box<Item>, Vec<Item>),
+    Project(Box<Item>, Vec<Item>),
     ProjectAway(Name, Vec<Name>),
     /// New names, each with the old one.
     ProjectRename((Name, Name), Vec<(Name, Name)>),
     Take(Symbol),
     Count,
-    Sort(Key, Vec<Key>),
-    Top(Symbol, Key),
+    Sort(Box<Key>, Vec<Key>),
+    Top(Symbol, Box<Key>),
     Distinct(Name, Vec<Name>),
     /// `*`, all columns.
     DistinctAll(Symbol),
-    Summarize(Aggregate, Vec<Aggregate>, Option<Grouping>),
+    Summarize(Aggregate, Vec<Aggregate>, Option<Box<Grouping>>),
     /// Without aggregates.
-    SummarizeBy(Grouping),
+    SummarizeBy(Box<Grouping>),
     Join(Join),
     Unite(Union),
     /// The item, and the word of the type where it is said.
-    MvExpand(Item, Option<Symbol>),
+    MvExpand(Box<Item>, Option<Symbol>),
 }
 
 /// The right side of a join: its kind where it is said, its rows, and what it matches on.

@@ -1,11 +1,11 @@
 // Sources and operators that have no sources inside, without their words.
-ghost use Rattle.std.specs.Prelude.{◌≡◌};
+ghost use Rattle.std.specs.Prelude.{◌≡◌, map};
 ghost use Rattle.std.specs.Option.{option_map};
-ghost use Rattle.kq_clause.specs.Reading.{item};
+ghost use Rattle.kq_clause.specs.Reading.{grouping, item, items, keys};
 ghost use Rattle.kq_expression.specs.Reading.{expression};
 ghost use Rattle.kq_grammar.specs.TabularViews.{body_of, from_of};
 ghost use Rattle.kq_grammar.specs.Trees as tree;
-ghost use Rattle.kq_grammar.specs.Views.{grouping_view, item_view, tree_of};
+ghost use Rattle.kq_grammar.specs.Views.{grouping_view, item_view, key_view, tree_of};
 ghost use Rattle.kq_parse.specs.Reading as spec;
 ghost use Rattle.kq_syntax.specs.Classes as k;
 ghost use Rattle.kq_syntax.specs.Classes.{of};
@@ -14,11 +14,11 @@ ghost use Rattle.kq_syntax.specs.Outcomes.{IsOutcome};
 
 use crate::words::expect_table_word;
 use kq_clause::{
-    read_aggregates, read_cells, read_columns, read_grouping, read_item, read_join_kind, read_key,
-    read_names,
+    read_aggregates, read_cells, read_columns, read_grouping, read_item, read_items,
+    read_join_kind, read_key, read_keys, read_names,
 };
 use kq_expression::{read_expression, read_name};
-use kq_grammar::{Cell, Column, Expression, Grouping, Item, Name, OperatorBody, SourceBody};
+use kq_grammar::{Cell, Column, Expression, Grouping, Item, Key, Name, OperatorBody, SourceBody};
 use kq_syntax::{Class, ClauseWord, Cursor, ReservedWord, Stop, Symbol};
 use kq_token::{Operator, Punctuation};
 use std::alloc::Global;
@@ -55,7 +55,19 @@ pub(crate) fn read_range(
     })
 }
 
-// An expression behind a word, in a box, since it is owned while others are read.
+// An expression in a box.
+pub(crate) fn read_boxed_expression(
+    alloc: Global,
+    cursor: &mut Cursor<'_>,
+    budget: usize,
+) -> Result<Box<Expression>, Stop>
+    ensures { IsOutcome (λ b. tree_of b.value) (expression budget cursor.old) result cursor.new }
+{
+    let value = read_expression(alloc, cursor, budget)?;
+    Ok(Box::new(alloc, value)?)
+}
+
+// An expression behind a word, in a box.
 fn read_bound(
     alloc: Global,
     cursor: &mut Cursor<'_>,
@@ -65,8 +77,7 @@ fn read_bound(
     ensures { IsOutcome (λ b. tree_of b.value) (skip (of (k.clause word)) (expression budget) cursor.old) result cursor.new }
 {
     cursor.expect(Class::Clause(word))?;
-    let value = read_expression(alloc, cursor, budget)?;
-    Ok(Box::new(alloc, value)?)
+    read_boxed_expression(alloc, cursor, budget)
 }
 
 fn columns_in_parentheses(
@@ -159,6 +170,30 @@ pub(crate) fn read_kind(cursor: &mut Cursor<'_>) -> Result<Name, Stop>
     read_join_kind(cursor)
 }
 
+// One item or more, the first in a box.
+pub(crate) fn read_boxed_items(
+    alloc: Global,
+    cursor: &mut Cursor<'_>,
+    budget: usize,
+) -> Result<(Box<Item>, Vec<Item>), Stop>
+    ensures { IsOutcome (λ p. (item_view p.0.value, map item_view p.1.items)) (items budget cursor.old) result cursor.new }
+{
+    let (first, others) = read_items(alloc, cursor, budget)?;
+    Ok((Box::new(alloc, first)?, others))
+}
+
+// One key or more, the first in a box.
+pub(crate) fn read_boxed_keys(
+    alloc: Global,
+    cursor: &mut Cursor<'_>,
+    budget: usize,
+) -> Result<(Box<Key>, Vec<Key>), Stop>
+    ensures { IsOutcome (λ p. (key_view p.0.value, map key_view p.1.items)) (keys budget cursor.old) result cursor.new }
+{
+    let (first, others) = read_keys(alloc, cursor, budget)?;
+    Ok((Box::new(alloc, first)?, others))
+}
+
 // What stands behind `top`.
 #[tactic(auto, unfolding(crate::specs::Reading::top))]
 pub(crate) fn read_top(
@@ -170,7 +205,7 @@ pub(crate) fn read_top(
 {
     let count = cursor.expect(Class::WholeNumber)?;
     cursor.expect(Class::Reserved(ReservedWord::By))?;
-    let key = read_key(alloc, cursor, budget)?;
+    let key = Box::new(alloc, read_key(alloc, cursor, budget)?)?;
     Ok(OperatorBody::Top(count, key))
 }
 
@@ -191,18 +226,30 @@ pub(crate) fn read_distinct(
     Ok(OperatorBody::Distinct(first, others))
 }
 
+// `by` and what rows are grouped by, in a box.
+fn read_boxed_grouping(
+    alloc: Global,
+    cursor: &mut Cursor<'_>,
+    budget: usize,
+) -> Result<Box<Grouping>, Stop>
+    ensures { IsOutcome (λ b. grouping_view b.value) (grouping budget cursor.old) result cursor.new }
+{
+    let grouping = read_grouping(alloc, cursor, budget)?;
+    Ok(Box::new(alloc, grouping)?)
+}
+
 // What rows are grouped by, where it is said.
 fn maybe_grouping(
     alloc: Global,
     cursor: &mut Cursor<'_>,
     budget: usize,
-) -> Result<Option<Grouping>, Stop>
-    ensures { IsOutcome (option_map grouping_view) (spec.maybe_grouping budget cursor.old) result cursor.new }
+) -> Result<Option<Box<Grouping>>, Stop>
+    ensures { IsOutcome (option_map (λ b. grouping_view b.value)) (spec.maybe_grouping budget cursor.old) result cursor.new }
 {
     if !cursor.sees(Class::Reserved(ReservedWord::By)) {
         return Ok(None);
     }
-    let grouping = read_grouping(alloc, cursor, budget)?;
+    let grouping = read_boxed_grouping(alloc, cursor, budget)?;
     Ok(Some(grouping))
 }
 
@@ -216,7 +263,7 @@ pub(crate) fn read_summarize(
     ensures { IsOutcome body_of (spec.summarize budget cursor.old) result cursor.new }
 {
     if cursor.sees(Class::Reserved(ReservedWord::By)) {
-        let grouping = read_grouping(alloc, cursor, budget)?;
+        let grouping = read_boxed_grouping(alloc, cursor, budget)?;
         return Ok(OperatorBody::SummarizeBy(grouping));
     }
     let (first, others) = read_aggregates(alloc, cursor, budget)?;
@@ -236,10 +283,10 @@ pub(crate) fn read_expanded(
     alloc: Global,
     cursor: &mut Cursor<'_>,
     budget: usize,
-) -> Result<(Item, Option<Symbol>), Stop>
-    ensures { IsOutcome (λ p. (item_view p.0, p.1)) (both (item budget) spec.maybe_element_type cursor.old) result cursor.new }
+) -> Result<(Box<Item>, Option<Symbol>), Stop>
+    ensures { IsOutcome (λ p. (item_view p.0.value, p.1)) (both (item budget) spec.maybe_element_type cursor.old) result cursor.new }
 {
-    let item = read_item(alloc, cursor, budget)?;
+    let item = Box::new(alloc, read_item(alloc, cursor, budget)?)?;
     let word = maybe_element_type(cursor)?;
     Ok((item, word))
 }

@@ -11,12 +11,13 @@ ghost use Rattle.kq_syntax.specs.Outcomes.{IsOutcome};
 ghost use Rattle.kq_syntax.specs.Several.{first_and_others};
 
 use crate::bodies::{
-    counting, read_datatable, read_distinct, read_expanded, read_kind, read_range, read_summarize,
-    read_table_name, read_top, read_view,
+    counting, read_boxed_expression, read_boxed_items, read_boxed_keys, read_datatable,
+    read_distinct, read_expanded, read_kind, read_range, read_summarize, read_table_name, read_top,
+    read_view,
 };
 use crate::words::{expect_operator_word, expect_source_word, sees_source_word};
-use kq_clause::{read_items, read_join_keys, read_keys, read_names, read_renamings};
-use kq_expression::{read_expression, read_name};
+use kq_clause::{read_join_keys, read_names, read_renamings};
+use kq_expression::read_name;
 use kq_grammar::{
     Arm, Join, JoinKey, Name, Operator, OperatorBody, OperatorKey, Source, SourceBody, Tabular,
     Union,
@@ -147,7 +148,7 @@ impl<F: Fn(Global, &mut Cursor<'_>, usize) -> Result<Box<Tabular>, Stop>> Reader
         match word {
             SourceWord::MaterializedView => Ok(SourceBody::View(read_view(cursor)?)),
             SourceWord::Print => {
-                let (first, others) = read_items(self.alloc, cursor, self.turns)?;
+                let (first, others) = read_boxed_items(self.alloc, cursor, self.turns)?;
                 Ok(SourceBody::Print(first, others))
             }
             SourceWord::Range => read_range(self.alloc, cursor, self.turns),
@@ -196,15 +197,16 @@ impl<F: Fn(Global, &mut Cursor<'_>, usize) -> Result<Box<Tabular>, Stop>> Reader
         ensures { IsOutcome body_of (spec.body (spec.tabular self.now.budget) self.now.turns key cursor.old) result cursor.new }
     {
         match key {
-            OperatorKey::Where => Ok(OperatorBody::Where(read_expression(
-                self.alloc, cursor, self.turns,
-            )?)),
+            OperatorKey::Where => {
+                let condition = read_boxed_expression(self.alloc, cursor, self.turns)?;
+                Ok(OperatorBody::Where(condition))
+            }
             OperatorKey::Extend => {
-                let (first, others) = read_items(self.alloc, cursor, self.turns)?;
+                let (first, others) = read_boxed_items(self.alloc, cursor, self.turns)?;
                 Ok(OperatorBody::Extend(first, others))
             }
             OperatorKey::Project => {
-                let (first, others) = read_items(self.alloc, cursor, self.turns)?;
+                let (first, others) = read_boxed_items(self.alloc, cursor, self.turns)?;
                 Ok(OperatorBody::Project(first, others))
             }
             OperatorKey::ProjectAway => {
@@ -219,7 +221,7 @@ impl<F: Fn(Global, &mut Cursor<'_>, usize) -> Result<Box<Tabular>, Stop>> Reader
             OperatorKey::Count => Ok(counting()),
             OperatorKey::Sort => {
                 cursor.expect(Class::Reserved(ReservedWord::By))?;
-                let (first, others) = read_keys(self.alloc, cursor, self.turns)?;
+                let (first, others) = read_boxed_keys(self.alloc, cursor, self.turns)?;
                 Ok(OperatorBody::Sort(first, others))
             }
             OperatorKey::Top => read_top(self.alloc, cursor, self.turns),
