@@ -71,7 +71,8 @@ pub fn summaries_have_a_row_for_each_key()
 
 /// What comes of a summarize is an overflow exactly where a key or an argument overflows on some row, or the exact sum of the values that a sum takes of the rows with some key is outside its type.
 pub fn summaries_overflow_where_a_part_does()
-    ensures { (es : List Term) (gs : List Aggregating) (cs : List Field) (s : Surroundings) (rows : List Row) (came : Computed (List Row)) → Summarized es gs cs s rows came → (came ≡ Overflow) ↔ SomethingOverflows es gs cs s rows }
+    ensures { (es : List Term) (gs : List Aggregating) (cs : List Field) (s : Surroundings) (rows : List Row) (came : Computed (List Row)) →
+        Summarized es gs cs s rows came → (came ≡ Overflow) ↔ SomethingOverflows es gs cs s rows }
 {}
 
 /// Groups of rows have the different keys of these rows, each once, and what they end with is what a summarize gives. The groups of a view are such groups, over the rows that its operators leave.
