@@ -8,18 +8,17 @@ folder=$(mktemp -d)
 trap 'rm -rf "$folder"' EXIT
 cp -a "$top/crates" "$top/crates.txt" "$folder/"
 [ ! -f "$top/HANDLES" ] || cp "$top/HANDLES" "$folder/"
-echo "bench_expressions: kq_columnar kq_computed kq_expr kq_fn kq_strings kq_value" >>"$folder/crates.txt"
+echo "bench_expressions: kq_eval_columns kq_value kq_plan_expressions kq_plan_functions kq_value_strings" >>"$folder/crates.txt"
 mkdir -p "$folder/crates/bench_expressions/src"
 cat >"$folder/crates/bench_expressions/src/main.rt" <<'RT'
 //! Times of expressions over many rows.
 #![tactic(auto)]
 
-use kq_columnar::{Vector, eval_column};
-use kq_computed::EvalFault;
-use kq_expr::Expr;
-use kq_fn::Function;
-use kq_strings::FindKind;
-use kq_value::{Memory, Text, Value};
+use kq_eval_columns::{Vector, eval_column};
+use kq_plan_expressions::Expr;
+use kq_plan_functions::Function;
+use kq_value_strings::FindKind;
+use kq_value::{EvalFault, Memory, Text, Value};
 use std::alloc::Global;
 use std::io;
 use std::rt::Clock;

@@ -32,20 +32,20 @@ class MemoryTest(unittest.TestCase):
         self.assertEqual(check(self.folder), (0, ""))
 
     def test_a_bound_on_depth_is_found(self):
-        with open(f"{self.folder}/crates/kq_bind_expression/src/depth.rt", "w", encoding="utf-8") as it:
+        with open(f"{self.folder}/crates/kq_bind_expressions/src/depth.rt", "w", encoding="utf-8") as it:
             it.write("fn bounded(depth: usize) -> Result<(), BindFault> {\n    if depth > 0 {\n        return Err(BindFault::Memory);\n    }\n    Ok(())\n}\n")
         status, said = check(self.folder)
         self.assertEqual(status, 1)
-        self.assertIn("kq_bind_expression/depth.rt makes 1 errors of memory", said)
+        self.assertIn("kq_bind_expressions/depth.rt makes 1 errors of memory", said)
 
     def test_one_more_in_a_known_file_is_found(self):
-        self.put("kq_rows/src/rows.rt", "            return Ok(());\n", "            return Err(AllocError);\n")
+        self.put("kq_store_rows/src/rows.rt", "            return Ok(());\n", "            return Err(AllocError);\n")
         status, said = check(self.folder)
         self.assertEqual(status, 1)
-        self.assertIn("kq_rows/rows.rt makes 2 errors of memory", said)
+        self.assertIn("kq_store_rows/rows.rt makes 2 errors of memory", said)
 
     def test_an_error_that_is_handed_on_is_not_counted(self):
-        with open(f"{self.folder}/crates/kq_bind_expression/src/on.rt", "w", encoding="utf-8") as it:
+        with open(f"{self.folder}/crates/kq_bind_expressions/src/on.rt", "w", encoding="utf-8") as it:
             it.write("match part() {\n    Err(BindFault::Memory) => Err(AllocError),\n}\n")
         self.assertEqual(check(self.folder), (0, ""))
 

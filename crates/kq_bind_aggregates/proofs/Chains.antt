@@ -2,15 +2,15 @@
 use Rattle.std.proofs.Common.{◌≡◌, ◌<◌, ℕ, List, [], ◌∷◌, map, length, Vec, None, refl, ap, ◌∙◌, arith}
 use Rattle.std.specs.Prelude.{Box}
 use Rattle.std.specs.declared.alloc.Global.{Global}
-use Rattle.kq_expr.specs.declared.expr.Expr.{Expr}
-use Rattle.kq_expr.specs.declared.expr.Expr.TheVariants.{Chain}
-use Rattle.kq_expr.specs.declared.expr.Link.{Link}
-use Rattle.kq_expr.specs.declared.expr.Link.TheVariants as link
-use Rattle.kq_expr.specs.Operations.{function_of}
-use Rattle.kq_expr.specs.Terms.{Term, call, Terms, no_term, and_term, linked, chained, link_of, term_of}
-use Rattle.kq_expr.specs.kq_fn.Function.{Function}
-use Rattle.kq_expr.specs.kq_fn.TheVariants as f
-use Rattle.kq_expr.proofs.Chains.{term_of_chain}
+use Rattle.kq_plan_expressions.specs.declared.expr.Expr.{Expr}
+use Rattle.kq_plan_expressions.specs.declared.expr.Expr.TheVariants.{Chain}
+use Rattle.kq_plan_expressions.specs.declared.expr.Link.{Link}
+use Rattle.kq_plan_expressions.specs.declared.expr.Link.TheVariants as link
+use Rattle.kq_plan_expressions.specs.Operations.{function_of}
+use Rattle.kq_plan_expressions.specs.Terms.{Term, call, Terms, no_term, and_term, linked, chained, link_of, term_of}
+use Rattle.kq_plan_expressions.specs.kq_plan_functions.Function.{Function}
+use Rattle.kq_plan_expressions.specs.kq_plan_functions.TheVariants as f
+use Rattle.kq_plan_expressions.proofs.Chains.{term_of_chain}
 use Rattle.kq_bind_aggregates.specs.Arguments.{column_number}
 use Rattle.kq_bind_aggregates.specs.Made.{most_said}
 

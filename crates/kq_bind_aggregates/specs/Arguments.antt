@@ -3,11 +3,11 @@ use Rattle.std.specs.Prelude.{ℕ, suc, Bool, false, not, List, [], ◌∷◌, �
 use Rattle.std.specs.List.{filter}
 use Rattle.std.specs.Option.{option_map, option_and_then}
 use Rattle.kq_bind_columns.specs.Naming.{is_taken}
-use Rattle.kq_bind_expression.specs.Bound.{bound}
-use Rattle.kq_bind_expression.specs.Names.{Names}
-use Rattle.kq_bind_expression.specs.Verdicts.{Verdict, and_then}
-use Rattle.kq_expr.specs.Terms.{Term, column, Bound}
-use Rattle.kq_grammar.specs.Trees.{ArgumentTree, value, all}
+use Rattle.kq_bind_expressions.specs.Bound.{bound}
+use Rattle.kq_bind_expressions.specs.Names.{Names}
+use Rattle.kq_bind_expressions.specs.Verdicts.{Verdict, and_then}
+use Rattle.kq_plan_expressions.specs.Terms.{Term, column, Bound}
+use Rattle.kq_read_grammar.specs.Trees.{ArgumentTree, value, all}
 use Rattle.kq_value.specs.declared.schema.Field.{Field}
 
 -- an expression, or nothing for `*`

@@ -5,13 +5,13 @@ use Rattle.kq_bind_aggregates.specs.Functions.{aggregate_named}
 use Rattle.kq_bind_aggregates.specs.Made.{Aggregated, made}
 use Rattle.kq_bind_columns.specs.Items.{field}
 use Rattle.kq_bind_columns.specs.Naming.{is_taken, free_name}
-use Rattle.kq_bind_expression.specs.Names.{Names}
-use Rattle.kq_bind_expression.specs.Verdicts.{Verdict, mistyped, unknown, and_then, or_fault}
-use Rattle.kq_grammar.specs.declared.expression.Name.{Name}
-use Rattle.kq_grammar.specs.Trees.{AggregateTree}
+use Rattle.kq_bind_expressions.specs.Names.{Names}
+use Rattle.kq_bind_expressions.specs.Verdicts.{Verdict, mistyped, unknown, and_then, or_fault}
+use Rattle.kq_read_grammar.specs.declared.expression.Name.{Name}
+use Rattle.kq_read_grammar.specs.Trees.{AggregateTree}
 use Rattle.kq_plan.specs.Plans.{Aggregating}
-use Rattle.kq_bind_columns.specs.kq_spelled.Names.{name_said, name_place}
-use Rattle.kq_bind_columns.specs.kq_spelled.Pieces.{piece}
+use Rattle.kq_bind_columns.specs.kq_read_meanings.Names.{name_said, name_place}
+use Rattle.kq_bind_columns.specs.kq_read_meanings.Pieces.{piece}
 use Rattle.kq_value.specs.declared.schema.Field.{Field}
 
 -- what the aggregates do, and all columns so far, the keys' among them

@@ -8,8 +8,8 @@ use Rattle.kq_bind_aggregates.specs.declared.extremes.Extreme.{Extreme}
 use Rattle.kq_bind_aggregates.specs.declared.extremes.Extreme.TheVariants as extreme
 use Rattle.kq_bind_columns.specs.Chosen.{columns_at}
 use Rattle.kq_bind_columns.specs.Items.{field}
-use Rattle.kq_bind_expression.specs.Apply.{as_taken}
-use Rattle.kq_expr.specs.Terms.{Term, literal, Bound}
+use Rattle.kq_bind_expressions.specs.Apply.{as_taken}
+use Rattle.kq_plan_expressions.specs.Terms.{Term, literal, Bound}
 use Rattle.kq_plan.specs.Plans.{Aggregating, rows_counted, summed, least_of, greatest_of, at_greatest, at_least, any_of, set_of}
 use Rattle.kq_value.specs.declared.schema.Field.{Field}
 use Rattle.kq_value.specs.declared.ty.Ty.{Ty}

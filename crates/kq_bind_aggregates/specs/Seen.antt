@@ -12,8 +12,8 @@ use Rattle.kq_bind_aggregates.specs.declared.gathered.Gathered.{Gathered}
 use Rattle.kq_bind_aggregates.specs.declared.made.Aggregated.{Aggregated}
 use Rattle.kq_bind_aggregates.specs.Gathered.{Gathering}
 use Rattle.kq_bind_aggregates.specs.Made.{Aggregated as Plain}
-use Rattle.kq_expr.specs.declared.expr.Typed.{Typed}
-use Rattle.kq_expr.specs.Terms.{Bound, typed_of}
+use Rattle.kq_plan_expressions.specs.declared.expr.Typed.{Typed}
+use Rattle.kq_plan_expressions.specs.Terms.{Bound, typed_of}
 use Rattle.kq_plan.specs.Plans.{aggregating_of}
 use Rattle.kq_value.specs.declared.schema.Field.{Field}
 

@@ -1,7 +1,7 @@
 -- The place of the leftmost literal of aggregates that isn't supported.
 use Rattle.std.specs.Prelude.{ℕ, List, [], ◌∷◌, Option, None}
-use Rattle.kq_bind_expression.specs.Unsupported.{or_later, unsupported_in}
-use Rattle.kq_grammar.specs.Trees.{ArgumentTree, value, all, AggregateTree}
+use Rattle.kq_bind_expressions.specs.Unsupported.{or_later, unsupported_in}
+use Rattle.kq_read_grammar.specs.Trees.{ArgumentTree, value, all, AggregateTree}
 
 abbrev pub unsupported_argument : List ℕ → ArgumentTree → Option ℕ
 unsupported_argument text (value e) = unsupported_in text e

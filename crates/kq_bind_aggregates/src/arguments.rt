@@ -3,15 +3,15 @@ ghost use Rattle.std.specs.Prelude.{◌≡◌, ◌++◌, map, IfOk};
 ghost use Rattle.std.specs.Option.{option_map};
 ghost use Rattle.kq_bind_aggregates.specs.Arguments as the;
 ghost use Rattle.kq_bind_aggregates.specs.Seen.{argued_of, all_seen, given_of, several_of, numbers_of};
-ghost use Rattle.kq_bind_expression.specs.Names.{names_of};
-ghost use Rattle.kq_bind_expression.specs.Verdicts.{AnswersVerdict};
-ghost use Rattle.kq_expr.specs.Terms.{term_of, typed_of};
-ghost use Rattle.kq_grammar.specs.Views.{argument_view};
+ghost use Rattle.kq_bind_expressions.specs.Names.{names_of};
+ghost use Rattle.kq_bind_expressions.specs.Verdicts.{AnswersVerdict};
+ghost use Rattle.kq_plan_expressions.specs.Terms.{term_of, typed_of};
+ghost use Rattle.kq_read_grammar.specs.Views.{argument_view};
 
 use kq_bind_columns::is_taken;
-use kq_bind_expression::{BindFault, Scope, bind_expression};
-use kq_expr::{Expr, Typed};
-use kq_grammar::Argument;
+use kq_bind_expressions::{BindFault, Scope, bind_expression};
+use kq_plan_expressions::{Expr, Typed};
+use kq_read_grammar::Argument;
 use kq_value::{Field, Memory};
 use std::alloc::Global;
 

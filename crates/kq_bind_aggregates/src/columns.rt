@@ -3,10 +3,10 @@ ghost use Rattle.std.specs.Prelude.{◌≡◌, IfOk};
 ghost use Rattle.std.specs.Option.{option_map};
 ghost use Rattle.kq_bind_aggregates.specs.Made as the;
 ghost use Rattle.kq_bind_aggregates.specs.Seen.{text_of};
-ghost use Rattle.kq_expr.specs.Terms.{term_of};
+ghost use Rattle.kq_plan_expressions.specs.Terms.{term_of};
 
 use crate::arguments::column_number;
-use kq_expr::Expr;
+use kq_plan_expressions::Expr;
 use kq_value::{Field, Memory, Text, Ty};
 use std::alloc::Global;
 

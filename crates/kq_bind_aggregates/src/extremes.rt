@@ -4,15 +4,15 @@ ghost use Rattle.std.specs.Option.{option_map, option_and_then};
 ghost use Rattle.kq_bind_aggregates.specs.Arguments.{only as the_only, several as the_several};
 ghost use Rattle.kq_bind_aggregates.specs.Made as the;
 ghost use Rattle.kq_bind_aggregates.specs.Seen.{given_of, aggregated_of};
-ghost use Rattle.kq_expr.specs.Terms.{term_of};
+ghost use Rattle.kq_plan_expressions.specs.Terms.{term_of};
 ghost use Rattle.kq_plan.specs.Plans.{aggregating_of};
 
 use crate::arguments::{Given, column_number, only, several, with_arguments};
 use crate::columns::{behind, column_name, one_column, own_name};
 use crate::made::Aggregated;
 use kq_bind_columns::columns_at;
-use kq_expr::Expr;
 use kq_plan::Aggregate;
+use kq_plan_expressions::Expr;
 use kq_value::{Field, Memory, Ty};
 use std::alloc::Global;
 

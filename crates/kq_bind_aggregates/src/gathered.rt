@@ -3,17 +3,17 @@ ghost use Rattle.std.specs.Prelude.{◌≡◌, ◌∷◌, [], map, IfOk, Ok};
 ghost use Rattle.kq_bind_aggregates.specs.Functions.{aggregate_named};
 ghost use Rattle.kq_bind_aggregates.specs.Gathered as the;
 ghost use Rattle.kq_bind_aggregates.specs.Seen.{fields_of, gathering_of, aggregated_of};
-ghost use Rattle.kq_bind_expression.specs.Names.{names_of};
-ghost use Rattle.kq_bind_expression.specs.Verdicts.{AnswersVerdict};
-ghost use Rattle.kq_grammar.specs.Views.{aggregate_view};
+ghost use Rattle.kq_bind_expressions.specs.Names.{names_of};
+ghost use Rattle.kq_bind_expressions.specs.Verdicts.{AnswersVerdict};
+ghost use Rattle.kq_read_grammar.specs.Views.{aggregate_view};
 
 use crate::arguments::{all_argued, unkeyed};
 use crate::function::find;
 use crate::made::{Aggregated, made};
 use kq_bind_columns::{free_name, is_taken, name_place, name_text, piece};
-use kq_bind_expression::{BindFault, Scope};
-use kq_grammar::Name;
+use kq_bind_expressions::{BindFault, Scope};
 use kq_plan::Aggregate;
+use kq_read_grammar::Name;
 use kq_value::{Field, Memory, Text};
 use std::alloc::Global;
 
@@ -34,14 +34,17 @@ pub fn no_aggregate(alloc: Global, keys: Vec<Field>) -> Gathered
     }
 }
 
-/// What aggregates are bound to over these columns, behind the columns of the keys, or their first fault: of each the called name, its arguments from left to right, their types, and then the name that it is given. That name is the first column's; the others, and all where none is given, have default names, with the least suffix 1, 2, 3 that is free where a name is taken. `*` stands for the columns whose name isn't a key's, beside a value for all of these but its own.
+/// What aggregates are bound to over these columns, behind the columns of the keys, or their first fault: of each the called name, its arguments from
+/// left to right, their types, and then the name that it is given. That name is the first column's; the others, and all where none is given, have
+/// default names, with the least suffix 1, 2, 3 that is free where a name is taken. `*` stands for the columns whose name isn't a key's, beside a
+/// value for all of these but its own.
 pub fn aggregates_made(
     alloc: Global,
     scope: &Scope,
     columns: &[Field],
     keys: Vec<Field>,
-    first: &kq_grammar::Aggregate,
-    others: &[kq_grammar::Aggregate],
+    first: &kq_read_grammar::Aggregate,
+    others: &[kq_read_grammar::Aggregate],
 ) -> Result<Gathered, BindFault>
     ensures { let given = aggregate_view first.now ∷ map aggregate_view others.now in
         AnswersVerdict gathering_of (the.aggregates_made (names_of scope.now) columns.now keys.items (the.no_aggregate keys.items) given) result }
@@ -58,7 +61,7 @@ fn each_made(
     columns: &[Field],
     starred: &[usize],
     before: Gathered,
-    aggregates: &[kq_grammar::Aggregate],
+    aggregates: &[kq_read_grammar::Aggregate],
 ) -> Result<Gathered, BindFault>
     ensures { let given = map aggregate_view aggregates.now in
         AnswersVerdict gathering_of (the.each_made (names_of scope.now) columns.now starred.now (gathering_of before) given) result }
@@ -76,7 +79,7 @@ fn aggregate_made(
     columns: &[Field],
     starred: &[usize],
     before: Gathered,
-    aggregate: &kq_grammar::Aggregate,
+    aggregate: &kq_read_grammar::Aggregate,
 ) -> Result<Gathered, BindFault>
     ensures { let given = aggregate_view aggregate.now in
         AnswersVerdict gathering_of (the.aggregate_made (names_of scope.now) columns.now starred.now (gathering_of before) given) result }

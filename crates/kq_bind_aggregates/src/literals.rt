@@ -1,10 +1,10 @@
 // Literals that aren't supported.
 ghost use Rattle.std.specs.Prelude.{◌≡◌, map};
 ghost use Rattle.kq_bind_aggregates.specs.Unsupported as the;
-ghost use Rattle.kq_grammar.specs.Views.{aggregate_view, argument_view};
+ghost use Rattle.kq_read_grammar.specs.Views.{aggregate_view, argument_view};
 
-use kq_bind_expression::unsupported;
-use kq_grammar::{Aggregate, Argument};
+use kq_bind_expressions::unsupported;
+use kq_read_grammar::{Aggregate, Argument};
 
 fn in_argument(text: &str, argument: &Argument) -> Option<usize>
     ensures { result ≡ the.unsupported_argument text.now (argument_view argument.now) }

@@ -12,7 +12,7 @@ use crate::extremes::{Extreme, extreme_row, extreme_value};
 use crate::function::AggregateFunction;
 use crate::sets::most_given;
 use kq_bind_columns::columns_at;
-use kq_bind_expression::taken;
+use kq_bind_expressions::taken;
 use kq_plan::Aggregate;
 use kq_value::{Field, Memory, Text, Ty};
 use std::alloc::Global;

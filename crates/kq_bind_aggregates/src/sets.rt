@@ -2,9 +2,9 @@
 ghost use Rattle.std.specs.Prelude.{◌≡◌, map};
 ghost use Rattle.kq_bind_aggregates.specs.Made as the;
 ghost use Rattle.kq_bind_aggregates.specs.Seen.{argued_of};
-ghost use Rattle.kq_expr.specs.Terms.{term_of};
+ghost use Rattle.kq_plan_expressions.specs.Terms.{term_of};
 
-use kq_expr::{Expr, Typed};
+use kq_plan_expressions::{Expr, Typed};
 use kq_value::Value;
 
 // Where it isn't said.

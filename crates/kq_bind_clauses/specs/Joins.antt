@@ -3,20 +3,20 @@ use Rattle.std.specs.Prelude.{ℕ, Bool, ◌&&◌, not, List, [], ◌∷◌, ◌
 use Rattle.kq_bind_columns.specs.Chosen.{place_in}
 use Rattle.kq_bind_columns.specs.Items.{field}
 use Rattle.kq_bind_columns.specs.Naming.{free_name}
-use Rattle.kq_bind_expression.specs.Verdicts.{Verdict, mistyped, and_then}
-use Rattle.kq_grammar.specs.declared.clause.JoinKey.{JoinKey}
-use Rattle.kq_grammar.specs.declared.clause.JoinKey.TheVariants as key
-use Rattle.kq_grammar.specs.declared.expression.Name.{Name}
-use Rattle.kq_grammar.specs.declared.expression.Name.TheVariants as shown
+use Rattle.kq_bind_expressions.specs.Verdicts.{Verdict, mistyped, and_then}
+use Rattle.kq_read_grammar.specs.declared.clause.JoinKey.{JoinKey}
+use Rattle.kq_read_grammar.specs.declared.clause.JoinKey.TheVariants as key
+use Rattle.kq_read_grammar.specs.declared.expression.Name.{Name}
+use Rattle.kq_read_grammar.specs.declared.expression.Name.TheVariants as shown
 use Rattle.kq_plan.specs.declared.work.JoinKind.{JoinKind}
 use Rattle.kq_plan.specs.declared.work.JoinKind.TheVariants as join
-use Rattle.kq_bind_columns.specs.kq_spelled.Names.{name_place}
-use Rattle.kq_syntax.specs.declared.kind.Kind.{Kind}
-use Rattle.kq_syntax.specs.declared.kind.Kind.TheVariants as kind
-use Rattle.kq_syntax.specs.declared.kind.Quoted.TheVariants as quoted
-use Rattle.kq_syntax.specs.declared.word.JoinKind.{JoinKind as Said}
-use Rattle.kq_syntax.specs.declared.word.JoinKind.TheVariants as said
-use Rattle.kq_syntax.specs.declared.word.Word.TheVariants as word
+use Rattle.kq_bind_columns.specs.kq_read_meanings.Names.{name_place}
+use Rattle.kq_read_symbols.specs.declared.kind.Kind.{Kind}
+use Rattle.kq_read_symbols.specs.declared.kind.Kind.TheVariants as kind
+use Rattle.kq_read_symbols.specs.declared.kind.Quoted.TheVariants as quoted
+use Rattle.kq_read_symbols.specs.declared.word.JoinKind.{JoinKind as Said}
+use Rattle.kq_read_symbols.specs.declared.word.JoinKind.TheVariants as said
+use Rattle.kq_read_symbols.specs.declared.word.Word.TheVariants as word
 use Rattle.kq_value.specs.declared.schema.Field.{Field}
 use Rattle.kq_value.specs.declared.ty.Ty.{Ty}
 use Rattle.kq_value.specs.declared.ty.Ty.TheVariants as ty

@@ -5,4 +5,4 @@ pub mod Tables
 pub mod Ranges
 pub mod Seen
 pub mod kq_bind_columns
-pub mod kq_bind_expression
+pub mod kq_bind_expressions

@@ -2,15 +2,15 @@
 use Rattle.std.specs.Prelude.{ℕ, true, List, [], ◌∷◌, Option, Some, None, Ok, Err, if◌then◌else◌}
 use Rattle.kq_bind_columns.specs.Defaults.{first_token}
 use Rattle.kq_bind_columns.specs.Items.{field}
-use Rattle.kq_bind_expression.specs.Apply.{as_taken}
-use Rattle.kq_bind_expression.specs.Bound.{bound}
-use Rattle.kq_bind_expression.specs.Names.{Names}
-use Rattle.kq_bind_expression.specs.Verdicts.{Verdict, mistyped, and_then, or_fault}
-use Rattle.kq_expr.specs.Terms.{Term, Bound}
-use Rattle.kq_expr.specs.kq_fn.Table.{widened}
-use Rattle.kq_grammar.specs.declared.expression.Name.{Name}
-use Rattle.kq_grammar.specs.Trees.{Tree}
-use Rattle.kq_bind_columns.specs.kq_spelled.Names.{name_said}
+use Rattle.kq_bind_expressions.specs.Apply.{as_taken}
+use Rattle.kq_bind_expressions.specs.Bound.{bound}
+use Rattle.kq_bind_expressions.specs.Names.{Names}
+use Rattle.kq_bind_expressions.specs.Verdicts.{Verdict, mistyped, and_then, or_fault}
+use Rattle.kq_plan_expressions.specs.Terms.{Term, Bound}
+use Rattle.kq_plan_expressions.specs.kq_plan_functions.Table.{widened}
+use Rattle.kq_read_grammar.specs.declared.expression.Name.{Name}
+use Rattle.kq_read_grammar.specs.Trees.{Tree}
+use Rattle.kq_bind_columns.specs.kq_read_meanings.Names.{name_said}
 use Rattle.kq_value.specs.declared.schema.Field.{Field}
 use Rattle.kq_value.specs.declared.ty.Ty.{Ty}
 use Rattle.kq_value.specs.declared.ty.Ty.TheVariants as ty
@@ -36,7 +36,8 @@ as_long x = (as_taken true x, widened x.1)
 abbrev pub of_this_type : ℕ → Ty → Bound → Verdict Term
 of_this_type at t x = if same_ty x.1 t then Ok x.0 else Err (mistyped at)
 
--- the first whose type doesn't fit, where ints are longs: the first value has one of the three types, the last that of the first, and the step its own
+-- the first whose type doesn't fit, where ints are longs: the first value has one of the three types, the last that of the first, and the step its
+-- own
 abbrev pub range_typed : ℕ → ℕ → ℕ → Bound → Bound → Bound → Verdict Ranging
 range_typed at_first at_last at_step a b c =
     and_then (or_fault (mistyped at_first) (step_type a.1)) (λ t.

@@ -5,7 +5,7 @@ use Rattle.kq_bind_clauses.specs.declared.tables.Tabling.{Tabling}
 use Rattle.kq_bind_clauses.specs.declared.unions.ArmColumns.{ArmColumns}
 use Rattle.kq_bind_clauses.specs.Ranges.{Ranging}
 use Rattle.kq_bind_clauses.specs.Tables.{Tabled}
-use Rattle.kq_expr.specs.Terms.{term_of}
+use Rattle.kq_plan_expressions.specs.Terms.{term_of}
 use Rattle.kq_plan.specs.Plans.{cells_seen}
 use Rattle.kq_value.specs.declared.schema.Field.{Field}
 

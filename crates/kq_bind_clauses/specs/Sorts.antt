@@ -1,17 +1,17 @@
 -- What rows are sorted by.
 use Rattle.std.specs.Prelude.{ℕ, Bool, true, false, not, List, [], ◌∷◌, Option, Some, None, Ok}
 use Rattle.kq_bind_columns.specs.Items.{operand}
-use Rattle.kq_bind_expression.specs.Names.{Names}
-use Rattle.kq_bind_expression.specs.Unsupported.{or_later, unsupported_in}
-use Rattle.kq_bind_expression.specs.Verdicts.{Verdict, and_then}
-use Rattle.kq_expr.specs.Terms.{Bound}
-use Rattle.kq_grammar.specs.Trees.{KeyTree}
+use Rattle.kq_bind_expressions.specs.Names.{Names}
+use Rattle.kq_bind_expressions.specs.Unsupported.{or_later, unsupported_in}
+use Rattle.kq_bind_expressions.specs.Verdicts.{Verdict, and_then}
+use Rattle.kq_plan_expressions.specs.Terms.{Bound}
+use Rattle.kq_read_grammar.specs.Trees.{KeyTree}
 use Rattle.kq_plan.specs.Plans.{Sorting}
-use Rattle.kq_syntax.specs.declared.kind.Kind.{Kind}
-use Rattle.kq_syntax.specs.declared.kind.Kind.TheVariants as kind
-use Rattle.kq_syntax.specs.declared.kind.Symbol.{Symbol}
-use Rattle.kq_syntax.specs.declared.word.ClauseWord.TheVariants as clause
-use Rattle.kq_syntax.specs.declared.word.Word.TheVariants as word
+use Rattle.kq_read_symbols.specs.declared.kind.Kind.{Kind}
+use Rattle.kq_read_symbols.specs.declared.kind.Kind.TheVariants as kind
+use Rattle.kq_read_symbols.specs.declared.kind.Symbol.{Symbol}
+use Rattle.kq_read_symbols.specs.declared.word.ClauseWord.TheVariants as clause
+use Rattle.kq_read_symbols.specs.declared.word.Word.TheVariants as word
 use Rattle.kq_value.specs.declared.schema.Field.{Field}
 
 abbrev pub is_ascending : Kind → Bool

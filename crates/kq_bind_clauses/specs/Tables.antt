@@ -1,20 +1,20 @@
 -- The columns and the rows of a datatable.
 use Rattle.std.specs.Prelude.{ℕ, ℤ, Bool, true, false, List, [], ◌∷◌, ◌++◌, Option, Some, None, Ok, Err, if◌then◌else◌, option_and_then}
-use Rattle.kq_arithmetic.specs.Arithmetic.{negated}
+use Rattle.kq_value_arithmetic.specs.Arithmetic.{negated}
 use Rattle.kq_bind_columns.specs.Items.{field}
 use Rattle.kq_bind_columns.specs.Naming.{is_taken}
-use Rattle.kq_bind_expression.specs.Unsupported.{or_later, unless_some, valueless}
-use Rattle.kq_bind_expression.specs.Verdicts.{Verdict, unsupported, mistyped, and_then, or_fault}
-use Rattle.kq_computed.specs.Computed.{Computed, Is, Overflow}
-use Rattle.kq_grammar.specs.declared.clause.Cell.{Cell}
-use Rattle.kq_grammar.specs.declared.clause.Column.{Column}
-use Rattle.kq_bind_columns.specs.kq_spelled.Literals.{literal_value}
-use Rattle.kq_bind_columns.specs.kq_spelled.Names.{name_said, name_place}
-use Rattle.kq_bind_columns.specs.kq_spelled.Pieces.{piece}
-use Rattle.kq_bind_columns.specs.kq_spelled.Types.{ty_of}
-use Rattle.kq_syntax.specs.declared.kind.Kind.{Kind}
-use Rattle.kq_syntax.specs.declared.kind.Kind.TheVariants as kind
-use Rattle.kq_syntax.specs.declared.kind.Symbol.{Symbol}
+use Rattle.kq_bind_expressions.specs.Unsupported.{or_later, unless_some, valueless}
+use Rattle.kq_bind_expressions.specs.Verdicts.{Verdict, unsupported, mistyped, and_then, or_fault}
+use Rattle.kq_value.specs.Computed.{Computed, Is, Overflow}
+use Rattle.kq_read_grammar.specs.declared.clause.Cell.{Cell}
+use Rattle.kq_read_grammar.specs.declared.clause.Column.{Column}
+use Rattle.kq_bind_columns.specs.kq_read_meanings.Literals.{literal_value}
+use Rattle.kq_bind_columns.specs.kq_read_meanings.Names.{name_said, name_place}
+use Rattle.kq_bind_columns.specs.kq_read_meanings.Pieces.{piece}
+use Rattle.kq_bind_columns.specs.kq_read_meanings.Types.{ty_of}
+use Rattle.kq_read_symbols.specs.declared.kind.Kind.{Kind}
+use Rattle.kq_read_symbols.specs.declared.kind.Kind.TheVariants as kind
+use Rattle.kq_read_symbols.specs.declared.kind.Symbol.{Symbol}
 use Rattle.kq_value.specs.declared.schema.Field.{Field}
 use Rattle.kq_value.specs.declared.ty.Ty.{Ty}
 use Rattle.kq_value.specs.declared.ty.Ty.TheVariants as ty
@@ -22,7 +22,7 @@ use Rattle.kq_value.specs.declared.value.Value.{Value}
 use Rattle.kq_value.specs.declared.value.Value.TheVariants as cell
 use Rattle.kq_value.specs.Ty.{same_ty}
 use Rattle.kq_value.specs.Typed.{type_of}
-use Rattle.kq_arithmetic.specs.kq_written.Numerals.{is_int}
+use Rattle.kq_value_arithmetic.specs.kq_value_formats.Numerals.{is_int}
 
 -- ---- the columns
 

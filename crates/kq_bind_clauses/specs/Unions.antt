@@ -4,13 +4,13 @@ use Rattle.std.specs.List.{filter, insert, list_any}
 use Rattle.std.specs.Cmp.Lexicographic.{pointwise}
 use Rattle.kq_bind_columns.specs.Items.{field}
 use Rattle.kq_bind_columns.specs.Naming.{is_taken, free_name}
-use Rattle.kq_bind_expression.specs.Lookup.{first_named}
+use Rattle.kq_bind_expressions.specs.Lookup.{first_named}
 use Rattle.kq_plan.specs.Plans.{Filling}
-use Rattle.kq_syntax.specs.declared.kind.Kind.{Kind}
-use Rattle.kq_syntax.specs.declared.kind.Kind.TheVariants as kind
-use Rattle.kq_syntax.specs.declared.kind.Symbol.{Symbol}
-use Rattle.kq_syntax.specs.declared.word.JoinKind.TheVariants as said
-use Rattle.kq_syntax.specs.declared.word.Word.TheVariants as word
+use Rattle.kq_read_symbols.specs.declared.kind.Kind.{Kind}
+use Rattle.kq_read_symbols.specs.declared.kind.Kind.TheVariants as kind
+use Rattle.kq_read_symbols.specs.declared.kind.Symbol.{Symbol}
+use Rattle.kq_read_symbols.specs.declared.word.JoinKind.TheVariants as said
+use Rattle.kq_read_symbols.specs.declared.word.Word.TheVariants as word
 use Rattle.kq_value.specs.declared.schema.Field.{Field}
 use Rattle.kq_value.specs.declared.ty.Ty.{Ty}
 use Rattle.kq_value.specs.declared.ty.Ty.TheVariants as ty

@@ -1,13 +1,13 @@
 // What joins match on, and the columns that they give.
 ghost use Rattle.std.specs.Prelude.{◌≡◌, ◌∷◌, IfOk};
 ghost use Rattle.kq_bind_clauses.specs.Joins.{kind_said as the_kind_said, kind_of as the_kind_of, join_kind as the_join_kind, is_key as the_is_key, matched as the_matched, on_key as the_on_key, on_keys as the_on_keys, beside as the_beside, join_columns as the_join_columns};
-ghost use Rattle.kq_bind_expression.specs.Verdicts.{AnswersVerdict};
+ghost use Rattle.kq_bind_expressions.specs.Verdicts.{AnswersVerdict};
 
 use kq_bind_columns::{free_name, name_place, place_in};
-use kq_bind_expression::BindFault;
-use kq_grammar::{JoinKey, Name};
+use kq_bind_expressions::BindFault;
 use kq_plan::JoinKind;
-use kq_syntax::{JoinKind as KindWord, Kind, Quoted, Word};
+use kq_read_grammar::{JoinKey, Name};
+use kq_read_symbols::{JoinKind as KindWord, Kind, Quoted, Word};
 use kq_value::{Field, Memory, Ty};
 use std::alloc::Global;
 
@@ -93,7 +93,8 @@ fn on_key(
     }
 }
 
-/// For each key the numbers, from 0, of the left column and of the right one that match, or the first fault: Unknown at a name of no column of its side, in the order of the text; Mistyped where the two types differ or are dynamic, at the `==`, or else at the name.
+/// For each key the numbers, from 0, of the left column and of the right one that match, or the first fault: Unknown at a name of no column of its
+/// side, in the order of the text; Mistyped where the two types differ or are dynamic, at the `==`, or else at the name.
 pub fn on_keys(
     alloc: Global,
     text: &str,
@@ -127,7 +128,8 @@ fn beside(alloc: Global, left: Vec<Field>, right: Vec<Field>) -> Result<Vec<Fiel
     Ok(columns)
 }
 
-/// The columns of a join: those of one side for `semi` and `anti`, and else the left ones and then the right ones, where a right one whose name is taken has the least suffix 1, 2, 3 that is free.
+/// The columns of a join: those of one side for `semi` and `anti`, and else the left ones and then the right ones, where a right one whose name is
+/// taken has the least suffix 1, 2, 3 that is free.
 pub fn join_columns(
     alloc: Global,
     kind: JoinKind,

@@ -2,16 +2,16 @@
 ghost use Rattle.std.specs.Prelude.{◌≡◌, IfOk};
 ghost use Rattle.kq_bind_clauses.specs.Seen.{ranging_of};
 ghost use Rattle.kq_bind_clauses.specs.Ranges.{step_type as the_step_type, as_long as the_as_long, of_this_type as the_of_this_type, range_typed as the_range_typed, ranged as the_ranged, range_column as the_range_column};
-ghost use Rattle.kq_bind_expression.specs.Names.{names_of};
-ghost use Rattle.kq_bind_expression.specs.Verdicts.{AnswersVerdict};
-ghost use Rattle.kq_expr.specs.Terms.{term_of, typed_of};
-ghost use Rattle.kq_expr.specs.kq_fn.Table.{widened as the_widened};
-ghost use Rattle.kq_grammar.specs.Views.{tree_of};
+ghost use Rattle.kq_bind_expressions.specs.Names.{names_of};
+ghost use Rattle.kq_bind_expressions.specs.Verdicts.{AnswersVerdict};
+ghost use Rattle.kq_plan_expressions.specs.Terms.{term_of, typed_of};
+ghost use Rattle.kq_plan_expressions.specs.kq_plan_functions.Table.{widened as the_widened};
+ghost use Rattle.kq_read_grammar.specs.Views.{tree_of};
 
 use kq_bind_columns::{first_token, name_text};
-use kq_bind_expression::{BindFault, Scope, bind_expression, taken};
-use kq_expr::{Expr, Typed};
-use kq_grammar::{Expression, Name};
+use kq_bind_expressions::{BindFault, Scope, bind_expression, taken};
+use kq_plan_expressions::{Expr, Typed};
+use kq_read_grammar::{Expression, Name};
 use kq_value::{Field, Memory, Ty};
 use std::alloc::Global;
 
@@ -85,7 +85,9 @@ fn range_typed(
     })
 }
 
-/// The values of a range from the first to the last by the step, each of which is bound over no column. Ints are longs; the first is a long, a datetime or a timespan, the last of its type, and the step a long for longs and else a timespan. After the faults of all three, the leftmost of another type is Mistyped at its first token.
+/// The values of a range from the first to the last by the step, each of which is bound over no column. Ints are longs; the first is a long, a
+/// datetime or a timespan, the last of its type, and the step a long for longs and else a timespan. After the faults of all three, the leftmost of
+/// another type is Mistyped at its first token.
 pub fn ranged(
     alloc: Global,
     scope: &Scope,

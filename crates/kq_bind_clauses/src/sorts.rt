@@ -1,18 +1,18 @@
 // What rows are sorted by.
 ghost use Rattle.std.specs.Prelude.{◌≡◌, ◌∷◌, map};
 ghost use Rattle.kq_bind_clauses.specs.Sorts.{is_ascending as the_is_ascending, is_first as the_is_first, descends as the_descends, nulls_come_first as the_nulls_come_first, sorting as the_sorting, sort_key as the_sort_key, sort_keys as the_sort_keys, unsupported_keys as the_unsupported_keys};
-ghost use Rattle.kq_bind_expression.specs.Names.{names_of};
-ghost use Rattle.kq_bind_expression.specs.Verdicts.{AnswersVerdict};
-ghost use Rattle.kq_expr.specs.Terms.{typed_of};
-ghost use Rattle.kq_grammar.specs.Views.{key_view};
+ghost use Rattle.kq_bind_expressions.specs.Names.{names_of};
+ghost use Rattle.kq_bind_expressions.specs.Verdicts.{AnswersVerdict};
+ghost use Rattle.kq_plan_expressions.specs.Terms.{typed_of};
+ghost use Rattle.kq_read_grammar.specs.Views.{key_view};
 ghost use Rattle.kq_plan.specs.Plans.{sorting_of};
 
 use kq_bind_columns::operand;
-use kq_bind_expression::{BindFault, Scope, unsupported};
-use kq_expr::Typed;
-use kq_grammar::Key;
+use kq_bind_expressions::{BindFault, Scope, unsupported};
 use kq_plan::SortKey;
-use kq_syntax::{ClauseWord, Kind, Symbol, Word};
+use kq_plan_expressions::Typed;
+use kq_read_grammar::Key;
+use kq_read_symbols::{ClauseWord, Kind, Symbol, Word};
 use kq_value::Field;
 use std::alloc::Global;
 
@@ -56,7 +56,8 @@ fn sorting(key: &Key, one: Typed) -> SortKey
     }
 }
 
-/// A key of `sort` or `top`, bound over these columns. Rows descend unless the key says `asc`; nulls come last where they descend and first where they ascend, unless it says where. A dynamic is Mistyped at the first token of the key.
+/// A key of `sort` or `top`, bound over these columns. Rows descend unless the key says `asc`; nulls come last where they descend and first where
+/// they ascend, unless it says where. A dynamic is Mistyped at the first token of the key.
 pub fn sort_key(
     alloc: Global,
     scope: &Scope,

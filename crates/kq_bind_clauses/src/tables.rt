@@ -2,15 +2,15 @@
 ghost use Rattle.std.specs.Prelude.{◌≡◌, [], ◌∷◌, ◌++◌, Ok, map};
 ghost use Rattle.kq_bind_clauses.specs.Seen.{tabled_of};
 ghost use Rattle.kq_bind_clauses.specs.Tables.{word_type as the_word_type, put_column as the_put_column, table_columns as the_table_columns, takes_sign as the_takes_sign, with_sign as the_with_sign, if_int as the_if_int, as_int as the_as_int, of_column as the_of_column, place_of as the_place_of, signed_in as the_signed_in, cell_made as the_cell_made, rows_made as the_rows_made, none_left, tabled as the_tabled, typeless as the_typeless, unsupported_columns as the_unsupported_columns, unsupported_cells as the_unsupported_cells};
-ghost use Rattle.kq_bind_expression.specs.Verdicts.{AnswersVerdict, and_then};
+ghost use Rattle.kq_bind_expressions.specs.Verdicts.{AnswersVerdict, and_then};
 ghost use Rattle.kq_plan.specs.Plans.{cells_seen};
 
-use kq_arithmetic::negated;
 use kq_bind_columns::{is_taken, literal_value, name_place, name_text, piece, ty_of};
-use kq_bind_expression::{BindFault, valueless};
-use kq_grammar::{Cell, Column};
-use kq_syntax::{Kind, Symbol};
+use kq_bind_expressions::{BindFault, valueless};
+use kq_read_grammar::{Cell, Column};
+use kq_read_symbols::{Kind, Symbol};
 use kq_value::{Field, Ty, Value};
+use kq_value_arithmetic::negated;
 use std::alloc::Global;
 
 /// What a datatable is bound to: its columns, and rows of a value for each.
@@ -190,7 +190,10 @@ fn if_whole(at: usize, rows: Vec<Vec<Value>>, row: &[Value]) -> Result<Vec<Vec<V
     }
 }
 
-/// The columns and the rows of a datatable whose word stands at this place, or its first fault: of the columns and then of the cells, from left to right, and then Mistyped at the word where the last row isn't whole. A name that is given twice is Mistyped, as is a cell of another type than its column's, at its minus or literal; a minus goes before a long, an int or a timespan alone, and a whole number in a column of ints stands for an int.
+/// The columns and the rows of a datatable whose word stands at this place, or its first fault: of the columns and then of the cells, from left to
+/// right, and then Mistyped at the word where the last row isn't whole. A name that is given twice is Mistyped, as is a cell of another type than its
+/// column's, at its minus or literal; a minus goes before a long, an int or a timespan alone, and a whole number in a column of ints stands for an
+/// int.
 pub fn tabled(
     alloc: Global,
     text: &str,

@@ -6,9 +6,9 @@ ghost use Rattle.kq_bind_clauses.specs.Unions.{is_inner_word as the_is_inner_wor
 ghost use Rattle.kq_plan.specs.Plans.{filling_of};
 
 use kq_bind_columns::free_name;
-use kq_bind_expression::first_named;
+use kq_bind_expressions::first_named;
 use kq_plan::Arm;
-use kq_syntax::{JoinKind, Kind, Symbol, Word};
+use kq_read_symbols::{JoinKind, Kind, Symbol, Word};
 use kq_value::{Field, Memory, Text, Ty};
 use std::alloc::Global;
 
@@ -126,7 +126,8 @@ fn common_columns(alloc: Global, arms: &[ArmColumns]) -> Result<Vec<Field>, Memo
     }
 }
 
-/// The columns of the arms by name and type, from which those of the union are made and filled. An inner union has those that all arms have with one type, in the order of the first arm. An outer one has all: the names in the order of first appearance, and the types of a name likewise.
+/// The columns of the arms by name and type, from which those of the union are made and filled. An inner union has those that all arms have with one
+/// type, in the order of the first arm. An outer one has all: the names in the order of first appearance, and the types of a name likewise.
 pub fn union_sources(alloc: Global, inner: bool, arms: &[ArmColumns]) -> Result<Vec<Field>, Memory>
     ensures { IfOk result (λ v. v.items ≡ the_union_sources inner (map columns_in (map arm_of arms.now))) }
 {
@@ -206,7 +207,8 @@ fn names_made(alloc: Global, columns: &[Field], kept: Vec<Field>) -> Result<Vec<
     Ok(made)
 }
 
-/// The columns of a union, of `union_sources` in their order. A name of one type is kept; one of several becomes, for each type, the name with `_` and the word of the type, as `x_long`, with the least suffix 1, 2, 3 that is free where a column of the union has it already.
+/// The columns of a union, of `union_sources` in their order. A name of one type is kept; one of several becomes, for each type, the name with `_`
+/// and the word of the type, as `x_long`, with the least suffix 1, 2, 3 that is free where a column of the union has it already.
 pub fn union_columns(alloc: Global, sources: &[Field]) -> Result<Vec<Field>, Memory>
     ensures { IfOk result (λ v. v.items ≡ the_union_columns sources.now) }
 {

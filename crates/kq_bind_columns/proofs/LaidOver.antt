@@ -3,8 +3,8 @@ use Rattle.std.proofs.Common.{◌≡◌, ℕ, zero, suc, ◌+◌, ◌<◌, List,
 use Rattle.std.specs.List.{zip}
 use Rattle.std.proofs.lemmas.List.{map-append}
 use Rattle.kq_bind_columns.specs.Laying.{Columns, all_laid, as_they_are, laid}
-use Rattle.kq_expr.specs.declared.expr.Expr.{Expr}
-use Rattle.kq_expr.specs.Terms.{Term, term_of, column}
+use Rattle.kq_plan_expressions.specs.declared.expr.Expr.{Expr}
+use Rattle.kq_plan_expressions.specs.Terms.{Term, term_of, column}
 use Rattle.kq_value.specs.declared.schema.Field.{Field}
 
 -- ---- each column as it is

@@ -4,11 +4,11 @@ use Rattle.std.specs.List.{list_any}
 use Rattle.kq_bind_columns.specs.Items.{field}
 use Rattle.kq_bind_columns.specs.Naming.{is_taken}
 use Rattle.kq_bind_columns.specs.Laying.{Columns}
-use Rattle.kq_bind_expression.specs.Lookup.{first_named}
-use Rattle.kq_bind_expression.specs.Verdicts.{Verdict, mistyped, unknown, and_then, or_fault}
-use Rattle.kq_expr.specs.Terms.{column}
-use Rattle.kq_grammar.specs.declared.expression.Name.{Name}
-use Rattle.kq_bind_expression.specs.kq_spelled.Names.{name_said, name_place}
+use Rattle.kq_bind_expressions.specs.Lookup.{first_named}
+use Rattle.kq_bind_expressions.specs.Verdicts.{Verdict, mistyped, unknown, and_then, or_fault}
+use Rattle.kq_plan_expressions.specs.Terms.{column}
+use Rattle.kq_read_grammar.specs.declared.expression.Name.{Name}
+use Rattle.kq_bind_expressions.specs.kq_read_meanings.Names.{name_said, name_place}
 use Rattle.kq_value.specs.declared.schema.Field.{Field}
 use Rattle.kq_value.specs.declared.ty.Ty.{Ty}
 use Rattle.kq_value.specs.declared.ty.Ty.TheVariants as ty

@@ -1,12 +1,12 @@
 -- The name that an expression has of itself, and its first token.
 use Rattle.std.specs.Prelude.{ℕ, Bool, true, false, List, ◌++◌, Option, Some, None, codes, if◌then◌else◌}
 use Rattle.kq_bind_columns.specs.Naming.{is_taken}
-use Rattle.kq_bind_expression.specs.kq_fn.Function.{Function}
-use Rattle.kq_bind_expression.specs.kq_fn.TheVariants as f
-use Rattle.kq_bind_expression.specs.kq_fn.Names.{function_named}
-use Rattle.kq_grammar.specs.Trees.{Tree, name, literal, group, call, path, signed, compare, within, between, chain, and_tree, member, no_step}
-use Rattle.kq_bind_expression.specs.kq_spelled.Names.{name_said, name_place}
-use Rattle.kq_bind_expression.specs.kq_spelled.Pieces.{piece}
+use Rattle.kq_bind_expressions.specs.kq_plan_functions.Function.{Function}
+use Rattle.kq_bind_expressions.specs.kq_plan_functions.TheVariants as f
+use Rattle.kq_bind_expressions.specs.kq_plan_functions.Names.{function_named}
+use Rattle.kq_read_grammar.specs.Trees.{Tree, name, literal, group, call, path, signed, compare, within, between, chain, and_tree, member, no_step}
+use Rattle.kq_bind_expressions.specs.kq_read_meanings.Names.{name_said, name_place}
+use Rattle.kq_bind_expressions.specs.kq_read_meanings.Pieces.{piece}
 use Rattle.kq_value.specs.declared.schema.Field.{Field}
 
 -- ---- the first token

@@ -2,14 +2,14 @@
 use Rattle.std.specs.Prelude.{ℕ, ◌+◌, Bool, true, false, List, [], ◌∷◌, ◌++◌, Option, Some, None, Ok, Err, codes, if◌then◌else◌}
 use Rattle.kq_bind_columns.specs.Defaults.{first_token, default_name}
 use Rattle.kq_bind_columns.specs.Naming.{is_taken, free_name, numbered}
-use Rattle.kq_bind_expression.specs.Bound.{bound}
-use Rattle.kq_bind_expression.specs.Names.{Names}
-use Rattle.kq_bind_expression.specs.Unsupported.{or_later, unsupported_in}
-use Rattle.kq_bind_expression.specs.Verdicts.{Verdict, mistyped, and_then}
-use Rattle.kq_expr.specs.Terms.{Term, Bound}
-use Rattle.kq_grammar.specs.declared.expression.Name.{Name}
-use Rattle.kq_grammar.specs.Trees.{Tree, ItemTree, plain, named}
-use Rattle.kq_bind_expression.specs.kq_spelled.Names.{name_said, name_place}
+use Rattle.kq_bind_expressions.specs.Bound.{bound}
+use Rattle.kq_bind_expressions.specs.Names.{Names}
+use Rattle.kq_bind_expressions.specs.Unsupported.{or_later, unsupported_in}
+use Rattle.kq_bind_expressions.specs.Verdicts.{Verdict, mistyped, and_then}
+use Rattle.kq_plan_expressions.specs.Terms.{Term, Bound}
+use Rattle.kq_read_grammar.specs.declared.expression.Name.{Name}
+use Rattle.kq_read_grammar.specs.Trees.{Tree, ItemTree, plain, named}
+use Rattle.kq_bind_expressions.specs.kq_read_meanings.Names.{name_said, name_place}
 use Rattle.kq_value.specs.declared.schema.Field.{Field}
 use Rattle.kq_value.specs.declared.ty.Ty.{Ty}
 use Rattle.kq_value.specs.declared.ty.Ty.TheVariants as ty

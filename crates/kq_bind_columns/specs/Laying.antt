@@ -2,8 +2,8 @@
 use Rattle.std.specs.Prelude.{ℕ, suc, List, [], ◌∷◌, ◌++◌, Option, Some, None, slice_set}
 use Rattle.std.specs.List.{zip}
 use Rattle.kq_bind_columns.specs.Items.{Making}
-use Rattle.kq_bind_expression.specs.Lookup.{first_named}
-use Rattle.kq_expr.specs.Terms.{Term, column}
+use Rattle.kq_bind_expressions.specs.Lookup.{first_named}
+use Rattle.kq_plan_expressions.specs.Terms.{Term, column}
 use Rattle.kq_value.specs.declared.schema.Field.{Field}
 use Rattle.kq_value.specs.declared.ty.Ty.{Ty}
 

@@ -5,5 +5,5 @@ pub mod Printed
 pub mod Laying
 pub mod Chosen
 pub mod Made
-pub mod kq_spelled
-pub mod kq_bind_expression
+pub mod kq_read_meanings
+pub mod kq_bind_expressions

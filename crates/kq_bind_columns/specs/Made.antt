@@ -4,7 +4,7 @@ use Rattle.kq_bind_columns.specs.declared.items.Made.{Made}
 use Rattle.kq_bind_columns.specs.declared.laying.Laid.{Laid}
 use Rattle.kq_bind_columns.specs.Items.{Making}
 use Rattle.kq_bind_columns.specs.Laying.{Columns}
-use Rattle.kq_expr.specs.Terms.{term_of}
+use Rattle.kq_plan_expressions.specs.Terms.{term_of}
 
 abbrev pub made_of : Made → Making
 made_of m = record { terms = map term_of m.exprs.items; fields = m.fields.items; unnamed = m.unnamed }

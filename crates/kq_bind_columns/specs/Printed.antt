@@ -2,10 +2,10 @@
 use Rattle.std.specs.Prelude.{ℕ, ◌+◌, List, [], ◌∷◌, Ok, codes}
 use Rattle.kq_bind_columns.specs.Naming.{numbered}
 use Rattle.kq_bind_columns.specs.Items.{Making, nothing_made, put_default, put_given}
-use Rattle.kq_bind_expression.specs.Names.{Names}
-use Rattle.kq_bind_expression.specs.Bound.{bound}
-use Rattle.kq_bind_expression.specs.Verdicts.{Verdict, and_then}
-use Rattle.kq_grammar.specs.Trees.{ItemTree, plain, named}
+use Rattle.kq_bind_expressions.specs.Names.{Names}
+use Rattle.kq_bind_expressions.specs.Bound.{bound}
+use Rattle.kq_bind_expressions.specs.Verdicts.{Verdict, and_then}
+use Rattle.kq_read_grammar.specs.Trees.{ItemTree, plain, named}
 
 -- an expression without a name is named by its position, from 0
 abbrev pub position_name : ℕ → List ℕ

@@ -2,12 +2,12 @@
 ghost use Rattle.std.specs.Prelude.{◌≡◌, false, [], ◌∷◌, IfOk, map, slice_get};
 ghost use Rattle.kq_bind_columns.specs.Chosen.{has_number as the_has_number, choose as the_choose, place_in as the_place_in, chosen as the_chosen, all_chosen as the_all_chosen, columns_at as the_columns_at, without as the_without};
 ghost use Rattle.kq_bind_columns.specs.Made.{columns_of};
-ghost use Rattle.kq_bind_expression.specs.Verdicts.{AnswersVerdict, and_then};
-ghost use Rattle.kq_bind_expression.specs.kq_spelled.Names.{name_place as place_of};
+ghost use Rattle.kq_bind_expressions.specs.Verdicts.{AnswersVerdict, and_then};
+ghost use Rattle.kq_bind_expressions.specs.kq_read_meanings.Names.{name_place as place_of};
 
 use crate::laying::{Laid, column};
-use kq_bind_expression::{BindFault, first_named, name_place, name_text};
-use kq_grammar::Name;
+use kq_bind_expressions::{BindFault, first_named, name_place, name_text};
+use kq_read_grammar::Name;
 use kq_value::{Field, Memory, Ty};
 use std::alloc::Global;
 
@@ -66,7 +66,8 @@ fn also_chosen(
     choose(before, keys, name_place(name), number, ty)
 }
 
-/// The numbers, from 0, of the columns that the names name, in the order of the names: for `distinct`, with `keys`, and for `project-away`. A name of no column is Unknown; one of a column that is chosen before, or with `keys` of a dynamic, is Mistyped, each at the name.
+/// The numbers, from 0, of the columns that the names name, in the order of the names: for `distinct`, with `keys`, and for `project-away`. A name of
+/// no column is Unknown; one of a column that is chosen before, or with `keys` of a dynamic, is Mistyped, each at the name.
 pub fn chosen(
     alloc: Global,
     text: &str,

@@ -1,13 +1,13 @@
 // The names that expressions have of themselves.
 ghost use Rattle.std.specs.Prelude.{◌≡◌, IfOk, map};
 ghost use Rattle.kq_bind_columns.specs.Defaults.{if_column as the_if_column, column_of as the_column_of, path_name as the_path_name, name_kept as the_name_kept, default_name as the_default_name, keeps_column as the_keeps_column, keeps_path as the_keeps_path, joined_names as the_joined_names};
-ghost use Rattle.kq_grammar.specs.Trees.{path, member};
-ghost use Rattle.kq_grammar.specs.Views.{tree_of, step_of, steps_of};
-ghost use Rattle.kq_bind_expression.specs.kq_spelled.Names.{name_said};
+ghost use Rattle.kq_read_grammar.specs.Trees.{path, member};
+ghost use Rattle.kq_read_grammar.specs.Views.{tree_of, step_of, steps_of};
+ghost use Rattle.kq_bind_expressions.specs.kq_read_meanings.Names.{name_said};
 
 use crate::naming::is_taken;
-use kq_bind_expression::{Function, find, name_text, piece};
-use kq_grammar::{Expression, Name, Step, Symbol};
+use kq_bind_expressions::{Function, find, name_text, piece};
+use kq_read_grammar::{Expression, Name, Step, Symbol};
 use kq_value::{Field, Memory, Text};
 use std::alloc::Global;
 
@@ -169,7 +169,8 @@ fn name_kept(
     Ok(None)
 }
 
-/// The name that an expression has of itself: that of the column that it is; of a column's member, both joined by `_`; and of a call that leaves a name, as `bin` and `tolong`, its first argument's. Parentheses change nothing.
+/// The name that an expression has of itself: that of the column that it is; of a column's member, both joined by `_`; and of a call that leaves a
+/// name, as `bin` and `tolong`, its first argument's. Parentheses change nothing.
 pub fn default_name(
     alloc: Global,
     text: &str,

@@ -2,17 +2,17 @@
 ghost use Rattle.std.specs.Prelude.{◌≡◌, ◌≤◌, ◌+◌, ◌^◌, ◌∷◌, IfOk, Ok, OnErr, map};
 ghost use Rattle.kq_bind_columns.specs.Items.{nothing_made as made_nothing, put as the_put, put_default as the_put_default, put_own as the_put_own, put_given as the_put_given, as_key as the_as_key, operand as the_operand, item_made as the_item_made, items_made as the_items_made, unsupported_item as in_item, unsupported_items as in_items};
 ghost use Rattle.kq_bind_columns.specs.Made.{made_of};
-ghost use Rattle.kq_bind_expression.specs.Names.{names_of};
-ghost use Rattle.kq_bind_expression.specs.Verdicts.{AnswersVerdict};
-ghost use Rattle.kq_expr.specs.Terms.{typed_of};
-ghost use Rattle.kq_grammar.specs.Views.{tree_of, item_view};
+ghost use Rattle.kq_bind_expressions.specs.Names.{names_of};
+ghost use Rattle.kq_bind_expressions.specs.Verdicts.{AnswersVerdict};
+ghost use Rattle.kq_plan_expressions.specs.Terms.{typed_of};
+ghost use Rattle.kq_read_grammar.specs.Views.{tree_of, item_view};
 
 use crate::defaults::default_name;
 use crate::naming::{free_name, is_taken, numbered};
 use crate::places::first_token;
-use kq_bind_expression::{BindFault, Scope, bind_expression, name_place, name_text, unsupported};
-use kq_expr::{Expr, Typed};
-use kq_grammar::{Expression, Item, Name};
+use kq_bind_expressions::{BindFault, Scope, bind_expression, name_place, name_text, unsupported};
+use kq_plan_expressions::{Expr, Typed};
+use kq_read_grammar::{Expression, Item, Name};
 use kq_value::{Field, Memory, Text, Ty};
 use std::alloc::{AllocError, Global};
 
@@ -170,7 +170,8 @@ fn item_made(
     }
 }
 
-/// The items, bound over the columns, behind what is made, or their first fault from left to right; an expression is bound before its given name is tested. A suffix of a default name avoids the `avoided` columns too: for `extend`, the columns that come. As `keys` no item may be a dynamic.
+/// The items, bound over the columns, behind what is made, or their first fault from left to right; an expression is bound before its given name is
+/// tested. A suffix of a default name avoids the `avoided` columns too: for `extend`, the columns that come. As `keys` no item may be a dynamic.
 pub fn items_made(
     alloc: Global,
     scope: &Scope,

@@ -3,11 +3,11 @@ ghost use Rattle.std.specs.Prelude.{◌≡◌, IfOk, map, slice_set};
 ghost use Rattle.std.specs.List.{zip};
 ghost use Rattle.kq_bind_columns.specs.Laying.{as_they_are as the_as_they_are, laid as the_laid, all_laid as the_all_laid, over as the_over};
 ghost use Rattle.kq_bind_columns.specs.Made.{made_of, columns_of};
-ghost use Rattle.kq_expr.specs.Terms.{term_of, column as the_column};
+ghost use Rattle.kq_plan_expressions.specs.Terms.{term_of, column as the_column};
 
 use crate::items::Made;
-use kq_bind_expression::first_named;
-use kq_expr::Expr;
+use kq_bind_expressions::first_named;
+use kq_plan_expressions::Expr;
 use kq_value::{Field, Memory};
 use std::alloc::Global;
 

@@ -1,4 +1,6 @@
-//! The binder of columns: the items of an operator become typed expressions under names of their own, those that are given and the default ones; columns are laid over others, chosen by name, left out and renamed. What an expression is bound to is `kq_bind_expression`'s; sources, operators, plans, and that Unsupported is told before every other fault, are left to others.
+//! The binder of columns: the items of an operator become typed expressions under names of their own, those that are given and the default ones;
+//! columns are laid over others, chosen by name, left out and renamed. What an expression is bound to is `kq_bind_expressions`'s; sources, operators,
+//! plans, and that Unsupported is told before every other fault, are left to others.
 #![tactic(auto)]
 
 mod choosing;
@@ -15,7 +17,7 @@ pub use defaults::{column_of, default_name};
 pub use items::{
     Made, all_made, items_made, nothing_made, operand, unsupported_item, unsupported_items,
 };
-pub use kq_bind_expression::{
+pub use kq_bind_expressions::{
     BindFault, Scope, bind_expression, first_named, literal_value, name_place, name_text, piece,
     taken, ty_of, unsupported, valueless,
 };

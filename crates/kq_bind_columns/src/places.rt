@@ -1,10 +1,10 @@
 // The first token of an expression.
 ghost use Rattle.std.specs.Prelude.{◌≡◌};
 ghost use Rattle.kq_bind_columns.specs.Defaults.{first_token as token_of};
-ghost use Rattle.kq_grammar.specs.Views.{tree_of};
+ghost use Rattle.kq_read_grammar.specs.Views.{tree_of};
 
-use kq_bind_expression::name_place;
-use kq_grammar::Expression;
+use kq_bind_expressions::name_place;
+use kq_read_grammar::Expression;
 
 /// Where an expression begins: the place of a fault that is the expression's as a whole.
 pub fn first_token(tree: &Expression) -> usize

@@ -2,14 +2,14 @@
 ghost use Rattle.std.specs.Prelude.{◌≡◌, ◌∷◌, map};
 ghost use Rattle.kq_bind_columns.specs.Made.{made_of};
 ghost use Rattle.kq_bind_columns.specs.Printed.{item_printed, items_printed, printed as the_printed};
-ghost use Rattle.kq_bind_expression.specs.Names.{names_of};
-ghost use Rattle.kq_bind_expression.specs.Verdicts.{AnswersVerdict};
-ghost use Rattle.kq_grammar.specs.Views.{item_view};
+ghost use Rattle.kq_bind_expressions.specs.Names.{names_of};
+ghost use Rattle.kq_bind_expressions.specs.Verdicts.{AnswersVerdict};
+ghost use Rattle.kq_read_grammar.specs.Views.{item_view};
 
 use crate::items::{Made, nothing_made, put_default, put_given};
 use crate::naming::numbered;
-use kq_bind_expression::{BindFault, Scope, bind_expression};
-use kq_grammar::Item;
+use kq_bind_expressions::{BindFault, Scope, bind_expression};
+use kq_read_grammar::Item;
 use std::alloc::Global;
 
 fn print_item(
@@ -50,7 +50,8 @@ fn print_others(
     Ok(made)
 }
 
-/// The one row that `print` makes, or its first fault from left to right; an expression is bound before its given name is tested. An expression without a name is print_0, print_1 and so on by its position among all items, with the least free suffix 1, 2, 3 where that is taken.
+/// The one row that `print` makes, or its first fault from left to right; an expression is bound before its given name is tested. An expression
+/// without a name is print_0, print_1 and so on by its position among all items, with the least free suffix 1, 2, 3 where that is taken.
 pub fn printed(
     alloc: Global,
     scope: &Scope,

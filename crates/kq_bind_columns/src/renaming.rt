@@ -1,11 +1,11 @@
 // New names of columns.
 ghost use Rattle.std.specs.Prelude.{◌≡◌, ◌∷◌, IfOk, map};
 ghost use Rattle.kq_bind_columns.specs.Chosen.{names_given as the_names_given, new_name as the_new_name, renamed as the_renamed};
-ghost use Rattle.kq_bind_expression.specs.Verdicts.{AnswersVerdict};
+ghost use Rattle.kq_bind_expressions.specs.Verdicts.{AnswersVerdict};
 
 use crate::naming::is_taken;
-use kq_bind_expression::{BindFault, name_place, name_text};
-use kq_grammar::Name;
+use kq_bind_expressions::{BindFault, name_place, name_text};
+use kq_read_grammar::Name;
 use kq_value::{Field, Memory, Text, Ty};
 use std::alloc::Global;
 
@@ -50,7 +50,8 @@ fn all_given(
     Ok(given)
 }
 
-/// What the first name of each pair says, beside the columns that keep their names: for `project-rename`. The first of them that is such a column's name, or that of a pair before it, is Mistyped.
+/// What the first name of each pair says, beside the columns that keep their names: for `project-rename`. The first of them that is such a column's
+/// name, or that of a pair before it, is Mistyped.
 pub fn names_given(
     alloc: Global,
     text: &str,

@@ -4,10 +4,10 @@ use Rattle.kq_bind_aggregates.specs.Unsupported.{unsupported_aggregates}
 use Rattle.kq_bind_clauses.specs.Sorts.{unsupported_keys}
 use Rattle.kq_bind_clauses.specs.Tables.{typeless, unsupported_columns, unsupported_cells}
 use Rattle.kq_bind_clauses.specs.kq_bind_columns.Items.{unsupported_item, unsupported_items}
-use Rattle.kq_bind_clauses.specs.kq_bind_expression.Unsupported.{or_later, valueless, unsupported_in}
-use Rattle.kq_grammar.specs.Trees.{Tree, ItemTree, GroupingTree, TabularTree, pipeline, SourceTree, table, nested, worded, FromTree, view, print, range, datatable, union, UnionTree, arms, ArmTree, named_arm, nested_arm, Arms, no_arm, and_arm, Operators, no_operator, and_operator, BodyTree, filter, extend, project, project_away, project_rename, take, count, sort, top, distinct, distinct_all, summarize, summarize_by, join, unite, mv_expand, LetTree, QueryTree}
-use Rattle.kq_syntax.specs.Choices.{Right, scalar, table as tabular_alone, either}
-use Rattle.kq_syntax.specs.declared.kind.Symbol.{Symbol}
+use Rattle.kq_bind_clauses.specs.kq_bind_expressions.Unsupported.{or_later, valueless, unsupported_in}
+use Rattle.kq_read_grammar.specs.Trees.{Tree, ItemTree, GroupingTree, TabularTree, pipeline, SourceTree, table, nested, worded, FromTree, view, print, range, datatable, union, UnionTree, arms, ArmTree, named_arm, nested_arm, Arms, no_arm, and_arm, Operators, no_operator, and_operator, BodyTree, filter, extend, project, project_away, project_rename, take, count, sort, top, distinct, distinct_all, summarize, summarize_by, join, unite, mv_expand, LetTree, QueryTree}
+use Rattle.kq_read_symbols.specs.Choices.{Right, scalar, table as tabular_alone, either}
+use Rattle.kq_read_symbols.specs.declared.kind.Symbol.{Symbol}
 
 abbrev pub unsupported_grouping : List ℕ → Option GroupingTree → Option ℕ
 unsupported_grouping text None = None

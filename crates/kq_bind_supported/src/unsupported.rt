@@ -5,9 +5,9 @@ ghost use Rattle.kq_bind_supported.specs.Unsupported as the;
 ghost use Rattle.kq_bind_aggregates.specs.Unsupported.{unsupported_aggregates as aggregates_in};
 ghost use Rattle.kq_bind_clauses.specs.Tables.{unsupported_columns, unsupported_cells};
 ghost use Rattle.kq_bind_clauses.specs.kq_bind_columns.Items.{unsupported_items};
-ghost use Rattle.kq_bind_clauses.specs.kq_bind_expression.Unsupported.{or_later};
-ghost use Rattle.kq_grammar.specs.TabularViews.{tabular_of, source_of, from_of, union_of, arm_of, arms_of, operator_of, operators_of, body_of, join_of, right_of, let_of, query_of};
-ghost use Rattle.kq_grammar.specs.Views.{tree_of, item_view, aggregate_view, grouping_view};
+ghost use Rattle.kq_bind_clauses.specs.kq_bind_expressions.Unsupported.{or_later};
+ghost use Rattle.kq_read_grammar.specs.TabularViews.{tabular_of, source_of, from_of, union_of, arm_of, arms_of, operator_of, operators_of, body_of, join_of, right_of, let_of, query_of};
+ghost use Rattle.kq_read_grammar.specs.Views.{tree_of, item_view, aggregate_view, grouping_view};
 
 use kq_bind_aggregates::{unsupported_aggregate, unsupported_aggregates};
 use kq_bind_clauses::{
@@ -15,11 +15,11 @@ use kq_bind_clauses::{
     unsupported_columns as columns_unsupported, unsupported_item,
     unsupported_items as items_unsupported, unsupported_keys, valueless,
 };
-use kq_grammar::{
+use kq_read_grammar::{
     Aggregate, Arm, Cell, Column, Expression, Grouping, Item, Join, Let, LetRight, Operator,
     OperatorBody, Query, Source, SourceBody, Tabular, Union,
 };
-use kq_syntax::Symbol;
+use kq_read_symbols::Symbol;
 
 fn in_range(text: &str, first: &Expression, last: &Expression, step: &Expression) -> Option<usize>
     ensures { result ≡ the.unsupported_range text.now (tree_of first.now) (tree_of last.now) (tree_of step.now) }

@@ -2,7 +2,7 @@
 use Rattle.std.proofs.Common.{◌≡◌, ◌≤◌, ◌^◌, ◌-◌, ℕ, List, ap, slice_index_or}
 use native.Mathlib.Bridge.{le_prop}
 use mathlib.Core.HLevel.{is_prop→PathP}
-use Rattle.kq_model.specs.declared.limits.Limits.{Limits}
+use Rattle.kq_catalog_journal.specs.declared.limits.Limits.{Limits}
 use Rattle.kq_catalog.specs.Grown.{numbers_of}
 
 nth : (n : ℕ) (a b : Limits) → numbers_of a ≡ numbers_of b → slice_index_or (numbers_of a) n 0 ≡ slice_index_or (numbers_of b) n 0

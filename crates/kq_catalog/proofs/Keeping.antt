@@ -12,23 +12,23 @@ use Rattle.std.proofs.lemmas.Option.{slice_get-map}
 use Rattle.kq_value.specs.declared.record.Record.{Record}
 use Rattle.kq_value.specs.declared.schema.Field.{Field}
 use Rattle.kq_value.specs.Typed.{HasTypes}
-use Rattle.kq_widened.specs.Widened.{widened_record, widened_records}
-use Rattle.kq_widened.proofs.Widened.{widened_records-same, widened_records-twice, widened_records-typed}
-use Rattle.kq_extent.specs.Seen.{ExtentView, HeldExtents, held_records, records_in, row_of}
-use Rattle.kq_extent.specs.Split.{is_small, put}
-use Rattle.kq_extent.specs.Wide.{wide, wide_held}
-use Rattle.kq_extent.proofs.Wide.{held_records-wide}
-use Rattle.kq_model.specs.declared.table.Table.{Table}
-use Rattle.kq_model.specs.Edits.{changed, tables_after, FitsTables, FitAll}
-use Rattle.kq_model.proofs.Edited.{edited, edited_by, empty_state, with_records, with_columns}
-use Rattle.kq_model.specs.Records.{ExtentItem, is_small_item}
-use Rattle.kq_model.specs.Tables.{TableState}
+use Rattle.kq_store_rows.specs.Widened.{widened_record, widened_records}
+use Rattle.kq_store_rows.proofs.WidenedLemmas.{widened_records-same, widened_records-twice, widened_records-typed}
+use Rattle.kq_store_extent.specs.Seen.{ExtentView, HeldExtents, held_records, records_in, row_of}
+use Rattle.kq_store_extent.specs.Split.{is_small, put}
+use Rattle.kq_store_extent.specs.Wide.{wide, wide_held}
+use Rattle.kq_store_extent.proofs.Wide.{held_records-wide}
+use Rattle.kq_catalog_journal.specs.declared.table.Table.{Table}
+use Rattle.kq_catalog_journal.specs.Edits.{changed, tables_after, FitsTables, FitAll}
+use Rattle.kq_catalog_journal.proofs.Edited.{edited, edited_by, empty_state, with_records, with_columns}
+use Rattle.kq_catalog_journal.specs.Records.{ExtentItem, is_small_item}
+use Rattle.kq_catalog_journal.specs.Tables.{TableState}
 use Rattle.kq_catalog.specs.declared.edit.Change.{Change}
 use Rattle.kq_catalog.specs.declared.edit.Change.TheVariants.{PutTable, PutExtent, PutColumns}
 use Rattle.kq_catalog.specs.Edits.{edit_of, edits_by, empty_table, with_extent, put_in, put_all, wider_table}
 use Rattle.kq_catalog.specs.Held.{HeldTable, tables_in, extent_item, AreItems, IsHeld}
-use Rattle.kq_model.specs.Changed.{changed}
-use Rattle.kq_model.specs.History.{widened_table}
+use Rattle.kq_catalog_journal.specs.Changed.{changed}
+use Rattle.kq_catalog_journal.specs.History.{widened_table}
 
 -- a change at one place keeps a relation at each
 pub AllZip-changed : {X Y : Type 0} (R : X → Y → Type 0) (f : X → X) (g : Y → Y) (n : ℕ) (xs : List X) (ys : List Y) → ((x : X) (y : Y) → slice_get xs n ≡ Some x → R x y → R (f x) (g y)) → AllZip R xs ys → AllZip R (changed f n xs) (changed g n ys)

@@ -1,9 +1,9 @@
 -- The enabled entries, listed one after another.
 use Rattle.std.proofs.Common.{◌≡◌, ◌<◌, ◌+◌, ℕ, List, [], ◌++◌, length, drop, get_or, ap, sym, ◌∙◌, append_assoc}
 use Rattle.std.proofs.lemmas.List.{at_drop_more}
-use Rattle.kq_model.specs.declared.policy.Due.{Due}
-use Rattle.kq_model.specs.declared.policy.Entry.{Entry}
-use Rattle.kq_model.specs.Enabled.{enabled_in, enabled_from}
+use Rattle.kq_catalog_journal.specs.declared.policy.Due.{Due}
+use Rattle.kq_catalog_journal.specs.declared.policy.Entry.{Entry}
+use Rattle.kq_catalog_journal.specs.Enabled.{enabled_in, enabled_from}
 
 -- one more policy
 pub enabled_from-next : (target : ℕ) (policies : List (List Entry)) → target < length policies

@@ -10,29 +10,29 @@ use Rattle.std.proofs.lemmas.List.Sorted.{IsPermutation-refl, IsPermutation-sym,
 use Rattle.kq_value.specs.declared.record.Record.{Record}
 use Rattle.kq_value.specs.declared.record_id.RecordId.{RecordId}
 use Rattle.kq_value.specs.declared.schema.Field.{Field}
-use Rattle.kq_widened.specs.Widened.{widened_record, widened_records}
-use Rattle.kq_widened.proofs.Widened.{widened_records-ids}
-use Rattle.kq_extent.specs.Seen.{ExtentView, HeldExtents, held_records, records_in}
-use Rattle.kq_extent.specs.Split.{put, without_first}
-use Rattle.kq_extent.specs.Wide.{wide, wide_held}
-use Rattle.kq_extent.proofs.Wide.{held_records-wide, records_in-wide}
-use Rattle.kq_model.specs.declared.event.By.{By}
-use Rattle.kq_model.specs.declared.table.Table.{Table}
-use Rattle.kq_model.specs.Edits.{changed}
-use Rattle.kq_model.proofs.Edited.{with_merged as state_merged}
-use Rattle.kq_model.specs.History.{History, Log, log, tables}
-use Rattle.kq_model.specs.Lawful.{AreLawful, IsMerge}
-use Rattle.kq_model.specs.Policies.{noted, policies}
-use Rattle.kq_model.specs.Records.{ExtentItem, extents, has_id_of, ids_of, is_small_item, item_ids, extents_made, merged, picked, records, schema_of, small_items, united}
-use Rattle.kq_model.specs.Tables.{TableState, states_from, table_states}
-use Rattle.kq_model.proofs.Bounded.{no_items}
-use Rattle.kq_model.proofs.Histories.{AreLawful-push, log-append, log-push}
-use Rattle.kq_model.proofs.Merging.{Goes_on, Takes, first_picked, gone_after, lawful_parts, merge-takes, still_first}
-use Rattle.kq_model.proofs.Records.{extents_made-push}
-use Rattle.kq_model.proofs.States.{table_states-merge}
-use Rattle.kq_model.proofs.Growing.{records-go_on, tables-stay}
-use Rattle.kq_model.proofs.Unique.{same_by_ids}
-use Rattle.kq_tagged.specs.declared.entry.Entry.{Entry}
+use Rattle.kq_store_rows.specs.Widened.{widened_record, widened_records}
+use Rattle.kq_store_rows.proofs.WidenedLemmas.{widened_records-ids}
+use Rattle.kq_store_extent.specs.Seen.{ExtentView, HeldExtents, held_records, records_in}
+use Rattle.kq_store_extent.specs.Split.{put, without_first}
+use Rattle.kq_store_extent.specs.Wide.{wide, wide_held}
+use Rattle.kq_store_extent.proofs.Wide.{held_records-wide, records_in-wide}
+use Rattle.kq_catalog_journal.specs.declared.event.By.{By}
+use Rattle.kq_catalog_journal.specs.declared.table.Table.{Table}
+use Rattle.kq_catalog_journal.specs.Edits.{changed}
+use Rattle.kq_catalog_journal.proofs.Edited.{with_merged as state_merged}
+use Rattle.kq_catalog_journal.specs.History.{History, Log, log, tables}
+use Rattle.kq_catalog_journal.specs.Lawful.{AreLawful, IsMerge}
+use Rattle.kq_catalog_journal.specs.Policies.{noted, policies}
+use Rattle.kq_catalog_journal.specs.Records.{ExtentItem, extents, has_id_of, ids_of, is_small_item, item_ids, extents_made, merged, picked, records, schema_of, small_items, united}
+use Rattle.kq_catalog_journal.specs.Tables.{TableState, states_from, table_states}
+use Rattle.kq_catalog_journal.proofs.Bounded.{no_items}
+use Rattle.kq_catalog_journal.proofs.Histories.{AreLawful-push, log-append, log-push}
+use Rattle.kq_catalog_journal.proofs.Merging.{Goes_on, Takes, first_picked, gone_after, lawful_parts, merge-takes, still_first}
+use Rattle.kq_catalog_journal.proofs.Records.{extents_made-push}
+use Rattle.kq_catalog_journal.proofs.States.{table_states-merge}
+use Rattle.kq_catalog_journal.proofs.Growing.{records-go_on, tables-stay}
+use Rattle.kq_catalog_journal.proofs.Unique.{same_by_ids}
+use Rattle.kq_catalog_indexes.specs.declared.tag_entry.Entry.{Entry}
 use Rattle.kq_catalog.specs.declared.merging.Merging.{Merging}
 use Rattle.kq_catalog.specs.Edits.{with_merged}
 use Rattle.kq_catalog.specs.Held.{AreItems, HeldTable, IsHeld, extent_item}

@@ -2,9 +2,9 @@
 use Rattle.std.proofs.Common.{◌≡◌, ◌<◌, ◌+◌, refl, subst, ℕ, suc, Bool, true, false, cond, List, [], ◌∷◌, length, map, nat_eq, Option, Some, None, ap, sym, ◌∙◌, arith, zero-add}
 use Rattle.std.specs.List.{slice_get}
 use Rattle.std.specs.Cmp.Lexicographic.{pointwise}
-use Rattle.kq_names.specs.Places.{place_from, place_of}
-use Rattle.kq_model.specs.declared.table.Table.{Table}
-use Rattle.kq_model.specs.History.{NumberedTable, numbered_from, table_numbered, table_named}
+use Rattle.kq_catalog_indexes.specs.Places.{place_from, place_of}
+use Rattle.kq_catalog_journal.specs.declared.table.Table.{Table}
+use Rattle.kq_catalog_journal.specs.History.{NumberedTable, numbered_from, table_numbered, table_named}
 use Rattle.kq_catalog.specs.Held.{HeldTable, tables_in}
 
 abbrev pub names_in : List HeldTable → List (List ℕ)

@@ -1,12 +1,12 @@
 -- Parts that become extents one after another.
 use Rattle.std.proofs.Common.{◌≡◌, ◌<◌, ◌+◌, subst, ℕ, List, [], ◌∷◌, ◌++◌, length, map, take, get_or, ap, sym, ◌∙◌, arith}
 use Rattle.std.proofs.lemmas.List.{map_push, length-map, take-map, get_or-map}
-use Rattle.kq_rows.specs.Numbered.{numbered}
-use Rattle.kq_model.specs.declared.batch.Batch.{Batch}
-use Rattle.kq_model.specs.Edits.{Edit, new_extents}
-use Rattle.kq_model.specs.Edits.Edit.{NewExtent}
-use Rattle.kq_model.specs.Records.{rows_to}
-use Rattle.kq_model.proofs.Extents.{new_extents-push, length-new_extents, rows_before}
+use Rattle.kq_store_rows.specs.Numbered.{numbered}
+use Rattle.kq_catalog_journal.specs.declared.batch.Batch.{Batch}
+use Rattle.kq_catalog_journal.specs.Edits.{Edit, new_extents}
+use Rattle.kq_catalog_journal.specs.Edits.Edit.{NewExtent}
+use Rattle.kq_catalog_journal.specs.Records.{rows_to}
+use Rattle.kq_catalog_journal.proofs.Extents.{new_extents-push, length-new_extents, rows_before}
 use Rattle.kq_catalog.specs.declared.edit.Change.{Change}
 use Rattle.kq_catalog.specs.declared.intent.Part.{Part}
 use Rattle.kq_catalog.specs.Edits.{edit_of, edits_by, total_rows}

@@ -4,14 +4,14 @@ use denote.Param.Send.{IsSend, IsSync, sendable}
 use Rattle.std.proofs.Crossing.{crosses}
 use Rattle.kq_value.specs.contracts.text.Text as text
 use Rattle.kq_value.specs.contracts.tags.Tags as tags
-use Rattle.kq_shared.proofs.Sent.{list_send, list_sync}
-use Rattle.kq_shared.specs.contracts.list.SharedList as list
-use Rattle.kq_names.specs.contracts.names.Names as names
-use Rattle.kq_extent.proofs.Sent.{held_send, held_sync, recorded_send, recorded_sync}
-use Rattle.kq_tagged.proofs.Sent.{index_send, index_sync}
-use Rattle.kq_model.specs.contracts.batch.Noted as noted
-use Rattle.kq_model.specs.contracts.event.Event as event
-use Rattle.kq_model.specs.contracts.policy.Entries as entries
+use Rattle.kq_store_shared_lists.proofs.Sent.{list_send, list_sync}
+use Rattle.kq_store_shared_lists.specs.contracts.list.SharedList as list
+use Rattle.kq_catalog_indexes.specs.contracts.names.Names as names
+use Rattle.kq_store_extent.proofs.Sent.{held_send, held_sync, recorded_send, recorded_sync}
+use Rattle.kq_catalog_indexes.proofs.Sent.{index_send, index_sync}
+use Rattle.kq_catalog_journal.specs.contracts.batch.Noted as noted
+use Rattle.kq_catalog_journal.specs.contracts.event.Event as event
+use Rattle.kq_catalog_journal.specs.contracts.policy.Entries as entries
 use Rattle.kq_catalog.specs.contracts.held.HeldTable as table
 use Rattle.kq_catalog.specs.contracts.tables.Tables as tables
 use Rattle.kq_catalog.specs.contracts.policies.Policies as policies

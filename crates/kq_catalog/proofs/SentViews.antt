@@ -1,4 +1,5 @@
--- Views with their parts, and the entries of policies, may go to another thread, and many threads may share them. The lemma on each type is found from those on
+-- Views with their parts, and the entries of policies, may go to another thread, and many threads may share them. The lemma on each type is found
+-- from those on
 -- its parts; where a type is seen as another, from that on what is inside.
 use denote.Param.Send.{IsSend, IsSync, sendable}
 use Rattle.std.proofs.Crossing.{crosses}
@@ -8,41 +9,41 @@ use Rattle.kq_value.specs.contracts.dynamic.Dyn as dynamic
 use Rattle.kq_value.specs.contracts.dyn_box.DynBox as boxed
 use Rattle.kq_value.specs.contracts.value.Value as value
 use Rattle.kq_value.specs.contracts.row.Row as row
-use Rattle.kq_fn.specs.contracts.function.Function as function
-use Rattle.kq_expr.proofs.expr.Expr.TheLaws.TheKnot as expr_knot
-use Rattle.kq_expr.specs.contracts.expr.Expr as expr
+use Rattle.kq_plan_functions.specs.contracts.function.Function as function
+use Rattle.kq_plan_expressions.proofs.expr.Expr.TheLaws.TheKnot as expr_knot
+use Rattle.kq_plan_expressions.specs.contracts.expr.Expr as expr
 use Rattle.kq_plan.specs.contracts.work.SortKey as sort_key
 use Rattle.kq_plan.specs.contracts.work.Aggregate as aggregate
 use Rattle.kq_plan.specs.contracts.work.Arm as arm
 use Rattle.kq_plan.specs.contracts.work.Work as work
 use Rattle.kq_plan.specs.contracts.plan.Step as step
 use Rattle.kq_plan.specs.contracts.plan.Plan as plan
-use Rattle.kq_agg.specs.contracts.element.Element as element
-use Rattle.kq_agg.specs.contracts.element.Element.TheInside as element_inside
-use Rattle.kq_agg.specs.contracts.set.Set as sets
-use Rattle.kq_agg.specs.contracts.set.Set.TheInside as sets_inside
-use Rattle.kq_agg.specs.contracts.states.States as states
-use Rattle.kq_agg.specs.contracts.states.States.TheInside as states_inside
-use Rattle.kq_chain.proofs.added.Added.TheLaws.TheKnot as added_knot
-use Rattle.kq_chain.specs.contracts.added.Added as added
-use Rattle.kq_chain.specs.contracts.chain.Chain as chain
-use Rattle.kq_chain.specs.contracts.chain.Chain.TheInside as chain_inside
-use Rattle.kq_rows.specs.contracts.rows.Rows as rows
-use Rattle.kq_rows.specs.contracts.rows.Rows.TheInside as rows_inside
-use Rattle.kq_group.specs.contracts.aggregated.Aggregated as aggregated
-use Rattle.kq_group.specs.contracts.aggregated.Aggregated.TheInside as aggregated_inside
-use Rattle.kq_group.specs.contracts.groups.Groups as groups
-use Rattle.kq_group.specs.contracts.groups.Groups.TheInside as groups_inside
-use Rattle.kq_parted.specs.contracts.parted.Parted as parted
-use Rattle.kq_parted.specs.contracts.parted.Parted.TheInside as parted_inside
-use Rattle.kq_model.specs.contracts.batch.Noted as noted
-use Rattle.kq_model.specs.contracts.policy.Due as due
-use Rattle.kq_model.specs.contracts.policy.Entry as entry
-use Rattle.kq_model.specs.contracts.policy.Entries as entries
-use Rattle.kq_model.specs.contracts.policy.Entries.TheInside as entries_inside
-use Rattle.kq_model.specs.contracts.view.View as view
-use Rattle.kq_model.specs.contracts.view.SharedView as shared_view
-use Rattle.kq_model.specs.contracts.view.SharedView.TheInside as shared_view_inside
+use Rattle.kq_run_aggregates.specs.contracts.element.Element as element
+use Rattle.kq_run_aggregates.specs.contracts.element.Element.TheInside as element_inside
+use Rattle.kq_run_aggregates.specs.contracts.set.Set as sets
+use Rattle.kq_run_aggregates.specs.contracts.set.Set.TheInside as sets_inside
+use Rattle.kq_run_aggregates.specs.contracts.states.States as states
+use Rattle.kq_run_aggregates.specs.contracts.states.States.TheInside as states_inside
+use Rattle.kq_store_hash_chains.proofs.added.Added.TheLaws.TheKnot as added_knot
+use Rattle.kq_store_hash_chains.specs.contracts.added.Added as added
+use Rattle.kq_store_hash_chains.specs.contracts.chain.Chain as chain
+use Rattle.kq_store_hash_chains.specs.contracts.chain.Chain.TheInside as chain_inside
+use Rattle.kq_store_rows.specs.contracts.rows.Rows as rows
+use Rattle.kq_store_rows.specs.contracts.rows.Rows.TheInside as rows_inside
+use Rattle.kq_run_groups.specs.contracts.aggregated.Aggregated as aggregated
+use Rattle.kq_run_groups.specs.contracts.aggregated.Aggregated.TheInside as aggregated_inside
+use Rattle.kq_run_groups.specs.contracts.groups.Groups as groups
+use Rattle.kq_run_groups.specs.contracts.groups.Groups.TheInside as groups_inside
+use Rattle.kq_run_shards.specs.contracts.parted.Parted as parted
+use Rattle.kq_run_shards.specs.contracts.parted.Parted.TheInside as parted_inside
+use Rattle.kq_catalog_journal.specs.contracts.batch.Noted as noted
+use Rattle.kq_catalog_journal.specs.contracts.policy.Due as due
+use Rattle.kq_catalog_journal.specs.contracts.policy.Entry as entry
+use Rattle.kq_catalog_journal.specs.contracts.policy.Entries as entries
+use Rattle.kq_catalog_journal.specs.contracts.policy.Entries.TheInside as entries_inside
+use Rattle.kq_catalog_journal.specs.contracts.view.View as view
+use Rattle.kq_catalog_journal.specs.contracts.view.SharedView as shared_view
+use Rattle.kq_catalog_journal.specs.contracts.view.SharedView.TheInside as shared_view_inside
 
 text_send : IsSend text.the_row
 text_send = search (sendable, crosses) depth 60 fits 20000

@@ -6,30 +6,30 @@ use Rattle.std.proofs.lemmas.List.{length-map, length_push}
 use Rattle.std.proofs.lemmas.Option.{slice_get-map, slice_get_within}
 use Rattle.kq_value.specs.declared.schema.Field.{Field}
 use Rattle.kq_value.specs.Typed.{HasTypes}
-use Rattle.kq_model.specs.declared.batch.Noted.{Noted}
-use Rattle.kq_model.specs.declared.event.Commit.{Commit}
-use Rattle.kq_model.specs.declared.event.Commit.TheVariants.{CreateTable, SetPolicy, CreateView, AlterMerge, Ingest}
-use Rattle.kq_model.specs.declared.event.Event.{Event}
-use Rattle.kq_model.specs.declared.event.Operation.{Operation}
-use Rattle.kq_model.specs.declared.event.Operation.TheVariants as operation
-use Rattle.kq_model.specs.declared.table.Table.{Table}
-use Rattle.kq_model.specs.Edits.{FitAll, edits_of}
-use Rattle.kq_model.proofs.Edited.{edited_by}
-use Rattle.kq_model.specs.History.{History, log, cursor as cursor_of, tables, commits_of}
-use Rattle.kq_model.specs.Lawful.{LawfulCommit, LawfulOperation}
-use Rattle.kq_model.specs.Policies.{noted, noted_by, policies, policies_with}
-use Rattle.kq_model.specs.Records.{records, rows_in, extents, commit_extents, extents_made, operation_extents, records_given, schema_of}
-use Rattle.kq_widened.specs.Widened.{widened_record, widened_records}
-use Rattle.kq_model.specs.Tables.{TableState, states_from, table_states}
-use Rattle.kq_model.proofs.Bounded.{IsBounded, IsBounded-lawful, few_made}
-use Rattle.kq_model.proofs.Histories.{log-push, AreLawful-push}
-use Rattle.kq_model.proofs.Policies.{length-policies, noted-push, policies-push}
-use Rattle.kq_model.proofs.Records.{extents_made-push}
-use Rattle.kq_model.proofs.States.{table_states-push, table_states-tables}
-use Rattle.kq_model.proofs.Fitting.{FitAll-lawful}
-use Rattle.kq_model.specs.Tagged.{is_tagged_by}
-use Rattle.kq_tagged.specs.declared.entry.Entry.{Entry}
-use Rattle.kq_tagged.specs.Index.{AddsTags}
+use Rattle.kq_catalog_journal.specs.declared.batch.Noted.{Noted}
+use Rattle.kq_catalog_journal.specs.declared.event.Commit.{Commit}
+use Rattle.kq_catalog_journal.specs.declared.event.Commit.TheVariants.{CreateTable, SetPolicy, CreateView, AlterMerge, Ingest}
+use Rattle.kq_catalog_journal.specs.declared.event.Event.{Event}
+use Rattle.kq_catalog_journal.specs.declared.event.Operation.{Operation}
+use Rattle.kq_catalog_journal.specs.declared.event.Operation.TheVariants as operation
+use Rattle.kq_catalog_journal.specs.declared.table.Table.{Table}
+use Rattle.kq_catalog_journal.specs.Edits.{FitAll, edits_of}
+use Rattle.kq_catalog_journal.proofs.Edited.{edited_by}
+use Rattle.kq_catalog_journal.specs.History.{History, log, cursor as cursor_of, tables, commits_of}
+use Rattle.kq_catalog_journal.specs.Lawful.{LawfulCommit, LawfulOperation}
+use Rattle.kq_catalog_journal.specs.Policies.{noted, noted_by, policies, policies_with}
+use Rattle.kq_catalog_journal.specs.Records.{records, rows_in, extents, commit_extents, extents_made, operation_extents, records_given, schema_of}
+use Rattle.kq_store_rows.specs.Widened.{widened_record, widened_records}
+use Rattle.kq_catalog_journal.specs.Tables.{TableState, states_from, table_states}
+use Rattle.kq_catalog_journal.proofs.Bounded.{IsBounded, IsBounded-lawful, few_made}
+use Rattle.kq_catalog_journal.proofs.Histories.{log-push, AreLawful-push}
+use Rattle.kq_catalog_journal.proofs.Policies.{length-policies, noted-push, policies-push}
+use Rattle.kq_catalog_journal.proofs.Records.{extents_made-push}
+use Rattle.kq_catalog_journal.proofs.States.{table_states-push, table_states-tables}
+use Rattle.kq_catalog_journal.proofs.Fitting.{FitAll-lawful}
+use Rattle.kq_catalog_journal.specs.Tagged.{is_tagged_by}
+use Rattle.kq_catalog_indexes.specs.declared.tag_entry.Entry.{Entry}
+use Rattle.kq_catalog_indexes.specs.Tags.{AddsTags}
 use Rattle.kq_catalog.specs.declared.edit.Change.{Change}
 use Rattle.kq_catalog.specs.declared.intent.Intent.{Intent}
 use Rattle.kq_catalog.specs.Edits.{edits_by, put_all}

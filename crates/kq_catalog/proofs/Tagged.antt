@@ -4,14 +4,14 @@ use Rattle.std.specs.Option.{option_or}
 use Rattle.std.specs.List.{list_any}
 use Rattle.std.specs.Cmp.Lexicographic.{pointwise}
 use Rattle.std.proofs.lemmas.List.Folds.{list_any_more}
-use Rattle.kq_model.specs.declared.batch.Batch.{Batch}
-use Rattle.kq_model.specs.declared.event.Commit.{Commit}
-use Rattle.kq_model.specs.History.{Log}
-use Rattle.kq_model.specs.kq_repeats.Names.{is_among}
-use Rattle.kq_model.specs.Tagged.{gives_tag, is_tagged_by}
-use Rattle.kq_model.proofs.Tagged.{first_tagged-push}
-use Rattle.kq_tagged.specs.declared.entry.Entry.{Entry}
-use Rattle.kq_tagged.specs.Index.{cursor_at, given_if, is_key, AddsTags}
+use Rattle.kq_catalog_journal.specs.declared.batch.Batch.{Batch}
+use Rattle.kq_catalog_journal.specs.declared.event.Commit.{Commit}
+use Rattle.kq_catalog_journal.specs.History.{Log}
+use Rattle.kq_catalog_journal.specs.kq_value_text_sets.Names.{is_among}
+use Rattle.kq_catalog_journal.specs.Tagged.{gives_tag, is_tagged_by}
+use Rattle.kq_catalog_journal.proofs.Tagged.{first_tagged-push}
+use Rattle.kq_catalog_indexes.specs.declared.tag_entry.Entry.{Entry}
+use Rattle.kq_catalog_indexes.specs.Tags.{cursor_at, given_if, is_key, AddsTags}
 use Rattle.kq_catalog.specs.Tagged.{TellsTags}
 
 -- what one step adds and then another, under one cursor

@@ -6,31 +6,31 @@ use Rattle.std.specs.Option.{IfSome, is_some, option_map}
 use Rattle.std.proofs.lemmas.Bool.{eq-eqb, ne_eqb}
 use Rattle.std.proofs.lemmas.List.{length-map, map_push}
 use Rattle.std.proofs.lemmas.Option.{slice_get-map, slice_get_within}
-use Rattle.kq_group.specs.Groups.{Grouping}
-use Rattle.kq_names.specs.Places.{place_from, place_of}
+use Rattle.kq_run_groups.specs.Groups.{Grouping}
+use Rattle.kq_catalog_indexes.specs.Places.{place_from, place_of}
 use Rattle.kq_plan.specs.Plans.{planned_of}
-use Rattle.kq_tagged.specs.declared.entry.Entry.{Entry}
+use Rattle.kq_catalog_indexes.specs.declared.tag_entry.Entry.{Entry}
 use Rattle.kq_value.specs.declared.value.Value.{Value}
-use Rattle.kq_model.specs.declared.event.By.{By}
-use Rattle.kq_model.specs.declared.event.Commit.{Commit}
-use Rattle.kq_model.specs.declared.event.Event.{Event}
-use Rattle.kq_model.specs.declared.event.Operation.TheVariants as operation
-use Rattle.kq_model.specs.declared.limits.Limits.{Limits}
-use Rattle.kq_model.specs.Edits.{changed}
-use Rattle.kq_model.specs.History.{History, Log, log, commits_of, cursor as cursor_of, Viewed, views, views_by, view_count, view_cursor, view_cursor_after, names_of_views}
-use Rattle.kq_model.specs.Lawful.{AreLawful, IsFold, LawfulCommit}
-use Rattle.kq_model.specs.kq_grouping.Bodies.{StandsFor}
-use Rattle.kq_model.specs.kq_repeats.Names.{is_among}
-use Rattle.kq_model.specs.Policies.{noted, policies}
-use Rattle.kq_model.specs.Tables.{TableState}
-use Rattle.kq_model.specs.Views.{covered}
-use Rattle.kq_model.proofs.Bounded.{free_view}
-use Rattle.kq_model.proofs.Histories.{AreLawful-push, log-append, log-push, views-push}
-use Rattle.kq_model.proofs.Merging.{lawful_parts}
-use Rattle.kq_model.proofs.Places.{WasAt, get-changed, get-push}
-use Rattle.kq_model.proofs.Records.{extents_made-push}
-use Rattle.kq_model.proofs.States.{table_states-fold}
-use Rattle.kq_model.proofs.Views.{covered-go_on, covered-none, log-commit, view_cursor-new, view_cursor-push, materialized, no_fewer_views, over, view-stays}
+use Rattle.kq_catalog_journal.specs.declared.event.By.{By}
+use Rattle.kq_catalog_journal.specs.declared.event.Commit.{Commit}
+use Rattle.kq_catalog_journal.specs.declared.event.Event.{Event}
+use Rattle.kq_catalog_journal.specs.declared.event.Operation.TheVariants as operation
+use Rattle.kq_catalog_journal.specs.declared.limits.Limits.{Limits}
+use Rattle.kq_catalog_journal.specs.Edits.{changed}
+use Rattle.kq_catalog_journal.specs.History.{History, Log, log, commits_of, cursor as cursor_of, Viewed, views, views_by, view_count, view_cursor, view_cursor_after, names_of_views}
+use Rattle.kq_catalog_journal.specs.Lawful.{AreLawful, IsFold, LawfulCommit}
+use Rattle.kq_catalog_journal.specs.kq_run_gather.Bodies.{StandsFor}
+use Rattle.kq_catalog_journal.specs.kq_value_text_sets.Names.{is_among}
+use Rattle.kq_catalog_journal.specs.Policies.{noted, policies}
+use Rattle.kq_catalog_journal.specs.Tables.{TableState}
+use Rattle.kq_catalog_journal.specs.Views.{covered}
+use Rattle.kq_catalog_journal.proofs.Bounded.{free_view}
+use Rattle.kq_catalog_journal.proofs.Histories.{AreLawful-push, log-append, log-push, views-push}
+use Rattle.kq_catalog_journal.proofs.Merging.{lawful_parts}
+use Rattle.kq_catalog_journal.proofs.Places.{WasAt, get-changed, get-push}
+use Rattle.kq_catalog_journal.proofs.Records.{extents_made-push}
+use Rattle.kq_catalog_journal.proofs.States.{table_states-fold}
+use Rattle.kq_catalog_journal.proofs.Views.{covered-go_on, covered-none, log-commit, view_cursor-new, view_cursor-push, materialized, no_fewer_views, over, view-stays}
 use Rattle.kq_catalog.specs.declared.intent.Intent.{Intent}
 use Rattle.kq_catalog.specs.declared.intent.Intent.TheVariants.{CreateTable, SetPolicy, CreateView, AlterMerge, Ingest}
 use Rattle.kq_catalog.specs.Held.{IsHeld}

@@ -4,14 +4,14 @@ use Rattle.std.specs.Arc.{arc_value}
 use Rattle.std.specs.HashMap.{get, HashMap}
 use Rattle.std.specs.Option.{unwrap_or}
 use Rattle.kq_value.specs.declared.schema.Field.{Field}
-use Rattle.kq_extent.specs.Seen.{ExtentView}
-use Rattle.kq_extent.specs.Split.{put, without_first}
-use Rattle.kq_model.specs.declared.batch.Batch.{Batch}
-use Rattle.kq_model.specs.declared.table.Table.{Table}
-use Rattle.kq_model.specs.Edits.{Edit, edits_of, changed}
-use Rattle.kq_model.specs.Edits.Edit.{NewTable, NewColumns, NewExtent}
-use Rattle.kq_model.specs.History.{widened_table}
-use Rattle.kq_model.specs.Records.{commit_extents}
+use Rattle.kq_store_extent.specs.Seen.{ExtentView}
+use Rattle.kq_store_extent.specs.Split.{put, without_first}
+use Rattle.kq_catalog_journal.specs.declared.batch.Batch.{Batch}
+use Rattle.kq_catalog_journal.specs.declared.table.Table.{Table}
+use Rattle.kq_catalog_journal.specs.Edits.{Edit, edits_of, changed}
+use Rattle.kq_catalog_journal.specs.Edits.Edit.{NewTable, NewColumns, NewExtent}
+use Rattle.kq_catalog_journal.specs.History.{widened_table}
+use Rattle.kq_catalog_journal.specs.Records.{commit_extents}
 use Rattle.kq_catalog.specs.declared.edit.Change.{Change}
 use Rattle.kq_catalog.specs.declared.edit.Change.TheVariants.{PutTable, PutColumns, PutExtent}
 use Rattle.kq_catalog.specs.declared.intent.Intent.{Intent}

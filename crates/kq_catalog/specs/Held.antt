@@ -4,12 +4,12 @@ use Rattle.std.specs.Borrow.{Bor}
 use Rattle.std.specs.List.{filter}
 use Rattle.std.specs.List.Sorted.{IsPermutation}
 use Rattle.kq_value.specs.Typed.{HasTypes}
-use Rattle.kq_extent.specs.Seen.{ExtentView, HeldExtents, held_records, row_of}
-use Rattle.kq_extent.specs.Wide.{wide_held}
-use Rattle.kq_model.specs.declared.table.Table.{Table}
-use Rattle.kq_model.specs.History.{table_numbered}
-use Rattle.kq_model.specs.Records.{ExtentItem, ids_of, is_small_item}
-use Rattle.kq_model.specs.Tables.{TableState}
+use Rattle.kq_store_extent.specs.Seen.{ExtentView, HeldExtents, held_records, row_of}
+use Rattle.kq_store_extent.specs.Wide.{wide_held}
+use Rattle.kq_catalog_journal.specs.declared.table.Table.{Table}
+use Rattle.kq_catalog_journal.specs.History.{table_numbered}
+use Rattle.kq_catalog_journal.specs.Records.{ExtentItem, ids_of, is_small_item}
+use Rattle.kq_catalog_journal.specs.Tables.{TableState}
 
 -- a table, and its extents
 pub record HeldTable : Type 0 where
@@ -28,7 +28,8 @@ pub record AreItems (items : List ExtentItem) (held : HeldExtents) : Type 0 wher
   pub small : map extent_item held.small ≡ filter is_small_item items
   pub big : map extent_item held.big ≡ filter (λ i. not (is_small_item i)) items
 
--- what is held of a table is what the history says of it: each of its records stands once in the extents, widened to the table's columns, and nothing else does, the extents are those of the history, and the rows have the table's types
+-- what is held of a table is what the history says of it: each of its records stands once in the extents, widened to the table's columns, and nothing
+-- else does, the extents are those of the history, and the rows have the table's types
 pub record IsHeld (held : HeldTable) (state : TableState) : Type 0 where
   pub table : held.table ≡ state.table
   pub once : IsPermutation (held_records (wide_held held.table.schema held.extents)) state.records

@@ -1,13 +1,13 @@
 -- The commits that intents ask for.
 use Rattle.std.specs.Prelude.{ℕ, [], map, Option, None, Some}
-use Rattle.kq_model.specs.kq_grouping.Bodies.{StandsFor}
+use Rattle.kq_catalog_journal.specs.kq_run_gather.Bodies.{StandsFor}
 use Rattle.kq_plan.specs.Plans.{planned_of}
-use Rattle.kq_model.specs.declared.batch.Batch.{Batch}
-use Rattle.kq_model.specs.declared.event.By.{By}
-use Rattle.kq_model.specs.declared.event.Commit.{Commit}
-use Rattle.kq_model.specs.declared.event.Commit.TheVariants as commit
-use Rattle.kq_model.specs.declared.event.Event.{Event}
-use Rattle.kq_model.specs.declared.event.Operation.TheVariants as operation
+use Rattle.kq_catalog_journal.specs.declared.batch.Batch.{Batch}
+use Rattle.kq_catalog_journal.specs.declared.event.By.{By}
+use Rattle.kq_catalog_journal.specs.declared.event.Commit.{Commit}
+use Rattle.kq_catalog_journal.specs.declared.event.Commit.TheVariants as commit
+use Rattle.kq_catalog_journal.specs.declared.event.Event.{Event}
+use Rattle.kq_catalog_journal.specs.declared.event.Operation.TheVariants as operation
 use Rattle.kq_catalog.specs.declared.intent.Intent.{Intent}
 use Rattle.kq_catalog.specs.declared.intent.Intent.TheVariants.{CreateTable, SetPolicy, CreateView, AlterMerge, Ingest}
 use Rattle.kq_catalog.specs.declared.intent.Part.{Part}

@@ -1,12 +1,12 @@
 -- When an extent is what some extents of a table become, and what putting it in their place makes.
 use Rattle.std.specs.Prelude.{◌≡◌, ◌≤◌, ℕ, Bool, true, false, List, [], ◌∷◌, length, take, nat_eq, All, Contains}
 use Rattle.std.specs.List.{list_any}
-use Rattle.kq_extent.specs.Seen.{ExtentView}
-use Rattle.kq_model.specs.declared.event.By.{By}
-use Rattle.kq_model.specs.declared.event.Event.{Event}
-use Rattle.kq_model.specs.declared.event.Operation.TheVariants as operation
-use Rattle.kq_model.specs.History.{History, log}
-use Rattle.kq_model.specs.Records.{ExtentItem, extents, item_ids, picked, records, small_items, united}
+use Rattle.kq_store_extent.specs.Seen.{ExtentView}
+use Rattle.kq_catalog_journal.specs.declared.event.By.{By}
+use Rattle.kq_catalog_journal.specs.declared.event.Event.{Event}
+use Rattle.kq_catalog_journal.specs.declared.event.Operation.TheVariants as operation
+use Rattle.kq_catalog_journal.specs.History.{History, log}
+use Rattle.kq_catalog_journal.specs.Records.{ExtentItem, extents, item_ids, picked, records, small_items, united}
 use Rattle.kq_catalog.specs.declared.merging.Merging.{Merging}
 use Rattle.kq_catalog.specs.declared.merging.MergeFault.{MergeFault}
 use Rattle.kq_catalog.specs.declared.merging.MergeFault.TheVariants.{Moved, Memory}

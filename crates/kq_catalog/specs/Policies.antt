@@ -1,7 +1,7 @@
 -- Commits that set policies.
 use Rattle.std.specs.Prelude.{◌<◌, ℕ}
-use Rattle.kq_model.specs.declared.event.Commit.{Commit}
-use Rattle.kq_model.specs.declared.event.Commit.TheVariants.{CreateTable, SetPolicy, CreateView, AlterMerge, Ingest}
+use Rattle.kq_catalog_journal.specs.declared.event.Commit.{Commit}
+use Rattle.kq_catalog_journal.specs.declared.event.Commit.TheVariants.{CreateTable, SetPolicy, CreateView, AlterMerge, Ingest}
 
 -- where it sets a policy, that is one of so many tables'
 abbrev pub SetsStanding : ℕ → Commit → Type 0

@@ -1,21 +1,22 @@
 -- What contracts see of a catalogue, of a snapshot and of what was staged, and when a catalogue is sound.
 use Rattle.std.specs.Prelude.{◌≡◌, ℕ, List}
 use Rattle.std.specs.List.{AllZip}
-use Rattle.kq_model.specs.declared.batch.Noted.{Noted}
-use Rattle.kq_model.specs.declared.event.Event.{Event}
-use Rattle.kq_model.specs.declared.limits.Limits.{Limits}
-use Rattle.kq_model.specs.History.{History, log, cursor as cursor_of}
-use Rattle.kq_model.specs.Lawful.{AreLawful}
-use Rattle.kq_model.specs.Policies.{noted, policies}
-use Rattle.kq_model.specs.Records.{extents_made}
-use Rattle.kq_model.specs.Tables.{table_states}
-use Rattle.kq_model.specs.declared.policy.Entry.{Entry}
-use Rattle.kq_tagged.specs.declared.entry.Entry.{Entry as Tagging}
+use Rattle.kq_catalog_journal.specs.declared.batch.Noted.{Noted}
+use Rattle.kq_catalog_journal.specs.declared.event.Event.{Event}
+use Rattle.kq_catalog_journal.specs.declared.limits.Limits.{Limits}
+use Rattle.kq_catalog_journal.specs.History.{History, log, cursor as cursor_of}
+use Rattle.kq_catalog_journal.specs.Lawful.{AreLawful}
+use Rattle.kq_catalog_journal.specs.Policies.{noted, policies}
+use Rattle.kq_catalog_journal.specs.Records.{extents_made}
+use Rattle.kq_catalog_journal.specs.Tables.{table_states}
+use Rattle.kq_catalog_journal.specs.declared.policy.Entry.{Entry}
+use Rattle.kq_catalog_indexes.specs.declared.tag_entry.Entry.{Entry as Tagging}
 use Rattle.kq_catalog.specs.Held.{HeldTable, IsHeld}
 use Rattle.kq_catalog.specs.Tagged.{TellsTags}
 use Rattle.kq_catalog.specs.Views.{AreHeldViews, HeldView}
 
--- the events in order, the tables and the views by number with what is held of them, the entries of each table's update policy, and the failures of ingestions
+-- the events in order, the tables and the views by number with what is held of them, the entries of each table's update policy, and the failures of
+-- ingestions
 pub record CatalogView : Type 0 where
   pub limits : Limits
   pub history : List Event
@@ -41,7 +42,8 @@ pub record StagedView : Type 0 where
 abbrev pub hist : CatalogView → History
 hist c = c.history
 
--- of each table and each view is held what the history says of it, the policies are those that were set last, the failures are those that were noted, and each event of the history is lawful over the events before it
+-- of each table and each view is held what the history says of it, the policies are those that were set last, the failures are those that were noted,
+-- and each event of the history is lawful over the events before it
 pub record Sound (c : CatalogView) : Type 0 where
   pub tables : AllZip IsHeld c.held (table_states (hist c))
   pub policies : c.policies ≡ policies (log (hist c))

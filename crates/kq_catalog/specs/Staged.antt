@@ -1,6 +1,6 @@
 -- What staging gives.
 use Rattle.std.specs.Prelude.{◌≡◌, [], ◌∷◌, ◌++◌}
-use Rattle.kq_model.specs.declared.event.Event.{Event}
+use Rattle.kq_catalog_journal.specs.declared.event.Event.{Event}
 use Rattle.kq_catalog.specs.Seen.{CatalogView, StagedView, hist}
 
 -- what will stand is what stands, and the event

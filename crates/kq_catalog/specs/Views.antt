@@ -3,16 +3,16 @@ use Rattle.std.specs.Prelude.{◌≡◌, ◌≤◌, ◌<◌, ℕ, List, [], ◌�
 use Rattle.std.specs.Borrow.{Bor}
 use Rattle.std.specs.List.{slice_get}
 use Rattle.std.specs.Option.{option_map}
-use Rattle.kq_group.specs.Groups.{Grouping}
-use Rattle.kq_model.specs.kq_grouping.Bodies.{StandsFor}
-use Rattle.kq_names.specs.Places.{place_of}
+use Rattle.kq_run_groups.specs.Groups.{Grouping}
+use Rattle.kq_catalog_journal.specs.kq_run_gather.Bodies.{StandsFor}
+use Rattle.kq_catalog_indexes.specs.Places.{place_of}
 use Rattle.kq_plan.specs.Plans.{planned_of}
-use Rattle.kq_model.specs.declared.event.By.{By}
-use Rattle.kq_model.specs.declared.event.Event.{Event}
-use Rattle.kq_model.specs.declared.event.Operation.TheVariants as operation
-use Rattle.kq_model.specs.declared.view.View.{View}
-use Rattle.kq_model.specs.History.{History, log, cursor as cursor_of, Viewed, views, view_cursor, names_of_views}
-use Rattle.kq_model.specs.Views.{covered}
+use Rattle.kq_catalog_journal.specs.declared.event.By.{By}
+use Rattle.kq_catalog_journal.specs.declared.event.Event.{Event}
+use Rattle.kq_catalog_journal.specs.declared.event.Operation.TheVariants as operation
+use Rattle.kq_catalog_journal.specs.declared.view.View.{View}
+use Rattle.kq_catalog_journal.specs.History.{History, log, cursor as cursor_of, Viewed, views, view_cursor, names_of_views}
+use Rattle.kq_catalog_journal.specs.Views.{covered}
 use Rattle.kq_catalog.specs.declared.folding.FoldFault.{FoldFault}
 use Rattle.kq_catalog.specs.declared.folding.FoldFault.TheVariants.{Behind, Memory}
 

@@ -1,8 +1,8 @@
 // The catalogue.
 ghost use Rattle.std.specs.Prelude.{◌≡◌, ◌<◌, ◌+◌, [], IfErr, IfOk, length};
-ghost use Rattle.kq_model.specs.History.{log, cursor as cursor_of, view_cursor};
-ghost use Rattle.kq_model.specs.Lawful.{LawfulCommit};
-ghost use Rattle.kq_model.specs.Records.{extents_made};
+ghost use Rattle.kq_catalog_journal.specs.History.{log, cursor as cursor_of, view_cursor};
+ghost use Rattle.kq_catalog_journal.specs.Lawful.{LawfulCommit};
+ghost use Rattle.kq_catalog_journal.specs.Records.{extents_made};
 ghost use Rattle.kq_catalog.specs.Intents.{BeginsEmpty, commit_of, event_by};
 ghost use Rattle.kq_catalog.specs.Merges.{Moves, WasPicked, merge_event};
 ghost use Rattle.kq_catalog.specs.Seen.{hist, Sound};
@@ -14,8 +14,8 @@ use crate::intent::Intent;
 use crate::merging::{MergeFault, Merging};
 use crate::snapshot::Snapshot;
 use crate::state::State;
-use kq_model::{By, Limits};
-use kq_parted::Parted;
+use kq_catalog_journal::{By, Limits};
+use kq_run_shards::Parted;
 use kq_value::Memory;
 use std::alloc::Global;
 use std::marker::Model;
@@ -30,7 +30,7 @@ pub struct Catalog {
 impl Model for Catalog {
     ghost use Rattle.std.specs.Coded.{codes};
     ghost use Rattle.kq_value.specs.contracts.value.Value as cell;
-    ghost use Rattle.kq_expr.specs.contracts.expr.Expr as expr;
+    ghost use Rattle.kq_plan_expressions.specs.contracts.expr.Expr as expr;
     ghost use Rattle.kq_catalog.specs.Seen.{CatalogView};
 
     ghost Value = { CatalogView };
@@ -49,7 +49,7 @@ pub struct Staged {
 impl Model for Staged {
     ghost use Rattle.std.specs.Coded.{codes};
     ghost use Rattle.kq_value.specs.contracts.value.Value as cell;
-    ghost use Rattle.kq_expr.specs.contracts.expr.Expr as expr;
+    ghost use Rattle.kq_plan_expressions.specs.contracts.expr.Expr as expr;
     ghost use Rattle.kq_catalog.specs.Seen.{StagedView};
 
     ghost Value = { StagedView };

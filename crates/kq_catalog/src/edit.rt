@@ -1,6 +1,6 @@
 // Edits.
-use kq_extent::Extent;
-use kq_model::Table;
+use kq_catalog_journal::Table;
+use kq_store_extent::Extent;
 use kq_value::Schema;
 use std::alloc::Global;
 use std::sync::Arc;

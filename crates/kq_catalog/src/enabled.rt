@@ -1,9 +1,9 @@
 // The enabled entries of policies.
 ghost use Rattle.std.specs.Prelude.{◌≡◌, ◌<◌, ◌++◌, ◌^◌, IfOk, OnOk, length};
-ghost use Rattle.kq_model.specs.Enabled.{enabled, enabled_in};
+ghost use Rattle.kq_catalog_journal.specs.Enabled.{enabled, enabled_in};
 
-use kq_model::{Due, Entries, Entry};
-use kq_shared::SharedList;
+use kq_catalog_journal::{Due, Entries, Entry};
+use kq_store_shared_lists::SharedList;
 use kq_value::Memory;
 use std::alloc::Global;
 

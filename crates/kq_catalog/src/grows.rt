@@ -1,7 +1,7 @@
 // The catalogue as a value that grows.
 use crate::catalog::Catalog;
-use kq_model::Event;
-use kq_turn::Grows;
+use kq_catalog_journal::Event;
+use kq_lock::Grows;
 
 /// Its history is the journal, and its limits never change.
 impl Grows for Catalog {

@@ -3,10 +3,10 @@ ghost use Rattle.std.specs.Prelude.{◌≡◌, ◌≤◌, IfOk, length};
 ghost use Rattle.std.specs.Arc.{arc_value};
 ghost use Rattle.kq_catalog.specs.Edits.{empty_table, with_extent, with_merged, wider_table};
 
-use kq_extent::{Extent, TableExtents};
-use kq_model::Table;
+use kq_catalog_journal::Table;
+use kq_store_extent::{Extent, TableExtents};
+use kq_store_rows::with_columns;
 use kq_value::{Memory, Schema};
-use kq_widened::with_columns;
 use std::alloc::Global;
 use std::marker::Model;
 use std::sync::Arc;

@@ -2,8 +2,8 @@
 ghost use Rattle.std.specs.Prelude.{◌≡◌, IfOk};
 ghost use Rattle.kq_catalog.specs.Views.{folded_view, new_view};
 
-use kq_model::{SharedView, View};
-use kq_parted::Parted;
+use kq_catalog_journal::{SharedView, View};
+use kq_run_shards::Parted;
 use kq_value::Memory;
 use std::marker::Model;
 
@@ -19,7 +19,7 @@ pub(crate) struct HeldView {
 impl Model for HeldView {
     ghost use Rattle.std.specs.Coded.{codes};
     ghost use Rattle.kq_value.specs.contracts.value.Value as cell;
-    ghost use Rattle.kq_expr.specs.contracts.expr.Expr as expr;
+    ghost use Rattle.kq_plan_expressions.specs.contracts.expr.Expr as expr;
     ghost use Rattle.kq_catalog.specs.Views.{HeldView as Seen};
 
     ghost Value = { Seen };

@@ -1,7 +1,7 @@
 // What commits are made from.
-use kq_extent::Draft;
-use kq_model::{Entries, Failures, SharedView};
-use kq_parted::Parted;
+use kq_catalog_journal::{Entries, Failures, SharedView};
+use kq_run_shards::Parted;
+use kq_store_extent::Draft;
 use kq_value::{Schema, Text};
 
 /// What a commit is to make, with the extents that its batches become.

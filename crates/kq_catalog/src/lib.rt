@@ -28,6 +28,6 @@ mod views;
 pub use catalog::{Catalog, Staged};
 pub use folding::FoldFault;
 pub use intent::{Intent, Part};
-pub use kq_parted::Parted;
+pub use kq_run_shards::Parted;
 pub use merging::{MergeFault, Merging};
 pub use snapshot::Snapshot;

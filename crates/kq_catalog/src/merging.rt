@@ -1,8 +1,8 @@
 // Merges of extents.
 ghost use Rattle.std.specs.Prelude.{◌≡◌};
 
-use kq_extent::Extent;
-use kq_model::Ids;
+use kq_catalog_journal::Ids;
+use kq_store_extent::Extent;
 use std::alloc::{AllocError, AllocFailed};
 
 /// Extents of a table, by their ids, and the one extent that they become, whatever id it has.

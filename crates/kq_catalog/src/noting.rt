@@ -1,9 +1,9 @@
 // The failures of ingestions.
 ghost use Rattle.std.specs.Prelude.{◌≡◌, ◌++◌, IfOk, OnOk, map};
-ghost use Rattle.kq_model.specs.Policies.{noted_at, noted_by};
+ghost use Rattle.kq_catalog_journal.specs.Policies.{noted_at, noted_by};
 
-use kq_model::{Commit, Failure, Noted};
-use kq_shared::SharedList;
+use kq_catalog_journal::{Commit, Failure, Noted};
+use kq_store_shared_lists::SharedList;
 use kq_value::Memory;
 use std::alloc::Global;
 use std::sync::Arc;

@@ -1,13 +1,13 @@
 // The update policies by table.
 ghost use Rattle.std.specs.Prelude.{◌≡◌, ◌<◌, ◌++◌, ◌∷◌, ◌^◌, [], IfOk, length};
-ghost use Rattle.kq_model.specs.Enabled.{enabled};
-ghost use Rattle.kq_model.specs.Force.{policy_at};
-ghost use Rattle.kq_model.specs.Policies.{policies_with, with_policy};
+ghost use Rattle.kq_catalog_journal.specs.Enabled.{enabled};
+ghost use Rattle.kq_catalog_journal.specs.Force.{policy_at};
+ghost use Rattle.kq_catalog_journal.specs.Policies.{policies_with, with_policy};
 ghost use Rattle.kq_catalog.specs.Policies.{SetsStanding};
 
 use crate::enabled::enabled;
-use kq_model::{Commit, Due, Entries, Entry};
-use kq_shared::SharedList;
+use kq_catalog_journal::{Commit, Due, Entries, Entry};
+use kq_store_shared_lists::SharedList;
 use kq_value::Memory;
 use std::alloc::Global;
 use std::marker::Model;
@@ -24,9 +24,9 @@ impl Model for Policies {
     ghost use Rattle.std.specs.Prelude.{◌≡◌, List};
     ghost use Rattle.std.specs.Arc.{arc_value};
     ghost use Rattle.std.specs.Coded.{coded_list};
-    ghost use Rattle.kq_model.specs.contracts.policy.Entries as entries;
-    ghost use Rattle.kq_model.specs.declared.policy.Entry.{Entry as Seen};
-    ghost use Rattle.kq_model.specs.Enabled.{enabled};
+    ghost use Rattle.kq_catalog_journal.specs.contracts.policy.Entries as entries;
+    ghost use Rattle.kq_catalog_journal.specs.declared.policy.Entry.{Entry as Seen};
+    ghost use Rattle.kq_catalog_journal.specs.Enabled.{enabled};
 
     ghost Value = { List (List Seen) };
 

@@ -1,9 +1,9 @@
 // What a commit changes of a state beside its tables and its journal.
 ghost use Rattle.std.specs.Prelude.{◌≡◌, ◌<◌, ◌^◌, ◌++◌, IfOk, IfSome, None, length};
-ghost use Rattle.kq_names.specs.Places.{place_of};
-ghost use Rattle.kq_model.specs.Policies.{noted_by, policies_with};
-ghost use Rattle.kq_model.specs.Tagged.{is_tagged_by};
-ghost use Rattle.kq_tagged.specs.Index.{AddsTags};
+ghost use Rattle.kq_catalog_indexes.specs.Places.{place_of};
+ghost use Rattle.kq_catalog_journal.specs.Policies.{noted_by, policies_with};
+ghost use Rattle.kq_catalog_journal.specs.Tagged.{is_tagged_by};
+ghost use Rattle.kq_catalog_indexes.specs.Tags.{AddsTags};
 ghost use Rattle.kq_catalog.specs.Policies.{SetsStanding};
 ghost use Rattle.kq_catalog.specs.Views.{names_held, with_new};
 
@@ -12,9 +12,9 @@ use crate::noting::with_failures;
 use crate::policies::Policies;
 use crate::tagging::with_commit;
 use crate::views::Views;
-use kq_model::{Commit, Noted};
-use kq_shared::SharedList;
-use kq_tagged::TagIndex;
+use kq_catalog_indexes::TagIndex;
+use kq_catalog_journal::{Commit, Noted};
+use kq_store_shared_lists::SharedList;
 use kq_value::Memory;
 use std::alloc::Global;
 

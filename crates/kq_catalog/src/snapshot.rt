@@ -3,23 +3,23 @@ ghost use Rattle.std.specs.Prelude.{◌≡◌, ◌<◌, ◌^◌, All, IfOk, Some
 ghost use Rattle.std.specs.List.Sorted.{IsPermutation};
 ghost use Rattle.std.specs.Arc.{arc_value};
 ghost use Rattle.kq_value.specs.Typed.{HasTypes};
-ghost use Rattle.kq_shared.specs.Standing.{StandsAt};
-ghost use Rattle.kq_extent.specs.Seen.{held_records};
-ghost use Rattle.kq_extent.specs.Wide.{wide_held};
-ghost use Rattle.kq_model.specs.declared.table.Table.{Table as Described};
-ghost use Rattle.kq_model.specs.History.{log, cursor as cursor_of, tables, Viewed, views, view_count, is_view, view_cursor};
-ghost use Rattle.kq_model.specs.Force.{policy_at};
-ghost use Rattle.kq_model.specs.Policies.{dues, noted, policies};
-ghost use Rattle.kq_model.specs.Records.{records, rows_in, extents, schema_of};
-ghost use Rattle.kq_model.specs.Tagged.{first_tagged};
+ghost use Rattle.kq_store_shared_lists.specs.Standing.{StandsAt};
+ghost use Rattle.kq_store_extent.specs.Seen.{held_records};
+ghost use Rattle.kq_store_extent.specs.Wide.{wide_held};
+ghost use Rattle.kq_catalog_journal.specs.declared.table.Table.{Table as Described};
+ghost use Rattle.kq_catalog_journal.specs.History.{log, cursor as cursor_of, tables, Viewed, views, view_count, is_view, view_cursor};
+ghost use Rattle.kq_catalog_journal.specs.Force.{policy_at};
+ghost use Rattle.kq_catalog_journal.specs.Policies.{dues, noted, policies};
+ghost use Rattle.kq_catalog_journal.specs.Records.{records, rows_in, extents, schema_of};
+ghost use Rattle.kq_catalog_journal.specs.Tagged.{first_tagged};
 ghost use Rattle.kq_catalog.specs.Held.{AreItems, FindsTable};
 ghost use Rattle.kq_catalog.specs.Seen.{Sound};
 ghost use Rattle.kq_catalog.specs.Views.{FindsView, HoldsPart};
 
 use crate::state::State;
-use kq_extent::TableExtents;
-use kq_model::{Due, Entry, Event, Limits, Noted, Table, View};
-use kq_parted::Parted;
+use kq_catalog_journal::{Due, Entry, Event, Limits, Noted, Table, View};
+use kq_run_shards::Parted;
+use kq_store_extent::TableExtents;
 use kq_value::{Memory, Text};
 use std::alloc::Global;
 use std::marker::Model;
@@ -35,7 +35,7 @@ impl Model for Snapshot {
     ghost use Rattle.std.specs.Arc.{arc_value};
     ghost use Rattle.std.specs.Coded.{codes};
     ghost use Rattle.kq_value.specs.contracts.value.Value as cell;
-    ghost use Rattle.kq_expr.specs.contracts.expr.Expr as expr;
+    ghost use Rattle.kq_plan_expressions.specs.contracts.expr.Expr as expr;
     ghost use Rattle.kq_catalog.specs.Seen.{CatalogView};
 
     ghost Value = { CatalogView };

@@ -1,17 +1,17 @@
 // The tables by number and by name.
 ghost use Rattle.std.specs.Prelude.{◌≡◌, ◌<◌, ◌≤◌, ◌++◌, ◌∷◌, [], IfOk, OnOk, Some, length, slice_get};
 ghost use Rattle.std.specs.Arc.{arc_value};
-ghost use Rattle.kq_model.specs.Edits.{FitsTables, FitAll, changed};
-ghost use Rattle.kq_model.specs.Edits.Edit.{NewTable};
+ghost use Rattle.kq_catalog_journal.specs.Edits.{FitsTables, FitAll, changed};
+ghost use Rattle.kq_catalog_journal.specs.Edits.Edit.{NewTable};
 ghost use Rattle.kq_catalog.specs.Edits.{edit_of, edits_by, empty_table, with_extent, with_merged, put_in, put_all, wider_table};
 ghost use Rattle.kq_catalog.specs.Held.{FindsTable, HeldTable as Held, tables_in};
 
 use crate::edit::Change;
 use crate::held::HeldTable;
-use kq_extent::Extent;
-use kq_model::Table;
-use kq_names::Names;
-use kq_shared::SharedList;
+use kq_catalog_indexes::Names;
+use kq_catalog_journal::Table;
+use kq_store_extent::Extent;
+use kq_store_shared_lists::SharedList;
 use kq_value::{Memory, Schema, Text};
 use std::alloc::Global;
 use std::marker::Model;

@@ -1,12 +1,12 @@
 // The index of tags after a commit.
 ghost use Rattle.std.specs.Prelude.{◌&&◌, IfOk, nat_eq};
 ghost use Rattle.std.specs.List.{list_any};
-ghost use Rattle.kq_model.specs.kq_repeats.Names.{is_among};
-ghost use Rattle.kq_model.specs.Tagged.{gives_tag, is_tagged_by};
-ghost use Rattle.kq_tagged.specs.Index.{AddsTags};
+ghost use Rattle.kq_catalog_journal.specs.kq_value_text_sets.Names.{is_among};
+ghost use Rattle.kq_catalog_journal.specs.Tagged.{gives_tag, is_tagged_by};
+ghost use Rattle.kq_catalog_indexes.specs.Tags.{AddsTags};
 
-use kq_model::{Batch, Commit};
-use kq_tagged::TagIndex;
+use kq_catalog_indexes::TagIndex;
+use kq_catalog_journal::{Batch, Commit};
 use kq_value::{Memory, Text};
 
 // The index in which the tags that a commit gives tables have its cursor, unless they had one.

@@ -1,13 +1,13 @@
 // The views by number and by name.
 ghost use Rattle.std.specs.Prelude.{◌≡◌, ◌<◌, ◌++◌, ◌∷◌, ◌^◌, [], IfOk, IfSome, None, Some, length, slice_get};
-ghost use Rattle.kq_model.specs.Edits.{changed};
-ghost use Rattle.kq_names.specs.Places.{place_of};
+ghost use Rattle.kq_catalog_journal.specs.Edits.{changed};
+ghost use Rattle.kq_catalog_indexes.specs.Places.{place_of};
 ghost use Rattle.kq_catalog.specs.Views.{folded_view, names_held, with_new};
 
 use crate::held_view::HeldView;
-use kq_names::Names;
-use kq_parted::Parted;
-use kq_shared::SharedList;
+use kq_catalog_indexes::Names;
+use kq_run_shards::Parted;
+use kq_store_shared_lists::SharedList;
 use kq_value::{Memory, Text};
 use std::alloc::Global;
 use std::marker::Model;
@@ -25,7 +25,7 @@ impl Model for Views {
     ghost use Rattle.std.specs.Arc.{arc_value};
     ghost use Rattle.std.specs.Coded.{codes};
     ghost use Rattle.kq_value.specs.contracts.value.Value as cell;
-    ghost use Rattle.kq_expr.specs.contracts.expr.Expr as expr;
+    ghost use Rattle.kq_plan_expressions.specs.contracts.expr.Expr as expr;
     ghost use Rattle.kq_catalog.specs.Views.{HeldView as Seen, names_held};
 
     ghost Value = { List Seen };

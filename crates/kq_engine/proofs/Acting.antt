@@ -1,18 +1,18 @@
 -- What a call on the catalogue does.
 use Rattle.std.proofs.Common.{◌≡◌, ◌≤◌, ◌+◌, ℕ, Bool, true, false, inl, inr, [], ◌∷◌, ◌++◌, length, take, refl, sym, subst}
-use Rattle.kq_model.specs.declared.event.Commit.{Commit}
-use Rattle.kq_model.specs.declared.event.Operation.TheVariants as operation
-use Rattle.kq_model.specs.declared.limits.Limits.{Limits}
-use Rattle.kq_model.specs.History.{History, cursor, log}
+use Rattle.kq_catalog_journal.specs.declared.event.Commit.{Commit}
+use Rattle.kq_catalog_journal.specs.declared.event.Operation.TheVariants as operation
+use Rattle.kq_catalog_journal.specs.declared.limits.Limits.{Limits}
+use Rattle.kq_catalog_journal.specs.History.{History, cursor, log}
 use Rattle.kq_reply.specs.declared.reply.Reply.{Reply}
 use Rattle.kq_engine.specs.declared.work.Outcome.{Outcome}
 use Rattle.kq_engine.specs.declared.work.Work.{Work}
-use Rattle.kq_look.specs.Due.{reply_to}
+use Rattle.kq_engine_prepare.specs.Due.{reply_to}
 use Rattle.kq_engine.specs.Acts.{Acts, Did}
-use Rattle.kq_look.specs.Fits.{AnswersCommand, Makes}
-use Rattle.kq_look.specs.Found.{IsCommitDue}
-use Rattle.kq_look.specs.Merges.{IsSettled}
-use Rattle.kq_look.proofs.Telling.{NamesAll-since, cursor_earlier, cursor_take, settled_less}
+use Rattle.kq_engine_prepare.specs.Fits.{AnswersCommand, Makes}
+use Rattle.kq_engine_prepare.specs.Found.{IsCommitDue}
+use Rattle.kq_engine_prepare.specs.Merges.{IsSettled}
+use Rattle.kq_engine_prepare.proofs.Telling.{NamesAll-since, cursor_earlier, cursor_take, settled_less}
 
 -- the commit that is due was appended
 pub Acts-commit : (limits : Limits) (old new : History) (work : Work) (began : ℕ) (c : Commit) (place : ℕ) (reply : Reply) → IsCommitDue limits (log old) work.command c → new ≡ old ++ record { by = work.by; operation = operation.Commit c } ∷ [] → place ≡ length new → reply ≡ reply_to c (cursor old + 1)

@@ -1,24 +1,24 @@
 -- One call advances a history; what fitted goes on to fit.
 use Rattle.std.proofs.Common.{◌≡◌, ◌≤◌, ◌+◌, ℕ, ℤ, Bool, true, false, List, [], Some, None, ◌⊎◌, inl, inr, ◌++◌, length, map, refl, take, ap, sym, ◌∙◌, subst, arith, append-nil, length-append}
 use Rattle.std.proofs.lemmas.List.{take_all, take-append-le, length_push}
-use Rattle.kq_model.specs.declared.event.By.{By}
-use Rattle.kq_model.specs.declared.event.Commit.{Commit}
-use Rattle.kq_model.specs.declared.event.Event.{Event}
-use Rattle.kq_model.specs.declared.event.Operation.{Operation}
-use Rattle.kq_model.specs.declared.event.Operation.TheVariants as operation
-use Rattle.kq_model.specs.declared.limits.Limits.{Limits}
-use Rattle.kq_model.specs.History.{History, CommitAt, commit_at, commits_at, commits_of, cursor, log}
-use Rattle.kq_model.proofs.Histories.{commits_at-push}
-use Rattle.kq_command.specs.declared.command.Command.{Command}
+use Rattle.kq_catalog_journal.specs.declared.event.By.{By}
+use Rattle.kq_catalog_journal.specs.declared.event.Commit.{Commit}
+use Rattle.kq_catalog_journal.specs.declared.event.Event.{Event}
+use Rattle.kq_catalog_journal.specs.declared.event.Operation.{Operation}
+use Rattle.kq_catalog_journal.specs.declared.event.Operation.TheVariants as operation
+use Rattle.kq_catalog_journal.specs.declared.limits.Limits.{Limits}
+use Rattle.kq_catalog_journal.specs.History.{History, CommitAt, commit_at, commits_at, commits_of, cursor, log}
+use Rattle.kq_catalog_journal.proofs.Histories.{commits_at-push}
+use Rattle.kq_read_commands.specs.declared.command.Command.{Command}
 use Rattle.kq_engine.specs.declared.work.Outcome.{Outcome}
 use Rattle.kq_reply.specs.declared.reply.Reply.{Reply}
 use Rattle.kq_engine.specs.declared.work.Work.{Work}
-use Rattle.kq_look.specs.Fits.{AnswersCommand, FitsNow, Fits, Performs, Tends, own_commit}
+use Rattle.kq_engine_prepare.specs.Fits.{AnswersCommand, FitsNow, Fits, Performs, Tends, own_commit}
 use Rattle.kq_engine.specs.Acts.{Tended, Acts, Appends, Advances}
-use Rattle.kq_look.specs.Merges.{IsMergedBy, IsSettled, NamesAll}
-use Rattle.kq_look.proofs.Accepting.{Makes-granted}
+use Rattle.kq_engine_prepare.specs.Merges.{IsMergedBy, IsSettled, NamesAll}
+use Rattle.kq_engine_prepare.proofs.Accepting.{Makes-granted}
 use Rattle.kq_engine.proofs.Acting.{Acts-since}
-use Rattle.kq_look.proofs.Telling.{Makes-still, settled_requested, settled_names, still_requested, still_names}
+use Rattle.kq_engine_prepare.proofs.Telling.{Makes-still, settled_requested, settled_names, still_requested, still_names}
 
 -- what fits a history fits each that begins with it
 pub Fits-append : (limits : Limits) (h more : History) (request : By) (command : Command) (now : ℤ) (place : ℕ) (own : Bool) (reply : Reply) → Fits limits h request command now place own reply → Fits limits (h ++ more) request command now place own reply

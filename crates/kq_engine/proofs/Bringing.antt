@@ -5,26 +5,26 @@ use Rattle.std.proofs.lemmas.Bool.{eq-eqb}
 use Rattle.std.proofs.lemmas.List.{map-append, take-append-le}
 use Rattle.std.proofs.lemmas.Option.{slice_get_within}
 use Rattle.kq_catalog.specs.Views.{WasFolded, fold_event}
-use Rattle.kq_command.specs.declared.columns.Identifier.{Identifier}
-use Rattle.kq_command.specs.declared.command.Command.{Command}
-use Rattle.kq_command.specs.declared.command.Command.TheVariants as commands
-use Rattle.kq_model.specs.declared.event.Operation.TheVariants as operation
-use Rattle.kq_model.specs.declared.limits.Limits.{Limits}
-use Rattle.kq_model.specs.History.{History, Log, Viewed, cursor, log, view_cursor, names_of_views, view_count, views, views_from}
-use Rattle.kq_model.proofs.Histories.{log-append, log-push, views-append}
-use Rattle.kq_model.proofs.Views.{view_cursor-push, no_fewer_views}
-use Rattle.kq_names.proofs.Places.{place_of-go_on}
-use Rattle.kq_names.specs.Places.{place_of}
+use Rattle.kq_read_commands.specs.declared.columns.Identifier.{Identifier}
+use Rattle.kq_read_commands.specs.declared.command.Command.{Command}
+use Rattle.kq_read_commands.specs.declared.command.Command.TheVariants as commands
+use Rattle.kq_catalog_journal.specs.declared.event.Operation.TheVariants as operation
+use Rattle.kq_catalog_journal.specs.declared.limits.Limits.{Limits}
+use Rattle.kq_catalog_journal.specs.History.{History, Log, Viewed, cursor, log, view_cursor, names_of_views, view_count, views, views_from}
+use Rattle.kq_catalog_journal.proofs.Histories.{log-append, log-push, views-append}
+use Rattle.kq_catalog_journal.proofs.Views.{view_cursor-push, no_fewer_views}
+use Rattle.kq_catalog_indexes.proofs.Places.{place_of-go_on}
+use Rattle.kq_catalog_indexes.specs.Places.{place_of}
 use Rattle.kq_reply.specs.declared.reply.Reply.TheVariants as replies
-use Rattle.kq_look.specs.declared.found.Folding.{Folding}
+use Rattle.kq_engine_prepare.specs.declared.found.Folding.{Folding}
 use Rattle.kq_engine.specs.declared.work.Outcome.{Outcome}
 use Rattle.kq_engine.specs.declared.work.Work.{Work}
 use Rattle.kq_engine.specs.Acts.{Acts, Tended}
-use Rattle.kq_look.specs.Fits.{IsDue}
-use Rattle.kq_look.specs.Found.{LagsBehind, TakesToFind, is_prepared_outside}
-use Rattle.kq_look.proofs.Folded.{folded_at}
+use Rattle.kq_engine_prepare.specs.Fits.{IsDue}
+use Rattle.kq_engine_prepare.specs.Found.{LagsBehind, TakesToFind, is_prepared_outside}
+use Rattle.kq_engine_prepare.proofs.Folded.{folded_at}
 use Rattle.kq_engine.specs.Puts.{BringsForward, LeavesView, PutsFold}
-use Rattle.kq_look.specs.Folds.{FoldsNamed, IsFoldingFor, IsFoldingIn, IsFoldingOf, TendsFold, view_number}
+use Rattle.kq_engine_prepare.specs.Folds.{FoldsNamed, IsFoldingFor, IsFoldingIn, IsFoldingOf, TendsFold, view_number}
 
 -- ---- what is folded
 

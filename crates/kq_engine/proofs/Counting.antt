@@ -3,16 +3,16 @@ use Rattle.std.proofs.Common.{◌≡◌, ℕ, ◌+◌, Bool, true, false, cond, 
 use Rattle.std.proofs.lemmas.List.{length-map}
 use Rattle.std.proofs.lemmas.List.Sums.{sum_by-cons}
 use mathlib.Core.List.{IsPrefix}
-use Rattle.kq_turn.specs.Histories.{gained}
-use Rattle.kq_turn.proofs.Beginnings.{append-gained}
-use Rattle.kq_model.specs.declared.event.By.{By}
-use Rattle.kq_model.specs.declared.event.Commit.{Commit}
-use Rattle.kq_model.specs.declared.event.Event.{Event}
-use Rattle.kq_model.specs.declared.event.Operation.{Operation}
-use Rattle.kq_model.specs.declared.event.Operation.TheVariants as operation
-use Rattle.kq_model.specs.History.{History, CommitAt, log, cursor, commits_of, commit_at, commits_from, commits_at}
-use Rattle.kq_model.proofs.Histories.{log-append}
-use Rattle.kq_look.specs.Fits.{own_commit}
+use Rattle.kq_lock.specs.Histories.{gained}
+use Rattle.kq_lock.proofs.Beginnings.{append-gained}
+use Rattle.kq_catalog_journal.specs.declared.event.By.{By}
+use Rattle.kq_catalog_journal.specs.declared.event.Commit.{Commit}
+use Rattle.kq_catalog_journal.specs.declared.event.Event.{Event}
+use Rattle.kq_catalog_journal.specs.declared.event.Operation.{Operation}
+use Rattle.kq_catalog_journal.specs.declared.event.Operation.TheVariants as operation
+use Rattle.kq_catalog_journal.specs.History.{History, CommitAt, log, cursor, commits_of, commit_at, commits_from, commits_at}
+use Rattle.kq_catalog_journal.proofs.Histories.{log-append}
+use Rattle.kq_engine_prepare.specs.Fits.{own_commit}
 use Rattle.kq_engine.specs.Shared.{commit_count}
 
 length-commits_from : (n : ℕ) (h : History) → length (commits_from n h) ≡ cursor h

@@ -1,9 +1,9 @@
 -- The engine may be shared with another thread, and a pass may go to one, since its catalogue may.
 use denote.Param.Send.{IsSend, IsSync, sendable}
 use Rattle.std.proofs.Crossing.{crosses}
-use Rattle.kq_turn.proofs.turn.Turn.TheSendSync as turn
-use Rattle.kq_turn.proofs.pass.Pass.TheSendSync as pass
-use Rattle.kq_model.proofs.limits.Limits.TheSendSync as limits
+use Rattle.kq_lock.proofs.turn.Turn.TheSendSync as turn
+use Rattle.kq_lock.proofs.pass.Pass.TheSendSync as pass
+use Rattle.kq_catalog_journal.proofs.limits.Limits.TheSendSync as limits
 use Rattle.kq_catalog.proofs.Sent.{catalog_send}
 use Rattle.kq_engine.specs.contracts.shared.Shared as Shared
 use Rattle.kq_engine.specs.contracts.shared.Shared.TheInside as Inside

@@ -1,17 +1,17 @@
 -- The commits of a history stand in it one after another, and an outcome with `own` is one of them.
 use Rattle.std.proofs.Common.{◌≡◌, ◌<◌, ◌≤◌, ◌⊎◌, ℕ, ℤ, ◌+◌, true, List, [], ◌∷◌, ◌++◌, length, map, take, drop, refl, ap, sym, ◌∙◌, subst, arith, inl, inr, append_assoc, add-zero, take-append-drop, length-take}
 use Rattle.std.proofs.lemmas.List.{length_push}
-use Rattle.kq_model.specs.declared.event.By.{By}
-use Rattle.kq_model.specs.declared.event.Commit.{Commit}
-use Rattle.kq_model.specs.declared.event.Event.{Event}
-use Rattle.kq_model.specs.declared.event.Operation.{Operation}
-use Rattle.kq_model.specs.declared.event.Operation.TheVariants as operation
-use Rattle.kq_model.specs.declared.limits.Limits.{Limits}
-use Rattle.kq_model.specs.History.{History, Log, CommitAt, commits_of, commit_at, commits_from, commits_at}
-use Rattle.kq_model.proofs.Histories.{commits_at-push}
-use Rattle.kq_command.specs.declared.command.Command.{Command}
+use Rattle.kq_catalog_journal.specs.declared.event.By.{By}
+use Rattle.kq_catalog_journal.specs.declared.event.Commit.{Commit}
+use Rattle.kq_catalog_journal.specs.declared.event.Event.{Event}
+use Rattle.kq_catalog_journal.specs.declared.event.Operation.{Operation}
+use Rattle.kq_catalog_journal.specs.declared.event.Operation.TheVariants as operation
+use Rattle.kq_catalog_journal.specs.declared.limits.Limits.{Limits}
+use Rattle.kq_catalog_journal.specs.History.{History, Log, CommitAt, commits_of, commit_at, commits_from, commits_at}
+use Rattle.kq_catalog_journal.proofs.Histories.{commits_at-push}
+use Rattle.kq_read_commands.specs.declared.command.Command.{Command}
 use Rattle.kq_reply.specs.declared.reply.Reply.{Reply}
-use Rattle.kq_look.specs.Fits.{Fits}
+use Rattle.kq_engine_prepare.specs.Fits.{Fits}
 
 abbrev pub IsIn : CommitAt → List CommitAt → Type 0
 IsIn m [] = ⊥

@@ -1,14 +1,14 @@
 -- Where memory is wanting that was prepared for.
 use Rattle.std.proofs.Common.{ℕ, ℤ, inl, inr}
 use Rattle.kq_catalog.specs.Intents.{commit_of}
-use Rattle.kq_command.specs.declared.command.Command.{Command}
-use Rattle.kq_model.specs.declared.limits.Limits.{Limits}
-use Rattle.kq_model.specs.History.{History}
-use Rattle.kq_look.specs.declared.found.Found.{Found}
-use Rattle.kq_look.specs.declared.found.Found.TheVariants as founds
-use Rattle.kq_look.specs.Found.{IsReady, MayWantMemory, TakesToFinish}
+use Rattle.kq_read_commands.specs.declared.command.Command.{Command}
+use Rattle.kq_catalog_journal.specs.declared.limits.Limits.{Limits}
+use Rattle.kq_catalog_journal.specs.History.{History}
+use Rattle.kq_engine_prepare.specs.declared.found.Found.{Found}
+use Rattle.kq_engine_prepare.specs.declared.found.Found.TheVariants as founds
+use Rattle.kq_engine_prepare.specs.Found.{IsReady, MayWantMemory, TakesToFinish}
 use Rattle.kq_engine.proofs.Bringing.{folding_finds, folding_outside}
-use Rattle.kq_look.proofs.Wanting.{commit_finds, found_wants, merging_finds, merging_outside}
+use Rattle.kq_engine_prepare.proofs.Wanting.{commit_finds, found_wants, merging_finds, merging_outside}
 
 -- finishing what was found takes memory only where finding it did, or where nothing was found
 pub ready_wants : (limits : Limits) (h : History) (place : ℕ) (later : History) (now : ℤ) (command : Command) (found : Found) → IsReady limits h now command found → TakesToFinish place later command found → MayWantMemory h later command

@@ -2,27 +2,27 @@
 use Rattle.std.proofs.Common.{◌≡◌, ◌≤◌, ◌+◌, ℕ, false, List, [], ◌∷◌, ◌++◌, length, take, refl, ap, sym, ◌∙◌, subst, append-nil, append_assoc, length-append, arith, inl, inr, None, add-zero}
 use Rattle.std.proofs.lemmas.List.{take_all}
 use mathlib.Core.List.{IsPrefix}
-use Rattle.kq_turn.specs.Histories.{gained}
-use Rattle.kq_turn.specs.Passes.{TurnId}
-use Rattle.kq_turn.proofs.Beginnings.{IsPrefix-refl, IsPrefix-trans, gained-append, take-IsPrefix}
-use Rattle.kq_model.specs.declared.limits.Limits.{Limits}
-use Rattle.kq_model.specs.History.{History, commits_at, cursor}
+use Rattle.kq_lock.specs.Histories.{gained}
+use Rattle.kq_lock.specs.Passes.{TurnId}
+use Rattle.kq_lock.proofs.Beginnings.{IsPrefix-refl, IsPrefix-trans, gained-append, take-IsPrefix}
+use Rattle.kq_catalog_journal.specs.declared.limits.Limits.{Limits}
+use Rattle.kq_catalog_journal.specs.History.{History, commits_at, cursor}
 use Rattle.kq_engine.specs.declared.work.Outcome.{Outcome}
 use Rattle.kq_engine.specs.declared.work.Work.{Work}
 use Rattle.kq_reply.specs.declared.refusal.Refusal.{Refusal}
 use Rattle.kq_reply.specs.declared.refusal.Refusal.TheVariants as refusals
 use Rattle.kq_reply.specs.declared.reply.Reply.TheVariants as replies
 use Rattle.kq_engine.specs.Acts.{Advances}
-use Rattle.kq_look.specs.Fits.{AnswersCommand, IsDue, event_by}
-use Rattle.kq_look.specs.Found.{IsReady, MayWantMemory, TakesMemory}
-use Rattle.kq_look.proofs.Wanting.{due_wants}
+use Rattle.kq_engine_prepare.specs.Fits.{AnswersCommand, IsDue, event_by}
+use Rattle.kq_engine_prepare.specs.Found.{IsReady, MayWantMemory, TakesMemory}
+use Rattle.kq_engine_prepare.proofs.Wanting.{due_wants}
 use Rattle.kq_reply.specs.declared.reply.Reply.{Reply}
-use Rattle.kq_look.specs.declared.found.Found.TheVariants as founds
+use Rattle.kq_engine_prepare.specs.declared.found.Found.TheVariants as founds
 use Rattle.kq_engine.specs.Shared.{PassView, Applies, Finishes, IsJustTaken, Concludes, commit_count}
 use Rattle.kq_engine.proofs.Advancing.{Fits-end}
 use Rattle.kq_engine.proofs.Counting.{cursor-append, cursor-gained}
-use Rattle.kq_look.specs.Merges.{NamesAll}
-use Rattle.kq_look.proofs.Telling.{NamesAll-since, cursor_take, refused_still, settled_requested, settled_names, still_names, still_requested}
+use Rattle.kq_engine_prepare.specs.Merges.{NamesAll}
+use Rattle.kq_engine_prepare.proofs.Telling.{NamesAll-since, cursor_take, refused_still, settled_requested, settled_names, still_names, still_requested}
 
 -- what a history gained is what was appended
 pub gained_of : (old new more : History) → new ≡ old ++ more → gained old new ≡ more

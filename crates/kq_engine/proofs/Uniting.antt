@@ -3,26 +3,26 @@ use Rattle.std.proofs.Common.{◌≡◌, ◌≤◌, ◌+◌, ℕ, Bool, true, fa
 use Rattle.std.specs.List.{filter, list_any}
 use Rattle.std.proofs.lemmas.Bool.{eq-eqb, true≢false}
 use Rattle.std.proofs.lemmas.List.{take-append-drop}
-use Rattle.kq_model.specs.declared.event.By.{By}
-use Rattle.kq_model.specs.declared.event.Event.{Event}
-use Rattle.kq_model.specs.declared.event.Operation.TheVariants as operation
-use Rattle.kq_model.specs.declared.limits.Limits.{Limits}
-use Rattle.kq_model.specs.History.{History, Log, NumberedTable, log, tables, table_numbered}
-use Rattle.kq_model.specs.Records.{ExtentItem, extents, is_small_item, item_ids, extents_made, picked, small_items}
-use Rattle.kq_model.proofs.Histories.{log-append, log-push}
-use Rattle.kq_model.proofs.Tables.{still_found}
+use Rattle.kq_catalog_journal.specs.declared.event.By.{By}
+use Rattle.kq_catalog_journal.specs.declared.event.Event.{Event}
+use Rattle.kq_catalog_journal.specs.declared.event.Operation.TheVariants as operation
+use Rattle.kq_catalog_journal.specs.declared.limits.Limits.{Limits}
+use Rattle.kq_catalog_journal.specs.History.{History, Log, NumberedTable, log, tables, table_numbered}
+use Rattle.kq_catalog_journal.specs.Records.{ExtentItem, extents, is_small_item, item_ids, extents_made, picked, small_items}
+use Rattle.kq_catalog_journal.proofs.Histories.{log-append, log-push}
+use Rattle.kq_catalog_journal.proofs.Tables.{still_found}
 use Rattle.kq_catalog.specs.declared.merging.Merging.{Merging}
 use Rattle.kq_catalog.specs.Merges.{IsGone, IsUnion, WasPicked, merge_event}
-use Rattle.kq_command.specs.declared.columns.Identifier.{Identifier}
-use Rattle.kq_command.specs.declared.command.Command.{Command}
-use Rattle.kq_command.specs.declared.command.Command.TheVariants as commands
+use Rattle.kq_read_commands.specs.declared.columns.Identifier.{Identifier}
+use Rattle.kq_read_commands.specs.declared.command.Command.{Command}
+use Rattle.kq_read_commands.specs.declared.command.Command.TheVariants as commands
 use Rattle.kq_reply.specs.declared.reply.Reply.{Reply}
 use Rattle.kq_reply.specs.declared.reply.Reply.TheVariants as replies
 use Rattle.kq_engine.specs.declared.work.Outcome.{Outcome}
 use Rattle.kq_engine.specs.declared.work.Work.{Work}
 use Rattle.kq_engine.specs.Acts.{Acts, Tended}
-use Rattle.kq_look.specs.Fits.{IsDue}
-use Rattle.kq_look.specs.Merges.{IsMergingFor, IsMergingIn, IsMergingOf, MergesNamed, TendsMerge}
+use Rattle.kq_engine_prepare.specs.Fits.{IsDue}
+use Rattle.kq_engine_prepare.specs.Merges.{IsMergingFor, IsMergingIn, IsMergingOf, MergesNamed, TendsMerge}
 use Rattle.kq_engine.specs.Puts.{PutsMerge}
 
 -- ---- what is merged

@@ -3,46 +3,46 @@ use Rattle.std.proofs.Common.{◌≡◌, ◌≤◌, ◌<◌, ◌+◌, ◌⊎◌,
 use Rattle.std.proofs.lemmas.Bool.{eq-eqb}
 use Rattle.std.proofs.lemmas.List.{take_all, take-append-le}
 use mathlib.Core.List.{IsPrefix}
-use Rattle.kq_turn.specs.Histories.{gained}
-use Rattle.kq_turn.specs.Passes.{TurnId}
-use Rattle.kq_turn.proofs.Beginnings.{IsPrefix-take, IsPrefix-trans, gained-append, length-IsPrefix, take-IsPrefix}
+use Rattle.kq_lock.specs.Histories.{gained}
+use Rattle.kq_lock.specs.Passes.{TurnId}
+use Rattle.kq_lock.proofs.Beginnings.{IsPrefix-take, IsPrefix-trans, gained-append, length-IsPrefix, take-IsPrefix}
 use Rattle.kq_catalog.specs.declared.merging.Merging.{Merging}
 use Rattle.kq_catalog.specs.Merges.{IsUnion}
 use Rattle.kq_catalog.specs.Views.{fold_event}
-use Rattle.kq_command.specs.declared.command.Command.{Command}
-use Rattle.kq_command.specs.declared.command.Command.TheVariants as commands
-use Rattle.kq_model.specs.declared.event.By.{By}
-use Rattle.kq_model.specs.declared.event.Event.{Event}
-use Rattle.kq_model.specs.declared.event.Operation.{Operation}
-use Rattle.kq_model.specs.declared.event.Operation.TheVariants as operation
-use Rattle.kq_model.specs.declared.limits.Limits.{Limits}
-use Rattle.kq_model.specs.History.{History, Log, NumberedTable, cursor, log, view_cursor, tables, view_count}
-use Rattle.kq_model.specs.Lawful.{AreLawful}
-use Rattle.kq_model.specs.Records.{item_ids, extents_made, picked}
-use Rattle.kq_model.proofs.Growing.{tables-stay}
-use Rattle.kq_model.proofs.Histories.{log-append}
-use Rattle.kq_model.proofs.Views.{view_cursor-push, no_fewer_views}
+use Rattle.kq_read_commands.specs.declared.command.Command.{Command}
+use Rattle.kq_read_commands.specs.declared.command.Command.TheVariants as commands
+use Rattle.kq_catalog_journal.specs.declared.event.By.{By}
+use Rattle.kq_catalog_journal.specs.declared.event.Event.{Event}
+use Rattle.kq_catalog_journal.specs.declared.event.Operation.{Operation}
+use Rattle.kq_catalog_journal.specs.declared.event.Operation.TheVariants as operation
+use Rattle.kq_catalog_journal.specs.declared.limits.Limits.{Limits}
+use Rattle.kq_catalog_journal.specs.History.{History, Log, NumberedTable, cursor, log, view_cursor, tables, view_count}
+use Rattle.kq_catalog_journal.specs.Lawful.{AreLawful}
+use Rattle.kq_catalog_journal.specs.Records.{item_ids, extents_made, picked}
+use Rattle.kq_catalog_journal.proofs.Growing.{tables-stay}
+use Rattle.kq_catalog_journal.proofs.Histories.{log-append}
+use Rattle.kq_catalog_journal.proofs.Views.{view_cursor-push, no_fewer_views}
 use Rattle.kq_reply.specs.declared.refusal.Refusal.TheVariants as refusals
 use Rattle.kq_reply.specs.declared.reply.Reply.{Reply}
 use Rattle.kq_reply.specs.declared.reply.Reply.TheVariants as replies
-use Rattle.kq_look.specs.declared.found.Found.{Found}
-use Rattle.kq_look.specs.declared.found.Found.TheVariants as founds
+use Rattle.kq_engine_prepare.specs.declared.found.Found.{Found}
+use Rattle.kq_engine_prepare.specs.declared.found.Found.TheVariants as founds
 use Rattle.kq_engine.specs.declared.upkeep.Upkeep.{Upkeep}
 use Rattle.kq_engine.specs.declared.upkeep.Upkeep.TheVariants as upkeeps
-use Rattle.kq_look.specs.declared.found.Folding.{Folding}
+use Rattle.kq_engine_prepare.specs.declared.found.Folding.{Folding}
 use Rattle.kq_engine.specs.declared.work.Outcome.{Outcome}
-use Rattle.kq_look.specs.Fits.{Fits, IsDue, event_by}
+use Rattle.kq_engine_prepare.specs.Fits.{Fits, IsDue, event_by}
 use Rattle.kq_engine.specs.Puts.{BringsForward, PutsFold}
-use Rattle.kq_look.specs.Folds.{FoldsNamed, IsFoldingIn}
-use Rattle.kq_look.specs.Merges.{IsMergedBy, IsMergingIn, IsSettled, MergesNamed, MergesTable}
+use Rattle.kq_engine_prepare.specs.Folds.{FoldsNamed, IsFoldingIn}
+use Rattle.kq_engine_prepare.specs.Merges.{IsMergedBy, IsMergingIn, IsSettled, MergesNamed, MergesTable}
 use Rattle.kq_engine.specs.Puts.{PutsMerge}
 use Rattle.kq_engine.specs.Shared.{PassView}
 use Rattle.kq_engine.specs.Upkeeps.{AnswersUpkeep, AsksFor, FinishesUpkeep, FitsEach, IsChore, IsThere, IsToldAt, IsWanted, KeepsUp, MakesOwn, PutsChore, TellsUpkeep, Upholds, WasChore, WasFound}
 use Rattle.kq_engine.proofs.Advancing.{Fits-end}
 use Rattle.kq_engine.proofs.Counting.{cursor-append}
 use Rattle.kq_engine.proofs.Sharing.{gained_of}
-use Rattle.kq_look.proofs.Folded.{folded_at}
-use Rattle.kq_look.proofs.Telling.{NamesAll-since, cursor_take, settled_names}
+use Rattle.kq_engine_prepare.proofs.Folded.{folded_at}
+use Rattle.kq_engine_prepare.proofs.Telling.{NamesAll-since, cursor_take, settled_names}
 
 -- ---- what stands goes on to stand
 

@@ -1,20 +1,20 @@
 -- What one call of the engine does.
 use Rattle.std.specs.Prelude.{◌≡◌, ◌≤◌, ◌⊎◌, ℕ, Bool, true, false, [], ◌∷◌, ◌++◌, length, take, Option, Some, Result, Ok, Err}
-use Rattle.kq_model.specs.declared.event.By.{By}
-use Rattle.kq_model.specs.declared.event.Commit.{Commit}
-use Rattle.kq_model.specs.declared.event.Operation.{Operation}
-use Rattle.kq_model.specs.declared.event.Operation.TheVariants as operation
-use Rattle.kq_model.specs.declared.limits.Limits.{Limits}
-use Rattle.kq_model.specs.History.{History, cursor, log, commits_at}
-use Rattle.kq_command.specs.declared.command.Command.{Command}
+use Rattle.kq_catalog_journal.specs.declared.event.By.{By}
+use Rattle.kq_catalog_journal.specs.declared.event.Commit.{Commit}
+use Rattle.kq_catalog_journal.specs.declared.event.Operation.{Operation}
+use Rattle.kq_catalog_journal.specs.declared.event.Operation.TheVariants as operation
+use Rattle.kq_catalog_journal.specs.declared.limits.Limits.{Limits}
+use Rattle.kq_catalog_journal.specs.History.{History, cursor, log, commits_at}
+use Rattle.kq_read_commands.specs.declared.command.Command.{Command}
 use Rattle.kq_reply.specs.declared.refusal.Refusal.{Refusal}
 use Rattle.kq_reply.specs.declared.refusal.Refusal.TheVariants as refusals
 use Rattle.kq_reply.specs.declared.reply.Reply.{Reply}
 use Rattle.kq_reply.specs.declared.reply.Reply.TheVariants as replies
-use Rattle.kq_look.specs.declared.found.Found.{Found}
-use Rattle.kq_look.specs.Fits.{AnswersCommand, Fits, IsGranted, Makes, MayMake, Tends, event_by, own_commit}
-use Rattle.kq_look.specs.Found.{TakesToFinish}
-use Rattle.kq_look.specs.Merges.{IsSettled, NamesAll}
+use Rattle.kq_engine_prepare.specs.declared.found.Found.{Found}
+use Rattle.kq_engine_prepare.specs.Fits.{AnswersCommand, Fits, IsGranted, Makes, MayMake, Tends, event_by, own_commit}
+use Rattle.kq_engine_prepare.specs.Found.{TakesToFinish}
+use Rattle.kq_engine_prepare.specs.Merges.{IsSettled, NamesAll}
 use Rattle.kq_engine.specs.declared.work.Outcome.{Outcome}
 use Rattle.kq_engine.specs.declared.work.Work.{Work}
 
@@ -23,7 +23,8 @@ abbrev pub outcome_of : History → Result Outcome Refusal → Outcome
 outcome_of h (Ok outcome) = outcome
 outcome_of h (Err r) = record { place = length h; own = false; reply = replies.Refused r }
 
--- such an operation was appended beside the reply that is due with it, which is no refusal; a merge is of all that were picked since the work began, and a fold up to all that stood there
+-- such an operation was appended beside the reply that is due with it, which is no refusal; a merge is of all that were picked since the work began,
+-- and a fold up to all that stood there
 pub record Tended (limits : Limits) (old new : History) (work : Work) (began : ℕ) (reply : Reply) : Type 0 where
   pub made : Operation
   pub tends : Tends limits old work.command reply made
@@ -48,7 +49,8 @@ pub record Appends (limits : Limits) (old new : History) (request : By) (command
   pub appended : new ≡ old ++ event_by request made
   pub commits : commits_at new ≡ commits_at old ++ own_commit outcome.own outcome.place request
 
--- one step of the engine: at most one event is appended, the outcome fits the history, and a merge is of all that were picked since the work began, a fold up to all that stood there
+-- one step of the engine: at most one event is appended, the outcome fits the history, and a merge is of all that were picked since the work began, a
+-- fold up to all that stood there
 pub record Advances (limits : Limits) (old new : History) (work : Work) (began : ℕ) (outcome : Outcome) : Type 0 where
   pub appends : Appends limits old new work.by work.command outcome
   pub fits : Fits limits new work.by work.command work.now outcome.place outcome.own outcome.reply

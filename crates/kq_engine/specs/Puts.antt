@@ -3,11 +3,11 @@ use Rattle.std.specs.Prelude.{◌≡◌, ◌<◌, ◌≤◌, ◌+◌, ◌⊎◌,
 use Rattle.kq_catalog.specs.declared.merging.Merging.{Merging}
 use Rattle.kq_catalog.specs.Merges.{merge_event}
 use Rattle.kq_catalog.specs.Views.{fold_event}
-use Rattle.kq_model.specs.declared.event.By.{By}
-use Rattle.kq_model.specs.History.{History, view_cursor}
-use Rattle.kq_model.specs.Records.{extents_made}
+use Rattle.kq_catalog_journal.specs.declared.event.By.{By}
+use Rattle.kq_catalog_journal.specs.History.{History, view_cursor}
+use Rattle.kq_catalog_journal.specs.Records.{extents_made}
 use Rattle.kq_reply.specs.declared.reply.Reply.TheVariants as replies
-use Rattle.kq_look.specs.declared.found.Folding.{Folding}
+use Rattle.kq_engine_prepare.specs.declared.found.Folding.{Folding}
 use Rattle.kq_engine.specs.declared.work.Outcome.{Outcome}
 
 -- the event of a merge was appended, and its extents are told

@@ -1,17 +1,17 @@
 -- What contracts see of the shared engine and of its passes, and what a call does to a pass.
 use Rattle.std.specs.Prelude.{◌≡◌, ◌+◌, ◌≤◌, ℕ, ℤ, Bool, false, List, [], ◌∷◌, ◌++◌, length, take, if◌then◌else◌}
 use mathlib.Core.List.{IsPrefix}
-use Rattle.kq_turn.specs.Passes.{TurnId}
-use Rattle.kq_model.specs.declared.limits.Limits.{Limits}
-use Rattle.kq_model.specs.History.{History}
+use Rattle.kq_lock.specs.Passes.{TurnId}
+use Rattle.kq_catalog_journal.specs.declared.limits.Limits.{Limits}
+use Rattle.kq_catalog_journal.specs.History.{History}
 use Rattle.kq_reply.specs.declared.refusal.Refusal.TheVariants as refusals
 use Rattle.kq_reply.specs.declared.reply.Reply.TheVariants as replies
 use Rattle.kq_engine.specs.declared.work.Outcome.{Outcome}
 use Rattle.kq_engine.specs.declared.work.Work.{Work}
 use Rattle.kq_engine.specs.Acts.{Appends}
-use Rattle.kq_look.specs.Fits.{Fits, event_by}
-use Rattle.kq_look.specs.Found.{MayWantMemory}
-use Rattle.kq_look.specs.Merges.{NamesAll}
+use Rattle.kq_engine_prepare.specs.Fits.{Fits, event_by}
+use Rattle.kq_engine_prepare.specs.Found.{MayWantMemory}
+use Rattle.kq_engine_prepare.specs.Merges.{NamesAll}
 
 -- which lock it is, and the limits of the catalogue behind it
 pub record SharedView : Type 0 where
@@ -40,7 +40,8 @@ pub record TakesOneOrTwo (old new : List ℕ) (place : ℕ) : Type 0 where
   pub few : length more ≤ 1
   pub since : first ≤ place
 
--- the call's last take found a history that goes on from what was seen, and what the pass has then seen is that with the call's own event, if it made one; the call made no other
+-- the call's last take found a history that goes on from what was seen, and what the pass has then seen is that with the call's own event, if it made
+-- one; the call made no other
 pub record AppendsLast (limits : Limits) (old new : PassView) (work : Work) (outcome : Outcome) : Type 0 where
   pub found : History
   pub begins : IsPrefix old.seen found
@@ -49,7 +50,8 @@ pub record AppendsLast (limits : Limits) (old new : PassView) (work : Work) (out
   pub appends : Appends limits found new.seen work.by work.command outcome
   pub added : new.added ≡ old.added ++ event_by work.by appends.made
 
--- a command went through the pass: memory was wanting only where the command takes some, and under its last take it made at most one event, and its outcome fits what the pass has then seen, at a place not below what it had seen
+-- a command went through the pass: memory was wanting only where the command takes some, and under its last take it made at most one event, and its
+-- outcome fits what the pass has then seen, at a place not below what it had seen
 pub record Applies (limits : Limits) (old new : PassView) (work : Work) (outcome : Outcome) : Type 0 where
   pub of : new.of ≡ old.of
   pub worth : new.worth ≡ old.worth

@@ -3,27 +3,27 @@ use Rattle.std.specs.Prelude.{◌≡◌, ◌≢◌, ◌⊎◌, ◌<◌, ◌≤�
 use mathlib.Core.List.{IsPrefix}
 use Rattle.kq_catalog.specs.Merges.{WasPicked}
 use Rattle.kq_catalog.specs.Views.{WasFolded}
-use Rattle.kq_command.specs.declared.columns.Identifier.{Identifier}
-use Rattle.kq_command.specs.declared.command.Command.{Command}
-use Rattle.kq_command.specs.declared.command.Command.TheVariants as commands
-use Rattle.kq_model.specs.declared.event.By.{By}
-use Rattle.kq_model.specs.declared.event.Operation.{Operation}
-use Rattle.kq_model.specs.declared.event.Operation.TheVariants as operation
-use Rattle.kq_model.specs.declared.limits.Limits.{Limits}
-use Rattle.kq_model.specs.History.{History, Log, NumberedTable, cursor, log, view_cursor, tables, table_numbered, view_count}
-use Rattle.kq_model.specs.Lawful.{AreLawful}
-use Rattle.kq_model.specs.Records.{picked}
+use Rattle.kq_read_commands.specs.declared.columns.Identifier.{Identifier}
+use Rattle.kq_read_commands.specs.declared.command.Command.{Command}
+use Rattle.kq_read_commands.specs.declared.command.Command.TheVariants as commands
+use Rattle.kq_catalog_journal.specs.declared.event.By.{By}
+use Rattle.kq_catalog_journal.specs.declared.event.Operation.{Operation}
+use Rattle.kq_catalog_journal.specs.declared.event.Operation.TheVariants as operation
+use Rattle.kq_catalog_journal.specs.declared.limits.Limits.{Limits}
+use Rattle.kq_catalog_journal.specs.History.{History, Log, NumberedTable, cursor, log, view_cursor, tables, table_numbered, view_count}
+use Rattle.kq_catalog_journal.specs.Lawful.{AreLawful}
+use Rattle.kq_catalog_journal.specs.Records.{picked}
 use Rattle.kq_reply.specs.declared.refusal.Refusal.TheVariants as refusals
 use Rattle.kq_reply.specs.declared.reply.Reply.{Reply}
 use Rattle.kq_reply.specs.declared.reply.Reply.TheVariants as replies
-use Rattle.kq_look.specs.declared.found.Found.{Found}
-use Rattle.kq_look.specs.declared.found.Found.TheVariants as founds
+use Rattle.kq_engine_prepare.specs.declared.found.Found.{Found}
+use Rattle.kq_engine_prepare.specs.declared.found.Found.TheVariants as founds
 use Rattle.kq_engine.specs.declared.upkeep.Upkeep.{Upkeep}
 use Rattle.kq_engine.specs.declared.upkeep.Upkeep.TheVariants as upkeeps
 use Rattle.kq_engine.specs.declared.work.Outcome.{Outcome}
-use Rattle.kq_look.specs.Fits.{Fits, event_by}
-use Rattle.kq_look.specs.Folds.{FoldsView, IsFoldingIn, view_number}
-use Rattle.kq_look.specs.Merges.{IsMergingIn, IsSettled, MergesTable, NamesAll}
+use Rattle.kq_engine_prepare.specs.Fits.{Fits, event_by}
+use Rattle.kq_engine_prepare.specs.Folds.{FoldsView, IsFoldingIn, view_number}
+use Rattle.kq_engine_prepare.specs.Merges.{IsMergingIn, IsSettled, MergesTable, NamesAll}
 use Rattle.kq_engine.specs.Shared.{PassView, TakesOneOrTwo}
 
 -- ---- what is kept up
@@ -114,7 +114,8 @@ abbrev pub MakesOwn : Upkeep → Reply → Option Operation → Type 0
 MakesOwn upkeep reply None = (extents : ℕ) → reply ≢ replies.Merged extents
 MakesOwn upkeep reply (Some made) = IsOwn upkeep reply made
 
--- at most the upkeep's own event was appended, and its outcome is told at the new end of the history: a merge is of all that were picked since the work began, and a fold up to all that stood there
+-- at most the upkeep's own event was appended, and its outcome is told at the new end of the history: a merge is of all that were picked since the
+-- work began, and a fold up to all that stood there
 pub record Upholds (old new : History) (by : By) (upkeep : Upkeep) (began : ℕ) (outcome : Outcome) : Type 0 where
   pub made : Option Operation
   pub own_event : MakesOwn upkeep outcome.reply made
@@ -142,7 +143,8 @@ pub record FinishesUpkeep (limits : Limits) (old new : PassView) (by : By) (upke
   pub upholds : Upholds found new.seen by upkeep (length old.seen) outcome
   pub added : new.added ≡ old.added ++ event_by by upholds.made
 
--- the call's last take found a history that goes on from what was seen, and what the pass has then seen is that with the upkeep's own event, if it made one; the call made no other
+-- the call's last take found a history that goes on from what was seen, and what the pass has then seen is that with the upkeep's own event, if it
+-- made one; the call made no other
 pub record UpholdsLast (old new : PassView) (by : By) (upkeep : Upkeep) (outcome : Outcome) : Type 0 where
   pub found : History
   pub begins : IsPrefix old.seen found
@@ -158,7 +160,8 @@ pub record WasWanted (h : History) (from : ℕ) (upkeep : Upkeep) : Type 0 where
   pub within : at ≤ length h
   pub wanted : IsWanted (take at h) upkeep
 
--- a fold or a merge by number went through the pass: it made at most its own event, which is no commit, its outcome tells of all that the pass has then seen, and memory was wanting only where there was something to do
+-- a fold or a merge by number went through the pass: it made at most its own event, which is no commit, its outcome tells of all that the pass has
+-- then seen, and memory was wanting only where there was something to do
 pub record KeepsUp (limits : Limits) (old new : PassView) (by : By) (upkeep : Upkeep) (outcome : Outcome) : Type 0 where
   pub of : new.of ≡ old.of
   pub worth : new.worth ≡ old.worth

@@ -2,20 +2,20 @@
 use Rattle.std.proofs.Common.{◌≡◌, ℕ, Bool, true, false, not, cond, List, [], ◌∷◌, ◌++◌, Option, Some, None, Ok, refl}
 use Rattle.std.specs.List.{All, list_any}
 use Rattle.std.proofs.lemmas.List.Elements.{All-nil, All-cons}
-use Rattle.kq_bind_export.specs.Bodies.{is_foreign, is_export_body, reads_other}
-use Rattle.kq_body.specs.Bodies.{Part, table_name, summarize as summarize_part, foreign, is_steps, is_body}
-use Rattle.kq_body.specs.Exports.{foreign_body, foreign_operators, foreign_tabular}
-use Rattle.kq_body.specs.Moments.{or_later}
-use Rattle.kq_body.specs.Parts.{foreign_at, lets_place, none, operator_parts, pipe_parts, query_parts}
-use Rattle.kq_fitting.specs.kq_bind.Queries.{query_bound}
-use Rattle.kq_grammar.specs.Trees.{TabularTree, pipeline, table as table_source, nested, worded, Operators, no_operator, and_operator, BodyTree, filter, extend, project, project_away, project_rename, summarize, summarize_by, LetTree, QueryTree}
-use Rattle.kq_moments.specs.kq_model.Moments.{step_asks}
-use Rattle.kq_moments.specs.kq_model.PolicyBodies.{asks_moment}
+use Rattle.kq_export_binder.specs.Bodies.{is_foreign, is_export_body, reads_other}
+use Rattle.kq_view_body.specs.Bodies.{Part, table_name, summarize as summarize_part, foreign, is_steps, is_body}
+use Rattle.kq_view_body.specs.Exports.{foreign_body, foreign_operators, foreign_tabular}
+use Rattle.kq_view_body.specs.Moments.{or_later}
+use Rattle.kq_view_body.specs.Parts.{foreign_at, lets_place, none, operator_parts, pipe_parts, query_parts}
+use Rattle.kq_bind_query.specs.Queries.{query_bound}
+use Rattle.kq_read_grammar.specs.Trees.{TabularTree, pipeline, table as table_source, nested, worded, Operators, no_operator, and_operator, BodyTree, filter, extend, project, project_away, project_rename, summarize, summarize_by, LetTree, QueryTree}
+use Rattle.kq_policy_moments.specs.kq_catalog_journal.Moments.{step_asks}
+use Rattle.kq_policy_moments.specs.kq_catalog_journal.PolicyBodies.{asks_moment}
 use Rattle.kq_plan.specs.declared.names.NameKind.TheVariants as name
 use Rattle.kq_plan.specs.Names.{Known}
 use Rattle.kq_plan.specs.Plans.{Planned, Stepping}
-use Rattle.kq_spelled.specs.Names.{name_said, name_place}
-use Rattle.kq_token.specs.Bytes.{is_text}
+use Rattle.kq_read_meanings.specs.Names.{name_said, name_place}
+use Rattle.kq_read_tokens.specs.Bytes.{is_text}
 use Rattle.kq_value.specs.declared.schema.Field.{Field}
 use Rattle.kq_export_laws.proofs.Owned.{own_body}
 use Rattle.kq_export_laws.proofs.Timeless.{left_false, right_false}

@@ -20,21 +20,21 @@ use Rattle.kq_bind_columns.specs.Laying.{Columns, as_they_are, laid_at, laid, al
 use Rattle.kq_bind_columns.specs.Naming.{is_taken}
 use Rattle.kq_bind_columns.specs.Printed.{position_name, item_printed, items_printed}
 use Rattle.kq_bind_columns.specs.Items.{put_default}
-use Rattle.kq_bind_expression.specs.Apply.{as_taken}
-use Rattle.kq_bind_expression.specs.Bound.{bound}
-use Rattle.kq_bind_expression.specs.Lookup.{first_named}
-use Rattle.kq_bind_expression.specs.Names.{Names}
-use Rattle.kq_bind_expression.specs.Verdicts.{Fault, Verdict, mistyped, unknown, and_then, or_fault}
-use Rattle.kq_body.specs.Exports.{moment_in_keys}
-use Rattle.kq_body.specs.Moments.{moment_in, moment_in_item, moment_in_items, moment_in_argument, moment_in_arguments, moment_in_aggregates, or_later}
-use Rattle.kq_expr.specs.Terms.{Term, Bound, column, terms_of}
-use Rattle.kq_fitting.proofs.Progress.{then_ok, done, done_is}
-use Rattle.kq_grammar.specs.declared.expression.Name.{Name}
-use Rattle.kq_grammar.specs.Trees.{Tree, ItemTree, plain, named, KeyTree, ArgumentTree, value, all, AggregateTree}
-use Rattle.kq_moments.specs.kq_model.Moments.{asks, some_asks, key_asks, aggregate_asks}
+use Rattle.kq_bind_expressions.specs.Apply.{as_taken}
+use Rattle.kq_bind_expressions.specs.Bound.{bound}
+use Rattle.kq_bind_expressions.specs.Lookup.{first_named}
+use Rattle.kq_bind_expressions.specs.Names.{Names}
+use Rattle.kq_bind_expressions.specs.Verdicts.{Fault, Verdict, mistyped, unknown, and_then, or_fault}
+use Rattle.kq_view_body.specs.Exports.{moment_in_keys}
+use Rattle.kq_view_body.specs.Moments.{moment_in, moment_in_item, moment_in_items, moment_in_argument, moment_in_arguments, moment_in_aggregates, or_later}
+use Rattle.kq_plan_expressions.specs.Terms.{Term, Bound, column, terms_of}
+use Rattle.kq_bind_query.proofs.Progress.{then_ok, done, done_is}
+use Rattle.kq_read_grammar.specs.declared.expression.Name.{Name}
+use Rattle.kq_read_grammar.specs.Trees.{Tree, ItemTree, plain, named, KeyTree, ArgumentTree, value, all, AggregateTree}
+use Rattle.kq_policy_moments.specs.kq_catalog_journal.Moments.{asks, some_asks, key_asks, aggregate_asks}
 use Rattle.kq_plan.specs.Plans.{Sorting, Aggregating, summed}
-use Rattle.kq_spelled.specs.Names.{name_said, name_place}
-use Rattle.kq_spelled.specs.Pieces.{piece}
+use Rattle.kq_read_meanings.specs.Names.{name_said, name_place}
+use Rattle.kq_read_meanings.specs.Pieces.{piece}
 use Rattle.kq_value.specs.declared.schema.Field.{Field}
 use Rattle.kq_value.specs.declared.ty.Ty.{Ty}
 use Rattle.kq_value.specs.declared.ty.Ty.TheVariants as ty

@@ -2,3 +2,8 @@ mod Bodies
 mod Clauses
 mod Owned
 mod Timeless
+mod ViewBodies
+mod First
+mod Foreign
+mod Found
+mod Supported

@@ -15,40 +15,40 @@ use Rattle.kq_bind_columns.specs.Defaults.{first_token}
 use Rattle.kq_bind_columns.specs.Items.{field, nothing_made, items_made}
 use Rattle.kq_bind_columns.specs.Laying.{as_they_are, over}
 use Rattle.kq_bind_columns.specs.Printed.{printed}
-use Rattle.kq_bind_expression.specs.Bound.{bound}
-use Rattle.kq_bind_expression.specs.Lookup.{first_named}
-use Rattle.kq_bind_expression.specs.Verdicts.{Verdict, and_then, mistyped, supported_or}
-use Rattle.kq_body.specs.Exports.{other_name, moment_in_keys, foreign_tabular, foreign_source, foreign_from, foreign_union, foreign_arms, foreign_arm, foreign_operators, foreign_body}
-use Rattle.kq_body.specs.Moments.{moment_in, moment_in_item, moment_in_items, moment_in_aggregates, moment_in_grouping, or_later}
-use Rattle.kq_expr.specs.Terms.{Bound}
-use Rattle.kq_fitting.proofs.Progress.{then_ok, done, done_is}
-use Rattle.kq_fitting.specs.kq_bind.Pipes.{tabular, sourced, from_word, united_with, gathered, armed, piped, operated}
-use Rattle.kq_fitting.specs.kq_bind.Queries.{nothing_let, scope_of, lets_made, planned, query_walked, query_bound}
-use Rattle.kq_fitting.specs.kq_bind_steps.Clauses.{range_made, range_rows, table_rows, sorted_by, topped_by, summarized_by, grouped, grouping_items, part_type, or_dynamic, item_name, item_value, if_dynamic, expanded_at, expanded_as, parts_of, joined_on, arms_with, all_together}
-use Rattle.kq_fitting.specs.kq_bind_steps.Flows.{Progressing, Flowing, columns, columns_at, after, added, following, next_stage}
-use Rattle.kq_fitting.specs.kq_bind_steps.Operators.{row_made, printed_row, where_true, filtered, row_number, taken, count_column, laid_after, projected, extended, dropped, new_name, old_name, renamed, distinct_rows, all_distinct}
-use Rattle.kq_fitting.specs.kq_bind_steps.Scopes.{Scoping, names, leaf_of, source_named}
-use Rattle.kq_fitting.specs.kq_bind_supported.Unsupported.{unsupported_query}
-use Rattle.kq_grammar.specs.declared.clause.Cell.{Cell}
-use Rattle.kq_grammar.specs.declared.clause.Column.{Column}
-use Rattle.kq_grammar.specs.declared.clause.JoinKey.{JoinKey}
-use Rattle.kq_grammar.specs.declared.expression.Name.{Name}
-use Rattle.kq_grammar.specs.Trees.{Tree, ItemTree, plain, named, KeyTree, AggregateTree, GroupingTree, TabularTree, pipeline, SourceTree, table as table_source, nested, worded, FromTree, view, print, range, datatable, union, UnionTree, arms, ArmTree, named_arm, nested_arm, Arms, no_arm, and_arm, Operators, no_operator, and_operator, BodyTree, filter, extend, project, project_away, project_rename, take, count, sort, top, distinct, distinct_all, summarize, summarize_by, join, unite, mv_expand, LetTree, QueryTree}
-use Rattle.kq_moments.specs.kq_model.Moments.{step_asks}
+use Rattle.kq_bind_expressions.specs.Bound.{bound}
+use Rattle.kq_bind_expressions.specs.Lookup.{first_named}
+use Rattle.kq_bind_expressions.specs.Verdicts.{Verdict, and_then, mistyped, supported_or}
+use Rattle.kq_view_body.specs.Exports.{other_name, moment_in_keys, foreign_tabular, foreign_source, foreign_from, foreign_union, foreign_arms, foreign_arm, foreign_operators, foreign_body}
+use Rattle.kq_view_body.specs.Moments.{moment_in, moment_in_item, moment_in_items, moment_in_aggregates, moment_in_grouping, or_later}
+use Rattle.kq_plan_expressions.specs.Terms.{Bound}
+use Rattle.kq_bind_query.proofs.Progress.{then_ok, done, done_is}
+use Rattle.kq_bind_query.specs.Pipes.{tabular, sourced, from_word, united_with, gathered, armed, piped, operated}
+use Rattle.kq_bind_query.specs.Queries.{nothing_let, scope_of, lets_made, planned, query_walked, query_bound}
+use Rattle.kq_bind_query.specs.kq_bind_operators.Clauses.{range_made, bind_range, table_rows, sorted_by, topped_by, summarized_by, grouped, grouping_items, part_type, or_dynamic, item_name, item_value, if_dynamic, expanded_at, expanded_as, bind_mv_expand, joined_on, arms_with, all_together}
+use Rattle.kq_bind_query.specs.kq_bind_operators.Flows.{Progressing, Flowing, columns, columns_at, after, added, following, next_stage}
+use Rattle.kq_bind_query.specs.kq_bind_operators.Operators.{row_made, printed_row, where_true, filtered, row_number, taken, count_column, laid_after, projected, extended, dropped, new_name, old_name, renamed, bind_distinct, all_distinct}
+use Rattle.kq_bind_query.specs.kq_bind_operators.Scopes.{Scoping, names, leaf_of, source_named}
+use Rattle.kq_bind_query.specs.kq_bind_supported.Unsupported.{unsupported_query}
+use Rattle.kq_read_grammar.specs.declared.clause.Cell.{Cell}
+use Rattle.kq_read_grammar.specs.declared.clause.Column.{Column}
+use Rattle.kq_read_grammar.specs.declared.clause.JoinKey.{JoinKey}
+use Rattle.kq_read_grammar.specs.declared.expression.Name.{Name}
+use Rattle.kq_read_grammar.specs.Trees.{Tree, ItemTree, plain, named, KeyTree, AggregateTree, GroupingTree, TabularTree, pipeline, SourceTree, table as table_source, nested, worded, FromTree, view, print, range, datatable, union, UnionTree, arms, ArmTree, named_arm, nested_arm, Arms, no_arm, and_arm, Operators, no_operator, and_operator, BodyTree, filter, extend, project, project_away, project_rename, take, count, sort, top, distinct, distinct_all, summarize, summarize_by, join, unite, mv_expand, LetTree, QueryTree}
+use Rattle.kq_policy_moments.specs.kq_catalog_journal.Moments.{step_asks}
 use Rattle.kq_plan.specs.declared.names.NameKind.TheVariants as name
 use Rattle.kq_plan.specs.declared.work.JoinKind.{JoinKind}
 use Rattle.kq_plan.specs.declared.work.LeafKind.TheVariants as kind
 use Rattle.kq_plan.specs.Names.{Known}
 use Rattle.kq_plan.specs.Plans.{Doing, leaf, one_row, numbers, written, kept, mapped, cut, counted, sorted, topped, apart, summarized, joined, united, expanded, Stepping, Planned}
-use Rattle.kq_spelled.specs.Names.{name_said, name_place}
-use Rattle.kq_syntax.specs.declared.kind.Symbol.{Symbol}
+use Rattle.kq_read_meanings.specs.Names.{name_said, name_place}
+use Rattle.kq_read_symbols.specs.declared.kind.Symbol.{Symbol}
 use Rattle.kq_value.specs.declared.schema.Field.{Field}
 use Rattle.kq_value.specs.declared.ty.Ty.{Ty}
 use Rattle.kq_value.specs.declared.ty.Ty.TheVariants as ty
 use Rattle.kq_value.specs.Ty.{same_ty}
 use Rattle.kq_export_laws.proofs.Clauses.{as_they_are_timeless, without_timeless, all_laid_timeless, items_timeless, printed_timeless, sort_key_timeless, sort_keys_timeless, ranged_timeless, aggregates_timeless}
 use Rattle.kq_export_laws.proofs.Timeless.{IsTimeless, both_false, left_false, right_false, neither, bound_timeless}
-use Rattle.kq_bind_export.specs.Bodies.{is_foreign, is_export_body, reads_other}
+use Rattle.kq_export_binder.specs.Bodies.{is_foreign, is_export_body, reads_other}
 
 module _ (text table : List ℕ) (known : List ℕ → Option Known) (cs : List Field) (stands : known table ≡ Some (name.Table, cs)) where
   -- what names stand for where no let comes before
@@ -103,7 +103,7 @@ module _ (text table : List ℕ) (known : List ℕ → Option Known) (cs : List 
       (following_own p (one_row m.0.terms) m.0.fields h (printed_timeless (names scope) 0 nothing_made is m.0 lacks refl m.1))
 
   range_own : (p : Progressing) (n : Name) (a b c : Tree) (v : Flowing) → AreOwn p.steps
-      → or_later (moment_in text a) (or_later (moment_in text b) (moment_in text c)) ≡ None → range_rows scope p n a b c ≡ Ok v → IsOwn v
+      → or_later (moment_in text a) (or_later (moment_in text b) (moment_in text c)) ≡ None → bind_range scope p n a b c ≡ Ok v → IsOwn v
   range_own p n a b c v h lacks e =
       let r = then_ok (ranged (names scope) a b c) (λ r. done (range_made scope p n r)) v e in
       subst IsOwn (done_is (range_made scope p n r.0) v r.2)
@@ -182,7 +182,7 @@ module _ (text table : List ℕ) (known : List ℕ → Option Known) (cs : List 
       subst IsOwn (done_is (put is.0 ns.0) v ns.2)
       (after_own w (λ i. mapped i (as_they_are 0 fs)) (fields_renamed 0 fs is.0 ns.0) h (as_they_are_timeless 0 fs))
 
-  distinct_own : (w v : Flowing) (ns : List Name) → IsOwn w → distinct_rows scope w ns ≡ Ok v → IsOwn v
+  distinct_own : (w v : Flowing) (ns : List Name) → IsOwn w → bind_distinct scope w ns ≡ Ok v → IsOwn v
   distinct_own w v ns h e =
       let put = λ (is : List ℕ). after w (λ i. apart i is) (columns_chosen (columns w) is) in
       let is = then_ok (chosen text (columns w) true [] ns) (λ is. done (put is)) v e in
@@ -219,7 +219,7 @@ module _ (text table : List ℕ) (known : List ℕ → Option Known) (cs : List 
   value_none (plain e) lacks = lacks
   value_none (named n e) lacks = lacks
 
-  parts_own : (w v : Flowing) (i : ItemTree) (t : Option Symbol) → IsOwn w → moment_in_item text i ≡ None → parts_of scope w i t ≡ Ok v → IsOwn v
+  parts_own : (w v : Flowing) (i : ItemTree) (t : Option Symbol) → IsOwn w → moment_in_item text i ≡ None → bind_mv_expand scope w i t ≡ Ok v → IsOwn v
   parts_own w v i t h lacks e =
       let said = item_name scope (columns w) i in
       let at = first_token (item_value i) in

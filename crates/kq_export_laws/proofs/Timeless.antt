@@ -4,34 +4,34 @@ use Rattle.std.specs.Prelude.{codes, nat_eq, option_map}
 use Rattle.std.specs.List.{list_any}
 use Rattle.std.specs.Cmp.Lexicographic.{pointwise}
 use Rattle.std.proofs.lemmas.Slice.Eq.{bytes_eq-Decides}
-use Rattle.kq_bind_expression.specs.Apply.{as_taken, called_as, applied, apply, type_of}
-use Rattle.kq_bind_expression.specs.Bound.{constant_of, literal_of, member_name, function_of, bound, bounds, chained, stepped, walked}
-use Rattle.kq_bind_expression.specs.Lookup.{first_named as first_column, made, or_else}
-use Rattle.kq_bind_expression.specs.Names.{Names}
-use Rattle.kq_bind_expression.specs.Operators.{sign, comparison_sign, find_word, negated_find, comparison, membership, interval, operation}
-use Rattle.kq_bind_expression.specs.Verdicts.{Fault, Verdict, unsupported, unknown, and_then, all_of, or_fault}
-use Rattle.kq_body.specs.Moments.{or_later, is_moment as names_moment, when, moment_in, moment_among, moment_in_links, moment_at_step, moment_at_steps}
-use Rattle.kq_expr.specs.Terms.{Bound, column, cell, call as called, terms_of}
-use Rattle.kq_fitting.proofs.Progress.{then_ok, done, done_is}
-use Rattle.kq_fn.specs.declared.function.Function.{Function}
-use Rattle.kq_fn.specs.declared.function.Function.TheVariants as f
-use Rattle.kq_fn.specs.Names.{function_names, first_named, function_named}
-use Rattle.kq_fn.specs.Table.{chosen, TypedCall}
-use Rattle.kq_grammar.specs.Trees.{Precedence, disjunction, conjunction, sum, product, Tree, name, literal, group, call, path, signed, compare, within, between, chain, Trees, no_tree, and_tree, Links, no_link, and_link, OneStep, member, index, Steps, no_step, and_step}
-use Rattle.kq_moments.specs.kq_model.Moments.{is_moment, asks, some_asks}
-use Rattle.kq_spelled.specs.Literals.{literal_value}
-use Rattle.kq_spelled.specs.Names.{name_said, name_place}
-use Rattle.kq_spelled.specs.Pieces.{piece}
-use Rattle.kq_syntax.specs.declared.kind.Kind.{Kind}
-use Rattle.kq_syntax.specs.declared.kind.Kind.TheVariants as kind
-use Rattle.kq_syntax.specs.declared.kind.Symbol.{Symbol}
-use Rattle.kq_syntax.specs.declared.word.ReservedWord.{ReservedWord}
-use Rattle.kq_syntax.specs.declared.word.ReservedWord.TheVariants as reserved
-use Rattle.kq_syntax.specs.declared.word.Word.TheVariants as word
-use Rattle.kq_token.specs.declared.kind.Operator.{Operator}
-use Rattle.kq_token.specs.declared.kind.Operator.TheVariants as operator
-use Rattle.kq_token.specs.declared.kind.WordOperator.{WordOperator}
-use Rattle.kq_token.specs.declared.kind.WordOperator.TheVariants as negated
+use Rattle.kq_bind_expressions.specs.Apply.{as_taken, called_as, applied, apply, type_of}
+use Rattle.kq_bind_expressions.specs.Bound.{constant_of, literal_of, member_name, function_of, bound, bounds, chained, stepped, walked}
+use Rattle.kq_bind_expressions.specs.Lookup.{first_named as first_column, made, or_else}
+use Rattle.kq_bind_expressions.specs.Names.{Names}
+use Rattle.kq_bind_expressions.specs.Operators.{sign, comparison_sign, find_word, negated_find, comparison, membership, interval, operation}
+use Rattle.kq_bind_expressions.specs.Verdicts.{Fault, Verdict, unsupported, unknown, and_then, all_of, or_fault}
+use Rattle.kq_view_body.specs.Moments.{or_later, is_moment as names_moment, when, moment_in, moment_among, moment_in_links, moment_at_step, moment_at_steps}
+use Rattle.kq_plan_expressions.specs.Terms.{Bound, column, cell, call as called, terms_of}
+use Rattle.kq_bind_query.proofs.Progress.{then_ok, done, done_is}
+use Rattle.kq_plan_functions.specs.declared.function.Function.{Function}
+use Rattle.kq_plan_functions.specs.declared.function.Function.TheVariants as f
+use Rattle.kq_plan_functions.specs.Names.{function_names, first_named, function_named}
+use Rattle.kq_plan_functions.specs.Table.{chosen, TypedCall}
+use Rattle.kq_read_grammar.specs.Trees.{Precedence, disjunction, conjunction, sum, product, Tree, name, literal, group, call, path, signed, compare, within, between, chain, Trees, no_tree, and_tree, Links, no_link, and_link, OneStep, member, index, Steps, no_step, and_step}
+use Rattle.kq_policy_moments.specs.kq_catalog_journal.Moments.{is_moment, asks, some_asks}
+use Rattle.kq_read_meanings.specs.Literals.{literal_value}
+use Rattle.kq_read_meanings.specs.Names.{name_said, name_place}
+use Rattle.kq_read_meanings.specs.Pieces.{piece}
+use Rattle.kq_read_symbols.specs.declared.kind.Kind.{Kind}
+use Rattle.kq_read_symbols.specs.declared.kind.Kind.TheVariants as kind
+use Rattle.kq_read_symbols.specs.declared.kind.Symbol.{Symbol}
+use Rattle.kq_read_symbols.specs.declared.word.ReservedWord.{ReservedWord}
+use Rattle.kq_read_symbols.specs.declared.word.ReservedWord.TheVariants as reserved
+use Rattle.kq_read_symbols.specs.declared.word.Word.TheVariants as word
+use Rattle.kq_read_tokens.specs.declared.kind.Operator.{Operator}
+use Rattle.kq_read_tokens.specs.declared.kind.Operator.TheVariants as operator
+use Rattle.kq_read_tokens.specs.declared.kind.WordOperator.{WordOperator}
+use Rattle.kq_read_tokens.specs.declared.kind.WordOperator.TheVariants as negated
 use Rattle.kq_value.specs.declared.schema.Field.{Field}
 use Rattle.kq_value.specs.declared.ty.Ty.{Ty}
 use Rattle.kq_value.specs.declared.ty.Ty.TheVariants as ty

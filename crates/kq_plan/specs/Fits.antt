@@ -1,7 +1,7 @@
 -- A plan that fits the names that it is bound over: the columns and the types of every step.
 use Rattle.std.specs.Prelude.{◌≡◌, ◌≢◌, ◌⊎◌, ℕ, zero, suc, List, [], ◌∷◌, ◌++◌, All, map, Option, Some, None, slice_get, option_and_then}
-use Rattle.kq_expr.specs.HasType.{Has, HoldsProper}
-use Rattle.kq_expr.specs.Terms.{Term}
+use Rattle.kq_plan_expressions.specs.HasType.{Has, HoldsProper}
+use Rattle.kq_plan_expressions.specs.Terms.{Term}
 use Rattle.kq_plan.specs.declared.names.NameKind.TheVariants as name
 use Rattle.kq_plan.specs.declared.work.JoinKind.{JoinKind}
 use Rattle.kq_plan.specs.declared.work.JoinKind.TheVariants as join
@@ -9,10 +9,10 @@ use Rattle.kq_plan.specs.declared.work.LeafKind.{LeafKind}
 use Rattle.kq_plan.specs.declared.work.LeafKind.TheVariants as kind
 use Rattle.kq_plan.specs.Names.{Known}
 use Rattle.kq_plan.specs.Plans.{Sorting, Aggregating, rows_counted, summed, least_of, greatest_of, at_greatest, at_least, any_of, set_of, Filling, Doing, leaf, one_row, numbers, written, scalar, kept, mapped, cut, counted, sorted, topped, apart, summarized, joined, united, expanded, Stepping, Planned}
-use Rattle.kq_expr.specs.kq_value.Field.{Field}
-use Rattle.kq_expr.specs.kq_value.Ty.{Ty}
-use Rattle.kq_expr.specs.kq_value.TheVariants as ty
-use Rattle.kq_expr.specs.kq_value.Typed.{HasTypes}
+use Rattle.kq_plan_expressions.specs.kq_value.Field.{Field}
+use Rattle.kq_plan_expressions.specs.kq_value.Ty.{Ty}
+use Rattle.kq_plan_expressions.specs.kq_value.TheVariants as ty
+use Rattle.kq_plan_expressions.specs.kq_value.Typed.{HasTypes}
 
 -- ---- what earlier steps give
 

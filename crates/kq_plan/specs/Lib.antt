@@ -1,4 +1,4 @@
 pub mod Names
 pub mod Plans
 pub mod Fits
-pub mod kq_fn
+pub mod kq_plan_functions

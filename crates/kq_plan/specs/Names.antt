@@ -2,7 +2,7 @@
 use Rattle.std.specs.Prelude.{ℕ, List}
 use denote.Ref.{Bor}
 use Rattle.kq_plan.specs.declared.names.NameKind.{NameKind}
-use Rattle.kq_expr.specs.kq_value.Field.{Field}
+use Rattle.kq_plan_expressions.specs.kq_value.Field.{Field}
 
 abbrev pub Known : Type 0
 Known = NameKind × List Field

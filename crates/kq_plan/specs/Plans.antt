@@ -1,8 +1,8 @@
 -- Plans as plain data.
 use Rattle.std.specs.Prelude.{ℕ, Bool, List, Option, Vec, map}
 use Rattle.std.specs.declared.alloc.Global.{Global}
-use Rattle.kq_expr.specs.declared.expr.Expr.{Expr}
-use Rattle.kq_expr.specs.Terms.{Term, term_of}
+use Rattle.kq_plan_expressions.specs.declared.expr.Expr.{Expr}
+use Rattle.kq_plan_expressions.specs.Terms.{Term, term_of}
 use Rattle.kq_plan.specs.declared.plan.Plan.{Plan}
 use Rattle.kq_plan.specs.declared.plan.Step.{Step}
 use Rattle.kq_plan.specs.declared.work.Aggregate.{Aggregate}
@@ -13,9 +13,9 @@ use Rattle.kq_plan.specs.declared.work.LeafKind.{LeafKind}
 use Rattle.kq_plan.specs.declared.work.SortKey.{SortKey}
 use Rattle.kq_plan.specs.declared.work.Work.{Work}
 use Rattle.kq_plan.specs.declared.work.Work.TheVariants as work
-use Rattle.kq_expr.specs.kq_value.Field.{Field}
-use Rattle.kq_expr.specs.kq_value.Ty.{Ty}
-use Rattle.kq_expr.specs.kq_value.Value.{Value}
+use Rattle.kq_plan_expressions.specs.kq_value.Field.{Field}
+use Rattle.kq_plan_expressions.specs.kq_value.Ty.{Ty}
+use Rattle.kq_plan_expressions.specs.kq_value.Value.{Value}
 
 -- a key of a sort: its value, whether it descends, and whether nulls come first
 pub record Sorting : Type 0 where
@@ -107,7 +107,7 @@ doing_of (work.Distinct i cs) = apart i cs.items
 doing_of (work.Summarize i es gs) = summarized i (terms_seen es) (map aggregating_of gs.items)
 doing_of (work.Join k i j ps) = joined k i j ps.items
 doing_of (work.Union us) = united (map filling_of us.items)
-doing_of (work.Expand i e c t) = expanded i (term_of e) c t
+doing_of (work.MvExpand i e c t) = expanded i (term_of e) c t
 
 abbrev pub stepping_of : Step → Stepping
 stepping_of s = record { stage = s.stage; doing = doing_of s.work; columns = s.columns.items }

@@ -1,4 +1,5 @@
-//! Plans as data: what a query does, as a flat list of steps in the order of their evaluation, and the names of a catalogue that it is bound over. How a query becomes a plan, and what a plan gives, is left to the crates above.
+//! Plans as data: what a query does, as a flat list of steps in the order of their evaluation, and the names of a catalogue that it is bound over.
+//! How a query becomes a plan, and what a plan gives, is left to the crates above.
 #![tactic(auto)]
 
 mod names;

@@ -3,7 +3,7 @@ ghost use Rattle.std.specs.Prelude.{◌≡◌, ℕ, List, Option};
 ghost use Rattle.std.specs.Option.{option_map};
 ghost use Rattle.kq_plan.specs.Names.{Known, known_of};
 
-use kq_expr::{Schema, Text};
+use kq_plan_expressions::{Schema, Text};
 
 /// What a name of a catalogue stands for.
 #[derive(Clone, Copy, PartialEq, Eq)]

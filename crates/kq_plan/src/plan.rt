@@ -1,7 +1,7 @@
 // Plans and their steps.
 
 use crate::work::Work;
-use kq_expr::Field;
+use kq_plan_expressions::Field;
 
 /// One step: the number of its stage in the text, from 1, what it does, and the columns of its rows. The step of a scalar let has
 /// one column, that of its cell.

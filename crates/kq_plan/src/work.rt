@@ -1,6 +1,6 @@
 // What a step does. Columns are named by their numbers, from 0.
 
-use kq_expr::{Expr, Text, Ty, Value};
+use kq_plan_expressions::{Expr, Text, Ty, Value};
 
 /// Which rows a leaf gives.
 #[derive(Clone, Copy, PartialEq, Eq)]
@@ -89,5 +89,5 @@ pub enum Work {
     Union(Vec<Arm>),
     /// `mv-expand`: a row for each part of a dynamic, which stands in the column of this number, in place of one of the input's or behind
     /// them. Each part is converted where a type is said.
-    Expand(usize, Expr, usize, Option<Ty>),
+    MvExpand(usize, Expr, usize, Option<Ty>),
 }

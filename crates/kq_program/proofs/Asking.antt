@@ -2,8 +2,8 @@
 use Rattle.std.proofs.Common.{◌≡◌, ◌≤◌, ◌&&◌, Bool, true, false, ℕ, cond, List, length, nat_le, ◌∷◌, [], Option, Some, None, option_and_then, option_map, unwrap_or, refl, subst, arith}
 use Rattle.std.proofs.lemmas.Bool.Decides.{nat_tests}
 use Rattle.std.specs.Str.Parse.{digits_value}
-use Rattle.kq_words.specs.Words.{Asked, Said, WordText, asked, asked_by, all_asked, are_distinct, feeds_given, is_number, read, number_given, number_in, texts_of}
-use Rattle.kq_words.specs.Words.Kind.{workers, generate, feed}
+use Rattle.kq_program_options.specs.Words.{Asked, Said, WordText, asked, asked_by, all_asked, are_distinct, feeds_given, is_number, read, number_given, number_in, texts_of}
+use Rattle.kq_program_options.specs.Words.Kind.{workers, generate, feed}
 
 -- at most seven, no two equal
 pub record AreFeeds (feeds : List WordText) : Type 0 where

@@ -4,15 +4,15 @@ use Rattle.std.proofs.lemmas.Bool.{eqb-true, ltb-false, ltb-true, ne_eqb}
 use Rattle.std.proofs.lemmas.List.Elements.{All-head, All-nil, All-tail, All-weaker}
 use Rattle.std.proofs.lemmas.List.Sums.{sum_by-append, sum_by-cons}
 use mathlib.Core.List.{IsPrefix}
-use Rattle.kq_turn.specs.Passes.{TurnId}
-use Rattle.kq_turn.proofs.Beginnings.{IsPrefix-trans}
-use Rattle.kq_model.specs.declared.event.Event.{Event}
-use Rattle.kq_model.specs.declared.limits.Limits.{Limits}
-use Rattle.kq_model.specs.History.{History, commits_of}
+use Rattle.kq_lock.specs.Passes.{TurnId}
+use Rattle.kq_lock.proofs.Beginnings.{IsPrefix-trans}
+use Rattle.kq_catalog_journal.specs.declared.event.Event.{Event}
+use Rattle.kq_catalog_journal.specs.declared.limits.Limits.{Limits}
+use Rattle.kq_catalog_journal.specs.History.{History, commits_of}
 use Rattle.kq_workers.specs.kq_engine.Shared.{PassView}
 use Rattle.kq_workers.specs.Rounds.{is_upkeep}
 use Rattle.kq_session.specs.Session.{is_receipted}
-use Rattle.kq_session.specs.kq_exporter.Due.{ExporterView}
+use Rattle.kq_session.specs.kq_export_interface.Due.{ExporterView}
 use Rattle.kq_program.specs.Together.{Passed, ServedAll, ServedBeside}
 use Rattle.kq_program.specs.Views.{OpenedView, EndedView}
 use Rattle.kq_program.specs.Whole.{HasWorked, HaveWorked, RestsOrWorks, is_caused, is_of_actor, is_of_sessions, is_of_workers}

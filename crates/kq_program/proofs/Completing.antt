@@ -4,19 +4,19 @@ use Rattle.std.specs.List.{AllByRecursion}
 use Rattle.std.proofs.lemmas.List.{length-take}
 use Rattle.std.proofs.lemmas.List.Elements.{recursion_from_All}
 use Rattle.kq_world.specs.Outside.{Contents, Rose}
-use Rattle.kq_model.specs.declared.limits.Limits.{Limits}
-use Rattle.kq_model.specs.History.{History}
+use Rattle.kq_catalog_journal.specs.declared.limits.Limits.{Limits}
+use Rattle.kq_catalog_journal.specs.History.{History}
 use Rattle.kq_workers.specs.kq_catalog.Seen.{CatalogView, hist}
-use Rattle.kq_words.specs.Words.{Asked}
+use Rattle.kq_program_options.specs.Words.{Asked}
 use Rattle.kq_session.specs.Complete.{IsComplete}
 use Rattle.kq_session.specs.Objects.{Objects, SessionView}
 use Rattle.kq_session.specs.Session.{Explained, input_bytes}
 use Rattle.kq_session.proofs.Completing.{complete_by}
-use Rattle.kq_session.specs.kq_exporter.Due.{Holding, nothing_held}
-use Rattle.kq_export.specs.Held.{ExporterState}
-use Rattle.kq_gen.specs.Commands.{script}
-use Rattle.kq_gen.specs.Source.{script_read, script_unread}
-use Rattle.kq_gen.proofs.Lengths.{length-script}
+use Rattle.kq_session.specs.kq_export_interface.Due.{Holding, nothing_held}
+use Rattle.kq_export_run.specs.Held.{ExporterState}
+use Rattle.kq_script_generated.specs.Commands.{script}
+use Rattle.kq_script_generated.specs.Source.{script_read, script_unread}
+use Rattle.kq_script_generated.proofs.Lengths.{length-script}
 use Rattle.kq_program.specs.Headline.{AreComplete, AreExplained, AreUntroubled, CompletesRun, IsCaused, IsCompleteRun, IsUntroubledBy, RanBy, RunsProgram, first_status, given_to_sessions}
 use Rattle.kq_program.specs.Scripts.{ByScript, as_reading, unfailed, with_source}
 use Rattle.kq_program.specs.Views.{EndedView, Given, RunView, held_by}

@@ -8,7 +8,7 @@ use Rattle.std.proofs.lemmas.Slice.Eq.{bytes_eq-Decides}
 use Rattle.kq_world.specs.Outside.{Contents, AsksFor, OpensByCause, Rose}
 use Rattle.kq_world.specs.declared.outside.OpenFault.{OpenFault}
 use Rattle.kq_world.specs.declared.outside.OpenFault.TheVariants.{Failed, Memory}
-use Rattle.kq_words.specs.Words.{are_distinct}
+use Rattle.kq_program_options.specs.Words.{are_distinct}
 use Rattle.kq_program.specs.Opening.{IsOpened, AreOpened, AsksInOrder, OpensFeeds}
 use Rattle.kq_program.specs.Views.{OpenedView, RunView}
 

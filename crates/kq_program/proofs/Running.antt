@@ -3,18 +3,18 @@ use Rattle.std.proofs.Common.{◌≡◌, ◌≢◌, ◌<◌, ◌+◌, ◌++◌, 
 use Rattle.std.proofs.lemmas.List.Elements.{All-cons, All-head, All-nil, All-tail}
 use Rattle.std.proofs.lemmas.List.Sums.{sum_by-cons}
 use mathlib.Core.List.{IsPrefix}
-use Rattle.kq_turn.proofs.Beginnings.{IsPrefix-trans}
+use Rattle.kq_lock.proofs.Beginnings.{IsPrefix-trans}
 use Rattle.kq_world.specs.Outside.{Contents, Rose}
-use Rattle.kq_model.specs.declared.event.Event.{Event}
-use Rattle.kq_model.specs.declared.limits.Limits.{Limits}
-use Rattle.kq_model.specs.Limits.{AreFull}
-use Rattle.kq_model.specs.History.{History, cursor}
+use Rattle.kq_catalog_journal.specs.declared.event.Event.{Event}
+use Rattle.kq_catalog_journal.specs.declared.limits.Limits.{Limits}
+use Rattle.kq_catalog_journal.specs.Limits.{AreFull}
+use Rattle.kq_catalog_journal.specs.History.{History, cursor}
 use Rattle.kq_workers.specs.kq_catalog.Seen.{CatalogView, hist, Sound}
 use Rattle.kq_workers.specs.kq_engine.Shared.{PassView}
-use Rattle.kq_exported.specs.Exported.{IsExported}
-use Rattle.kq_exported.proofs.Exported.{IsExported-later}
-use Rattle.kq_session.specs.kq_exporter.Due.{ExporterView, Holding, nothing_held}
-use Rattle.kq_export.specs.Held.{ExporterState, exports_in, told_of}
+use Rattle.kq_export_ranges.specs.Exported.{IsExported}
+use Rattle.kq_export_ranges.proofs.Exported.{IsExported-later}
+use Rattle.kq_session.specs.kq_export_interface.Due.{ExporterView, Holding, nothing_held}
+use Rattle.kq_export_run.specs.Held.{ExporterState, exports_in, told_of}
 use Rattle.kq_session.specs.declared.end.End.{End}
 use Rattle.kq_session.specs.declared.end.End.TheVariants.{Finished, Short, SourceFault, SinkFault, InputLimit}
 use Rattle.kq_session.specs.declared.receipt.Receipt.{Receipt}

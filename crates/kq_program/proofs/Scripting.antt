@@ -3,12 +3,12 @@ use Rattle.std.proofs.Common.{◌≡◌, ℕ, Bool, true, false, List, [], Optio
 use Rattle.std.proofs.lemmas.List.Elements.{All-nil}
 use Rattle.std.proofs.lemmas.List.Sums.{sum_by-cons}
 use mathlib.Core.List.{IsPrefix}
-use Rattle.kq_turn.proofs.Beginnings.{IsPrefix-refl}
+use Rattle.kq_lock.proofs.Beginnings.{IsPrefix-refl}
 use Rattle.kq_world.specs.Outside.{Contents, SourceView}
 use Rattle.kq_world.proofs.Faults.{same-later}
-use Rattle.kq_model.specs.declared.event.Event.{Event}
-use Rattle.kq_model.specs.declared.limits.Limits.{Limits}
-use Rattle.kq_model.specs.History.{History}
+use Rattle.kq_catalog_journal.specs.declared.event.Event.{Event}
+use Rattle.kq_catalog_journal.specs.declared.limits.Limits.{Limits}
+use Rattle.kq_catalog_journal.specs.History.{History}
 use Rattle.kq_workers.specs.kq_engine.Shared.{PassView}
 use Rattle.kq_session.specs.declared.end.End.{End}
 use Rattle.kq_session.specs.Ends.{status_of}
@@ -17,10 +17,10 @@ use Rattle.kq_session.specs.Session.{SessionEnds, Explained, IsShortFor, PassGoe
 use Rattle.kq_session.specs.Blocks.{GoesOn}
 use Rattle.kq_session.specs.Exchanges.{Rises}
 use Rattle.kq_session.proofs.Serving.{SessionEnds-none}
-use Rattle.kq_session.specs.kq_exporter.Due.{ExporterView, Holding}
-use Rattle.kq_gen.specs.Commands.{script}
-use Rattle.kq_gen.specs.Source.{ScriptState, script_read, script_told, script_unread}
-use Rattle.kq_gen.proofs.Reading.{told-since}
+use Rattle.kq_session.specs.kq_export_interface.Due.{ExporterView, Holding}
+use Rattle.kq_script_generated.specs.Commands.{script}
+use Rattle.kq_script_generated.specs.Source.{ScriptState, script_read, script_told, script_unread}
+use Rattle.kq_script_generated.proofs.Reading.{told-since}
 use Rattle.kq_program.specs.Scripts.{ByScript, as_reading, unfailed, with_source}
 use Rattle.kq_program.specs.Together.{IsUnasked, ServedOne, all_owns, unserved}
 use Rattle.kq_program.specs.Views.{EndedView, OpenedView}

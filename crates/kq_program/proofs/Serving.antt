@@ -4,16 +4,16 @@ use Rattle.std.proofs.lemmas.Bool.Decides.{nat_tests}
 use Rattle.std.proofs.lemmas.List.Elements.{All-append, All-weaker}
 use Rattle.std.proofs.lemmas.List.Sums.{sum_by-append}
 use mathlib.Core.List.{IsPrefix}
-use Rattle.kq_turn.specs.Passes.{TurnId}
-use Rattle.kq_turn.proofs.Beginnings.{IsPrefix-trans}
-use Rattle.kq_model.specs.declared.event.Event.{Event}
-use Rattle.kq_model.specs.declared.limits.Limits.{Limits}
-use Rattle.kq_model.specs.History.{History, commits_of}
+use Rattle.kq_lock.specs.Passes.{TurnId}
+use Rattle.kq_lock.proofs.Beginnings.{IsPrefix-trans}
+use Rattle.kq_catalog_journal.specs.declared.event.Event.{Event}
+use Rattle.kq_catalog_journal.specs.declared.limits.Limits.{Limits}
+use Rattle.kq_catalog_journal.specs.History.{History, commits_of}
 use Rattle.kq_workers.specs.kq_engine.Shared.{PassView}
 use Rattle.kq_session.specs.Session.{Explained, is_receipted, owns}
 use Rattle.kq_session.proofs.Serving.{Explained-later}
 use Rattle.kq_session.specs.Blocks.{serves_to}
-use Rattle.kq_session.specs.kq_exporter.Due.{ExporterView, Holding, none_told, nothing_held}
+use Rattle.kq_session.specs.kq_export_interface.Due.{ExporterView, Holding, none_told, nothing_held}
 use Rattle.kq_program.specs.Together.{IsUnasked, IsServed, AreServed, Passed, ServedOne, ServedAll, all_owns}
 use Rattle.kq_program.specs.Views.{OpenedView, EndedView}
 use Rattle.kq_program.specs.Whole.{is_caused, is_of_sessions, is_of_workers}

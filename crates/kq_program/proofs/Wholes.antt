@@ -3,9 +3,9 @@ use Rattle.std.proofs.Common.{◌≡◌, ◌<◌, ◌≤◌, ◌⊎◌, ℕ, ◌
 use Rattle.std.proofs.lemmas.List.Sums.{sum_by-cons}
 use Rattle.std.proofs.lemmas.List.Elements.{All-cons, All-nil}
 use Rattle.std.proofs.lemmas.Bool.Decides.{nat_tests}
-use Rattle.kq_model.specs.declared.event.Event.{Event}
-use Rattle.kq_model.specs.declared.limits.Limits.{Limits}
-use Rattle.kq_model.specs.History.{History, CommitAt, cursor, commits_at}
+use Rattle.kq_catalog_journal.specs.declared.event.Event.{Event}
+use Rattle.kq_catalog_journal.specs.declared.limits.Limits.{Limits}
+use Rattle.kq_catalog_journal.specs.History.{History, CommitAt, cursor, commits_at}
 use Rattle.kq_workers.specs.kq_engine.Fits.{own_commit}
 use Rattle.kq_workers.specs.kq_engine.Shared.{commit_count}
 use Rattle.kq_workers.proofs.kq_engine.Counting.{length-commits_at}
@@ -14,7 +14,7 @@ use Rattle.kq_session.specs.declared.receipt.Receipt.{Receipt}
 use Rattle.kq_session.specs.Objects.{Objects, SessionView}
 use Rattle.kq_session.specs.Session.{Explained, owns, own_commits}
 use Rattle.kq_session.proofs.Owned.{Follows, AreIn, AreOwned, Explained-owned}
-use Rattle.kq_session.specs.kq_exporter.Due.{Holding, nothing_held}
+use Rattle.kq_session.specs.kq_export_interface.Due.{Holding, nothing_held}
 use Rattle.kq_program.specs.Scripts.{ByScript}
 use Rattle.kq_program.specs.Together.{AreServed, all_owns}
 use Rattle.kq_program.specs.Views.{OpenedView, EndedView}

@@ -1,9 +1,9 @@
 -- A worker's pass, through which no session goes.
 use Rattle.std.proofs.Common.{◌≡◌, ◌∙◌, ℕ, Bool, true, [], refl, sym, add-zero, append-nil}
 use Rattle.std.proofs.lemmas.List.Elements.{All-nil}
-use Rattle.kq_turn.proofs.Beginnings.{IsPrefix-refl}
-use Rattle.kq_model.specs.declared.event.Event.{Event}
-use Rattle.kq_model.specs.declared.limits.Limits.{Limits}
+use Rattle.kq_lock.proofs.Beginnings.{IsPrefix-refl}
+use Rattle.kq_catalog_journal.specs.declared.event.Event.{Event}
+use Rattle.kq_catalog_journal.specs.declared.limits.Limits.{Limits}
 use Rattle.kq_workers.specs.kq_engine.Shared.{PassView}
 use Rattle.kq_workers.specs.Rounds.{Works, is_upkeep}
 use Rattle.kq_program.specs.Together.{Passed}

@@ -1,14 +1,14 @@
 -- What a run comes to.
 use Rattle.std.specs.Prelude.{◌≡◌, ◌≢◌, ◌<◌, ◌+◌, ◌⊎◌, ℕ, List, [], ◌∷◌, map, Option, Some, None, All, IsSome, nat_eq, if◌then◌else◌}
 use Rattle.kq_world.specs.Outside.{Contents, Rose}
-use Rattle.kq_model.specs.declared.limits.Limits.{Limits}
-use Rattle.kq_model.specs.Limits.{AreFull}
-use Rattle.kq_model.specs.History.{History}
+use Rattle.kq_catalog_journal.specs.declared.limits.Limits.{Limits}
+use Rattle.kq_catalog_journal.specs.Limits.{AreFull}
+use Rattle.kq_catalog_journal.specs.History.{History}
 use Rattle.kq_workers.specs.kq_catalog.Seen.{CatalogView, hist, Sound}
-use Rattle.kq_words.specs.Words.{Asked}
-use Rattle.kq_exported.specs.Exported.{IsExported}
-use Rattle.kq_session.specs.kq_exporter.Due.{Holding, nothing_held}
-use Rattle.kq_export.specs.Held.{ExporterState, exports_in}
+use Rattle.kq_program_options.specs.Words.{Asked}
+use Rattle.kq_export_ranges.specs.Exported.{IsExported}
+use Rattle.kq_session.specs.kq_export_interface.Due.{Holding, nothing_held}
+use Rattle.kq_export_run.specs.Held.{ExporterState, exports_in}
 use Rattle.kq_session.specs.Complete.{IsComplete, IsUntroubled}
 use Rattle.kq_session.specs.Objects.{Objects}
 use Rattle.kq_session.specs.Session.{Explained}
@@ -25,7 +25,8 @@ AreExplained limits h n holding [] (s ∷ ss) = ⊥
 AreExplained limits h n holding (g ∷ given) [] = ⊥
 AreExplained limits h n holding (g ∷ given) (s ∷ ss) = ByScript (Explained limits h n holding) g.generate (unfailed g.contents) s.session × AreExplained limits h (n + 1) nothing_held given ss
 
--- the headline: the catalogue is sound, its commits are the sessions' and each of its events has its cause, there is session 0 and then one session per feed,
+-- the headline: the catalogue is sound, its commits are the sessions' and each of its events has its cause, there is session 0 and then one session
+-- per feed,
 -- the catalogue's one history explains each, and the artefacts hold what the exports of session 0 give over it
 pub record Headline (workers : ℕ) (feeds : List (List ℕ)) (given : List Given) (c : CatalogView) (e : ExporterState) (sessions : List EndedView) : Type 0 where
   pub sound : Sound c

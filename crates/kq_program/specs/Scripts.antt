@@ -2,7 +2,7 @@
 use Rattle.std.specs.Prelude.{◌≡◌, ℕ, Bool, Option, Some, None}
 use Rattle.kq_world.specs.Outside.{SourceView, Contents}
 use Rattle.kq_session.specs.Objects.{Objects, SessionView}
-use Rattle.kq_gen.specs.Source.{script_read, script_unread}
+use Rattle.kq_script_generated.specs.Source.{script_read, script_unread}
 
 -- what objects tell that have not failed yet
 abbrev pub unfailed : Contents → Objects

@@ -3,15 +3,15 @@ use Rattle.std.specs.Prelude.{◌≡◌, ◌+◌, ◌++◌, ℕ, ℤ, Bool, true
 use mathlib.Core.List.{IsPrefix}
 use Rattle.kq_world.specs.Outside.{SourceView}
 use Rattle.kq_world.specs.declared.outside.Parts.{Parts}
-use Rattle.kq_model.specs.declared.event.Event.{Event}
-use Rattle.kq_model.specs.declared.limits.Limits.{Limits}
-use Rattle.kq_model.specs.History.{History}
+use Rattle.kq_catalog_journal.specs.declared.event.Event.{Event}
+use Rattle.kq_catalog_journal.specs.declared.limits.Limits.{Limits}
+use Rattle.kq_catalog_journal.specs.History.{History}
 use Rattle.kq_workers.specs.kq_engine.Shared.{PassView}
 use Rattle.kq_session.specs.declared.end.End.TheVariants.{Short}
 use Rattle.kq_session.specs.Objects.{Objects, objects}
 use Rattle.kq_session.specs.Session.{Explained, is_receipted, owns}
 use Rattle.kq_session.specs.Exchanges.{Rises}
-use Rattle.kq_session.specs.kq_exporter.Due.{ExporterView, Holding, nothing_held}
+use Rattle.kq_session.specs.kq_export_interface.Due.{ExporterView, Holding, nothing_held}
 use Rattle.kq_program.specs.Scripts.{ByScript}
 use Rattle.kq_program.specs.Views.{OpenedView, EndedView}
 use Rattle.kq_program.specs.Whole.{HaveWorked, is_caused}

@@ -3,8 +3,8 @@ use Rattle.std.specs.Prelude.{ℕ, List, Option}
 use Rattle.kq_world.specs.Outside.{Contents}
 use Rattle.kq_workers.specs.kq_catalog.Seen.{CatalogView}
 use Rattle.kq_session.specs.Objects.{Objects, SessionView}
-use Rattle.kq_session.specs.kq_exporter.Due.{Holding}
-use Rattle.kq_export.specs.Held.{ExporterState, exports_in}
+use Rattle.kq_session.specs.kq_export_interface.Due.{Holding}
+use Rattle.kq_export_run.specs.Held.{ExporterState, exports_in}
 
 -- what a session is given: of how many rows its script is generated, where it is, and what its objects tell at first
 pub record Given : Type 0 where

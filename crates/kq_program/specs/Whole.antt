@@ -1,9 +1,9 @@
 -- The events of a history are those of its sessions and workers.
 use Rattle.std.specs.Prelude.{◌≡◌, ◌⊎◌, ◌<◌, ◌+◌, ◌++◌, ◌&&◌, ◌||◌, ℕ, Bool, true, false, List, [], ◌∷◌, length, filter, All, count_by, nat_eq, nat_le, nat_lt}
 use mathlib.Core.List.{IsPrefix}
-use Rattle.kq_model.specs.declared.event.Event.{Event}
-use Rattle.kq_model.specs.declared.limits.Limits.{Limits}
-use Rattle.kq_model.specs.History.{History, CommitAt, commits_at, commits_of}
+use Rattle.kq_catalog_journal.specs.declared.event.Event.{Event}
+use Rattle.kq_catalog_journal.specs.declared.limits.Limits.{Limits}
+use Rattle.kq_catalog_journal.specs.History.{History, CommitAt, commits_at, commits_of}
 use Rattle.kq_workers.specs.kq_engine.Shared.{PassView}
 use Rattle.kq_workers.specs.Rounds.{Works}
 use Rattle.kq_session.specs.Session.{is_receipted, own_commits}

@@ -1,6 +1,6 @@
 -- What the words of a run ask for, and what its status says of them.
 use Rattle.std.specs.Prelude.{◌≡◌, ◌⊎◌, ℕ, List, [], Option, Some, None, String, map, string_bytes}
-use Rattle.kq_words.specs.Words.{Asked, asked}
+use Rattle.kq_program_options.specs.Words.{Asked, asked}
 
 -- what the words ask for, where they have the form
 abbrev pub asked_in : {A : Type 0} → List (String A) → Option Asked

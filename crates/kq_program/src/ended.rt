@@ -1,5 +1,5 @@
 // What the program hands back.
-use kq_export::ArtefactExporter;
+use kq_export_run::ArtefactExporter;
 use kq_session::{End, Receipts, Requests};
 use kq_value::Text;
 use kq_workers::Catalog;
@@ -53,7 +53,7 @@ pub struct Run<W: World> {
 impl<W: World> Model for Run<W> {
     ghost use Rattle.std.specs.Coded.{codes};
     ghost use Rattle.kq_value.specs.contracts.value.Value as cell;
-    ghost use Rattle.kq_expr.specs.contracts.expr.Expr as expr;
+    ghost use Rattle.kq_plan_expressions.specs.contracts.expr.Expr as expr;
     ghost use Rattle.kq_program.specs.Views.{RunView};
 
     ghost Value = { RunView };

@@ -1,7 +1,7 @@
 // Opening the feeds.
 ghost use Rattle.std.specs.Prelude.{◌≡◌, IfOk, true};
 ghost use Rattle.kq_world.specs.Outside.{OpensByCause};
-ghost use Rattle.kq_words.specs.Words.{are_distinct};
+ghost use Rattle.kq_program_options.specs.Words.{are_distinct};
 ghost use Rattle.kq_program.specs.Opening.{AreOpened, AsksInOrder};
 
 use crate::opened::{Opened, OpenedSession};

@@ -1,6 +1,6 @@
 // The top call.
 ghost use Rattle.std.specs.Prelude.{◌≡◌, ◌≢◌, ◌≤◌, [], IsSome, None, false, length, true};
-ghost use Rattle.kq_words.specs.Words.{are_distinct};
+ghost use Rattle.kq_program_options.specs.Words.{are_distinct};
 ghost use Rattle.kq_program.specs.Headline.{CompletesRun, RunsProgram, first_status};
 ghost use Rattle.kq_program.specs.Opening.{OpensFeeds, RunsOpened};
 ghost use Rattle.kq_program.specs.Views.{RunView};
@@ -11,10 +11,10 @@ use crate::feeds::open_feeds;
 use crate::opened::{Opened, OpenedSession};
 use crate::together::Together;
 use crate::workers::serve_beside_workers;
-use kq_export::ArtefactExporter;
-use kq_model::Limits;
+use kq_catalog_journal::Limits;
+use kq_export_run::ArtefactExporter;
+use kq_program_options::{Options, OptionsError};
 use kq_value::Text;
-use kq_words::{Options, OptionsError};
 use kq_workers::Shared;
 use kq_world::{Clock, Gate, OpenFault, Sink, Source, World};
 use std::alloc::Global;

@@ -2,7 +2,7 @@
 ghost use Rattle.std.specs.Prelude.{◌≡◌, ◌<◌, ◌≤◌, ◌+◌, ◌∷◌, [], length, Some, true, vec_capacity};
 ghost use Rattle.kq_session.specs.Objects.{objects};
 ghost use Rattle.kq_session.specs.Blocks.{serves_to};
-ghost use Rattle.kq_session.specs.kq_exporter.Due.{none_told};
+ghost use Rattle.kq_session.specs.kq_export_interface.Due.{none_told};
 ghost use Rattle.kq_program.specs.Together.{IsUnasked, ServedOne, ServedAll, scripted, unserved};
 
 use crate::ended::EndedSession;

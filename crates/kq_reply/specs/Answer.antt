@@ -5,9 +5,9 @@ use Rattle.kq_value.specs.declared.ty.Ty.{Ty}
 use Rattle.kq_value.specs.declared.ty.Ty.TheVariants.{Long, Int, Text, Bool as Truth, Moment, Span, Dynamic}
 use Rattle.kq_value.specs.declared.schema.Field.{Field}
 use Rattle.kq_value.specs.declared.value.Value.{Value}
-use Rattle.kq_written.specs.Cells.{escaped, reply_text_of}
-use Rattle.kq_answer.specs.declared.answer.Answer.{Answer}
-pub use Rattle.kq_lines.specs.Lines.{AreArranged, ended}
+use Rattle.kq_value_formats.specs.Cells.{escaped, reply_text_of}
+use Rattle.kq_store_rows.specs.declared.answer.Answer.{Answer}
+pub use Rattle.kq_reply.specs.Lines.{AreArranged, ended}
 
 -- words and a number
 abbrev pub counted : List ℕ → ℕ → List ℕ

@@ -1,19 +1,18 @@
 // The printed form of an answer.
 ghost use Rattle.std.specs.Prelude.{◌≡◌, ◌++◌, IfOk, OnOk, All, codes, false, map};
 ghost use Rattle.std.specs.List.{flat_map};
-ghost use Rattle.kq_written.specs.Cells.{escaped, escaped_byte, reply_text_of};
+ghost use Rattle.kq_value_formats.specs.Cells.{escaped, escaped_byte, reply_text_of};
 ghost use Rattle.kq_value.specs.Typed.{HasTypes, IsProper};
 ghost use Rattle.kq_reply.specs.Answer.{Prints, PutsRows, column_text, counted, ended, header_text, row_text, tab_before, type_name as name_of};
-ghost use Rattle.kq_lines.specs.Lines.{AreLines};
+ghost use Rattle.kq_reply.specs.Lines.{AreLines};
 
 use crate::escape::escape_sign;
+use crate::lines::{Lines, put_line, put_lines, sorted};
 use itoa::Buffer;
-use kq_answer::Answer;
-use kq_dynamic::put_dyn;
-use kq_lines::{Lines, put_line, put_lines, sorted};
-use kq_rows::Rows;
-use kq_time::{put_datetime, put_timespan};
+use kq_store_rows::{Answer, Rows};
 use kq_value::{Bytes, Field, Memory, Schema, Ty, Value};
+use kq_value_json::put_dyn;
+use kq_value_time::{put_datetime, put_timespan};
 use std::alloc::Global;
 
 /// The answer as it is printed: its number of rows, its header and its rows, each line with an LF at its end.

@@ -1,35 +1,35 @@
 -- What fits a block goes on to fit.
 use Rattle.std.proofs.Common.{◌≡◌, ◌⊎◌, ◌+◌, ◌∷◌, Option, Some, None, ap, ◌∙◌, take_all, ℕ, ℤ, Bool, ◌++◌, List, length, take, [], true, false, refl, inl, inr, subst, sym, arith, length-append, append-nil, add-zero, Result, Ok, Err}
 use mathlib.Core.List.{IsPrefix}
-use Rattle.kq_turn.proofs.Beginnings.{IsPrefix-refl, IsPrefix-trans}
+use Rattle.kq_lock.proofs.Beginnings.{IsPrefix-refl, IsPrefix-trans}
 use Rattle.std.proofs.lemmas.List.{take-append-le}
-use Rattle.kq_model.specs.declared.event.By.{By}
-use Rattle.kq_model.specs.declared.limits.Limits.{Limits}
-use Rattle.kq_model.specs.History.{History}
-use Rattle.kq_command.specs.declared.command.Asked.{Asked}
-use Rattle.kq_command.specs.declared.command.Asked.TheVariants.{Engine, Exporter}
-use Rattle.kq_command.specs.declared.command.Export.{Export}
-use Rattle.kq_command.specs.declared.command.CommandFault.{CommandFault}
-use Rattle.kq_command.specs.declared.command.CommandFault.TheVariants.{NotText, Syntax, Deep, Unsupported, Memory}
-use Rattle.kq_command.specs.Reads.{ReadsAs}
+use Rattle.kq_catalog_journal.specs.declared.event.By.{By}
+use Rattle.kq_catalog_journal.specs.declared.limits.Limits.{Limits}
+use Rattle.kq_catalog_journal.specs.History.{History}
+use Rattle.kq_read_commands.specs.declared.command.Asked.{Asked}
+use Rattle.kq_read_commands.specs.declared.command.Asked.TheVariants.{Engine, Exporter}
+use Rattle.kq_read_commands.specs.declared.command.Export.{Export}
+use Rattle.kq_read_commands.specs.declared.command.CommandFault.{CommandFault}
+use Rattle.kq_read_commands.specs.declared.command.CommandFault.TheVariants.{NotText, Syntax, Deep, Unsupported, Memory}
+use Rattle.kq_read_commands.specs.Reads.{ReadsAs}
 use Rattle.kq_reply.specs.Number.{kind_of, number_of}
 use Rattle.kq_reply.specs.declared.refusal.Refusal.{Refusal}
 use Rattle.kq_reply.specs.declared.refusal.Refusal.TheVariants as refusals
 use Rattle.kq_reply.specs.declared.reply.Reply.{Reply}
 use Rattle.kq_reply.specs.declared.reply.Reply.TheVariants as replies
 use Rattle.kq_engine.specs.declared.work.Outcome.{Outcome}
-use Rattle.kq_engine.specs.kq_look.Merges.{IsStill}
-use Rattle.kq_engine.specs.kq_look.Fits.{MayMake, event_by}
+use Rattle.kq_engine.specs.kq_engine_prepare.Merges.{IsStill}
+use Rattle.kq_engine.specs.kq_engine_prepare.Fits.{MayMake, event_by}
 use Rattle.kq_engine.specs.Shared.{Applies, PassView, commit_count}
 use Rattle.kq_engine.specs.declared.work.Work.{Work}
-use Rattle.kq_engine.proofs.kq_look.Accepting.{granted_kind}
-use Rattle.kq_model.specs.declared.event.Operation.{Operation}
-use Rattle.kq_command.specs.declared.command.Command.{Command}
-use Rattle.kq_script.specs.Script.{Block, command, too_long}
+use Rattle.kq_engine.proofs.kq_engine_prepare.Accepting.{granted_kind}
+use Rattle.kq_catalog_journal.specs.declared.event.Operation.{Operation}
+use Rattle.kq_read_commands.specs.declared.command.Command.{Command}
+use Rattle.kq_script_blocks.specs.Script.{Block, command, too_long}
 use Rattle.kq_engine.proofs.Advancing.{Fits-append}
-use Rattle.kq_engine.proofs.kq_look.Telling.{refused_still, still_names}
-use Rattle.kq_exporter.specs.Due.{AnswersHolding, ExporterView, Holding}
-use Rattle.kq_exporter.proofs.Replies.{IsOfExports, of_exports}
+use Rattle.kq_engine.proofs.kq_engine_prepare.Telling.{refused_still, still_names}
+use Rattle.kq_export_interface.specs.Due.{AnswersHolding, ExporterView, Holding}
+use Rattle.kq_export_interface.proofs.Replies.{IsOfExports, of_exports}
 use Rattle.kq_session.specs.Blocks.{RefusesAlone, FitsExport, FitsRead, FitsBlock, AnswersBlock, AnswersExport, GoesOn, MakesFor, MayMakeFor, is_early, refusal_of, serves_to}
 
 RefusesAlone-append : (h more : History) (place : ℕ) (own : Bool) (reply : Reply) (r : Refusal) → RefusesAlone h place own reply r → RefusesAlone (h ++ more) place own reply r

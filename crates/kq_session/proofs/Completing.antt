@@ -4,29 +4,29 @@ use Rattle.std.proofs.Math.Nat.{sub-zero}
 use Rattle.std.proofs.lemmas.List.Elements.{All-cons, All-nil}
 use Rattle.kq_world.specs.Told.{Adds}
 use Rattle.kq_world.specs.Outside.{Contents}
-use Rattle.kq_model.specs.declared.event.By.{By}
-use Rattle.kq_model.specs.declared.limits.Limits.{Limits}
-use Rattle.kq_model.specs.History.{History, log}
-use Rattle.kq_command.specs.declared.command.Asked.{Asked}
-use Rattle.kq_command.specs.declared.command.Asked.TheVariants.{Engine, Exporter}
-use Rattle.kq_command.specs.declared.command.Command.{Command}
-use Rattle.kq_command.specs.declared.command.Export.{Export}
-use Rattle.kq_command.specs.declared.command.CommandFault.{CommandFault}
-use Rattle.kq_command.specs.Reads.{ReadsAs}
+use Rattle.kq_catalog_journal.specs.declared.event.By.{By}
+use Rattle.kq_catalog_journal.specs.declared.limits.Limits.{Limits}
+use Rattle.kq_catalog_journal.specs.History.{History, log}
+use Rattle.kq_read_commands.specs.declared.command.Asked.{Asked}
+use Rattle.kq_read_commands.specs.declared.command.Asked.TheVariants.{Engine, Exporter}
+use Rattle.kq_read_commands.specs.declared.command.Command.{Command}
+use Rattle.kq_read_commands.specs.declared.command.Export.{Export}
+use Rattle.kq_read_commands.specs.declared.command.CommandFault.{CommandFault}
+use Rattle.kq_read_commands.specs.Reads.{ReadsAs}
 use Rattle.kq_reply.specs.Number.{number_of, kind_of}
 use Rattle.kq_reply.specs.declared.refusal.Refusal.{Refusal}
 use Rattle.kq_reply.specs.declared.refusal.Refusal.TheVariants as refusals
 use Rattle.kq_reply.specs.declared.reply.Reply.{Reply}
 use Rattle.kq_reply.specs.declared.reply.Reply.TheVariants as replies
-use Rattle.kq_script.specs.Script.{Block, command, too_long}
-use Rattle.kq_engine.specs.kq_look.Fits.{FitsNow, IsDue}
+use Rattle.kq_script_blocks.specs.Script.{Block, command, too_long}
+use Rattle.kq_engine.specs.kq_engine_prepare.Fits.{FitsNow, IsDue}
 use Rattle.kq_engine.specs.Shared.{commit_count}
-use Rattle.kq_engine.proofs.kq_look.Accepting.{Accept-commit}
+use Rattle.kq_engine.proofs.kq_engine_prepare.Accepting.{Accept-commit}
 use Rattle.kq_session.specs.declared.end.End.{End}
 use Rattle.kq_session.specs.declared.end.End.TheVariants.{Finished, Short, SourceFault, SinkFault, InputLimit}
 use Rattle.kq_session.specs.declared.receipt.Receipt.{Receipt}
 use Rattle.kq_world.specs.Outside.{Rose}
-use Rattle.kq_exporter.specs.Due.{Holding, IsExportDue, Refuses, tells_fault}
+use Rattle.kq_export_interface.specs.Due.{Holding, IsExportDue, Refuses, tells_fault}
 use Rattle.kq_session.specs.Blocks.{FitsExport, FitsRead, FitsBlock, RefusesAlone, refusal_of, serves_to}
 use Rattle.kq_session.specs.Complete.{AreAllBlocks, CompletesSession, IsComplete, IsRefusedBlock, IsServed, IsValid}
 use Rattle.kq_session.specs.Ends.{status_of, wants_memory}

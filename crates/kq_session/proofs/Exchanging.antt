@@ -4,17 +4,17 @@ use Rattle.std.specs.Result.{is_err}
 use Rattle.kq_world.specs.Outside.{SourceView, Delivers, Rose}
 use Rattle.kq_world.proofs.Faults.{Rose-later, same-later}
 use Rattle.kq_world.proofs.Told.{Delivers-none}
-use Rattle.kq_model.specs.declared.event.By.{By}
-use Rattle.kq_model.specs.declared.limits.Limits.{Limits}
-use Rattle.kq_script.specs.Script.{Block, script_blocks}
-use Rattle.kq_script.specs.Reading.{IsUnclosed as MayGoOn, IsPrefix, IsReading, ReadsItem as ReadsOn}
-use Rattle.kq_script.specs.State.{IsAt}
-use Rattle.kq_script.specs.declared.reader.Phase.{Phase}
-use Rattle.kq_script.specs.declared.reader.Phase.TheVariants as phases
-use Rattle.kq_script.specs.Item.{IsItemOf}
-use Rattle.kq_script.specs.declared.reader.ScriptReader.{ScriptReader}
-use Rattle.kq_script.specs.declared.item.Item.{Item}
-use Rattle.kq_script.specs.declared.item.Item.TheVariants.{Command, TooLong, Lost, Finished}
+use Rattle.kq_catalog_journal.specs.declared.event.By.{By}
+use Rattle.kq_catalog_journal.specs.declared.limits.Limits.{Limits}
+use Rattle.kq_script_blocks.specs.Script.{Block, script_blocks}
+use Rattle.kq_script_blocks.specs.Reading.{IsUnclosed as MayGoOn, IsPrefix, IsReading, ReadsItem as ReadsOn}
+use Rattle.kq_script_blocks.specs.State.{IsAt}
+use Rattle.kq_script_blocks.specs.declared.reader.Phase.{Phase}
+use Rattle.kq_script_blocks.specs.declared.reader.Phase.TheVariants as phases
+use Rattle.kq_script_blocks.specs.Item.{IsItemOf}
+use Rattle.kq_script_blocks.specs.declared.reader.ScriptReader.{ScriptReader}
+use Rattle.kq_script_blocks.specs.declared.item.Item.{Item}
+use Rattle.kq_script_blocks.specs.declared.item.Item.TheVariants.{Command, TooLong, Lost, Finished}
 use Rattle.kq_session.specs.declared.end.End.{End}
 use Rattle.kq_session.specs.declared.end.End.TheVariants as ends
 use Rattle.kq_session.specs.declared.receipt.Receipt.{Receipt}

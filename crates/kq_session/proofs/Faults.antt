@@ -2,21 +2,21 @@
 use Rattle.std.proofs.Common.{◌≡◌, ◌≢◌, ◌⊎◌, ◌^◌, MatchBool, ◌≤◌, ◌<◌, ◌+◌, ℕ, ℤ, Bool, true, false, cond, List, [], ◌∷◌, ◌++◌, length, ap, sym, ◌∙◌, subst, refl, inl, inr, arith, zero-add, Result, Ok, Err}
 use Rattle.std.proofs.lemmas.List.Sums.{count_by-le-length, sum_by-append}
 use Rattle.kq_world.specs.Outside.{Rose}
-use Rattle.kq_model.specs.declared.event.By.{By}
-use Rattle.kq_model.specs.declared.limits.Limits.{Limits}
-use Rattle.kq_model.specs.History.{History}
-use Rattle.kq_command.specs.declared.command.Asked.{Asked}
-use Rattle.kq_command.specs.declared.command.Asked.TheVariants.{Engine, Exporter}
-use Rattle.kq_command.specs.declared.command.CommandFault.{CommandFault}
-use Rattle.kq_command.specs.declared.command.CommandFault.TheVariants.{NotText, Syntax, Deep, Unsupported, Memory}
+use Rattle.kq_catalog_journal.specs.declared.event.By.{By}
+use Rattle.kq_catalog_journal.specs.declared.limits.Limits.{Limits}
+use Rattle.kq_catalog_journal.specs.History.{History}
+use Rattle.kq_read_commands.specs.declared.command.Asked.{Asked}
+use Rattle.kq_read_commands.specs.declared.command.Asked.TheVariants.{Engine, Exporter}
+use Rattle.kq_read_commands.specs.declared.command.CommandFault.{CommandFault}
+use Rattle.kq_read_commands.specs.declared.command.CommandFault.TheVariants.{NotText, Syntax, Deep, Unsupported, Memory}
 use Rattle.kq_reply.specs.Number.{kind_of, number_of}
 use Rattle.kq_reply.specs.declared.refusal.Refusal.{Refusal}
 use Rattle.kq_reply.specs.declared.refusal.Refusal.TheVariants as refusals
 use Rattle.kq_reply.specs.declared.reply.Reply.{Reply}
 use Rattle.kq_reply.specs.declared.reply.Reply.TheVariants as replies
-use Rattle.kq_script.specs.Script.{Block, command, too_long}
-use Rattle.kq_engine.proofs.kq_look.Failing.{Fits-tells_none}
-use Rattle.kq_exporter.specs.Due.{Holding, tells_fault}
+use Rattle.kq_script_blocks.specs.Script.{Block, command, too_long}
+use Rattle.kq_engine.proofs.kq_engine_prepare.Failing.{Fits-tells_none}
+use Rattle.kq_export_interface.specs.Due.{Holding, tells_fault}
 use Rattle.kq_session.specs.declared.receipt.Receipt.{Receipt}
 use Rattle.kq_session.specs.Blocks.{FitsRead, FitsBlock, refusal_of}
 use Rattle.kq_session.specs.Session.{artefact_faults, is_fault}

@@ -1,7 +1,7 @@
 -- A session goes on by one exchange.
 use Rattle.std.proofs.Common.{◌≡◌, ◌≤◌, ◌<◌, ◌+◌, ◌^◌, ◌&&◌, ◌||◌, ℕ, Bool, true, false, List, [], ◌∷◌, ◌++◌, length, map, take, nat_eq, All, Option, Some, None, Result, Ok, Err, ap, sym, ◌∙◌, subst, refl, arith, append-nil, append_assoc, length-append, add-zero, zero-add}
 use mathlib.Core.List.{IsPrefix}
-use Rattle.kq_turn.proofs.Beginnings.{IsPrefix-refl, IsPrefix-trans}
+use Rattle.kq_lock.proofs.Beginnings.{IsPrefix-refl, IsPrefix-trans}
 use Rattle.std.specs.List.{list_any}
 use Rattle.std.proofs.lemmas.Bool.{eq-eqb}
 use Rattle.std.proofs.lemmas.List.Elements.{All-append, All-cons, All-nil, All-weaker}
@@ -11,25 +11,25 @@ use Rattle.std.proofs.lemmas.List.{length-map, map_push, flat_map_more, length_p
 use Rattle.kq_world.specs.Told.{Adds}
 use Rattle.kq_world.specs.Outside.{Contents, Delivers}
 use Rattle.kq_world.proofs.Told.{Adds-none, Adds-trans, Delivers-none, Delivers-trans}
-use Rattle.kq_model.specs.declared.limits.Limits.{Limits}
-use Rattle.kq_model.specs.declared.event.By.{By}
-use Rattle.kq_model.specs.declared.event.Event.{Event}
-use Rattle.kq_model.specs.declared.event.Operation.{Operation}
-use Rattle.kq_model.specs.History.{History}
+use Rattle.kq_catalog_journal.specs.declared.limits.Limits.{Limits}
+use Rattle.kq_catalog_journal.specs.declared.event.By.{By}
+use Rattle.kq_catalog_journal.specs.declared.event.Event.{Event}
+use Rattle.kq_catalog_journal.specs.declared.event.Operation.{Operation}
+use Rattle.kq_catalog_journal.specs.History.{History}
 use Rattle.kq_reply.specs.declared.reply.Reply.{Reply}
 use Rattle.kq_reply.specs.Number.{kind_of}
-use Rattle.kq_printed.specs.Text.{text_of}
-use Rattle.kq_script.specs.Script.{Block, script_blocks}
-use Rattle.kq_script.specs.Reading.{IsReading, IsPrefix as Begins}
-use Rattle.kq_script.specs.declared.reader.ScriptReader.{ScriptReader}
-use Rattle.kq_engine.specs.kq_look.Fits.{event_by}
-use Rattle.kq_engine.specs.kq_look.Merges.{NamesAll}
+use Rattle.kq_reply_print.specs.Text.{text_of}
+use Rattle.kq_script_blocks.specs.Script.{Block, script_blocks}
+use Rattle.kq_script_blocks.specs.Reading.{IsReading, IsPrefix as Begins}
+use Rattle.kq_script_blocks.specs.declared.reader.ScriptReader.{ScriptReader}
+use Rattle.kq_engine.specs.kq_engine_prepare.Fits.{event_by}
+use Rattle.kq_engine.specs.kq_engine_prepare.Merges.{NamesAll}
 use Rattle.kq_engine.specs.Shared.{PassView, commit_count}
-use Rattle.kq_engine.proofs.kq_look.Telling.{NamesAll-since}
+use Rattle.kq_engine.proofs.kq_engine_prepare.Telling.{NamesAll-since}
 use Rattle.kq_session.specs.declared.end.End.{End}
 use Rattle.kq_session.specs.declared.end.End.TheVariants.{Finished, Short, SourceFault, SinkFault, InputLimit}
 use Rattle.kq_session.specs.declared.receipt.Receipt.{Receipt}
-use Rattle.kq_exporter.specs.Due.{ExporterView, Holding, nothing_held}
+use Rattle.kq_export_interface.specs.Due.{ExporterView, Holding, nothing_held}
 use Rattle.kq_session.specs.Blocks.{FitsBlock, AnswersBlock, AreTakes, GoesOn, MayMakeFor}
 use Rattle.kq_session.specs.Objects.{SessionView}
 use Rattle.kq_session.specs.Session.{Exchange, IsExchange, ComesAfter, AreExchanges, AreLinked, AreWritten, SessionEnds, Explained, PassGoesOn, artefact_faults, blocks_of, moments_of, texts_of, owns, is_receipted, AreTaken, command_bytes, input_bytes}

@@ -2,27 +2,27 @@
 use Rattle.std.specs.Prelude.{◌≡◌, ◌≤◌, ◌⊎◌, ◌+◌, ℕ, ℤ, Bool, true, false, List, [], ◌∷◌, ◌++◌, length, take, Option, Some, None, Result, Ok, Err, nat_eq}
 use Rattle.std.specs.List.{list_any}
 use mathlib.Core.List.{IsPrefix}
-use Rattle.kq_model.specs.declared.event.By.{By}
-use Rattle.kq_model.specs.declared.event.Operation.{Operation}
-use Rattle.kq_model.specs.declared.limits.Limits.{Limits}
-use Rattle.kq_model.specs.History.{History}
-use Rattle.kq_command.specs.declared.command.Asked.{Asked}
-use Rattle.kq_command.specs.declared.command.Asked.TheVariants.{Engine, Exporter}
-use Rattle.kq_command.specs.declared.command.Command.{Command}
-use Rattle.kq_command.specs.declared.command.CommandFault.{CommandFault}
-use Rattle.kq_command.specs.declared.command.CommandFault.TheVariants.{NotText, Syntax, Deep, Unsupported, Memory}
-use Rattle.kq_command.specs.declared.command.Export.{Export}
-use Rattle.kq_command.specs.Reads.{ReadsAs}
-use Rattle.kq_exporter.specs.Due.{AnswersHolding, ExporterView, Holding}
+use Rattle.kq_catalog_journal.specs.declared.event.By.{By}
+use Rattle.kq_catalog_journal.specs.declared.event.Operation.{Operation}
+use Rattle.kq_catalog_journal.specs.declared.limits.Limits.{Limits}
+use Rattle.kq_catalog_journal.specs.History.{History}
+use Rattle.kq_read_commands.specs.declared.command.Asked.{Asked}
+use Rattle.kq_read_commands.specs.declared.command.Asked.TheVariants.{Engine, Exporter}
+use Rattle.kq_read_commands.specs.declared.command.Command.{Command}
+use Rattle.kq_read_commands.specs.declared.command.CommandFault.{CommandFault}
+use Rattle.kq_read_commands.specs.declared.command.CommandFault.TheVariants.{NotText, Syntax, Deep, Unsupported, Memory}
+use Rattle.kq_read_commands.specs.declared.command.Export.{Export}
+use Rattle.kq_read_commands.specs.Reads.{ReadsAs}
+use Rattle.kq_export_interface.specs.Due.{AnswersHolding, ExporterView, Holding}
 use Rattle.kq_reply.specs.declared.refusal.Refusal.{Refusal}
 use Rattle.kq_reply.specs.declared.refusal.Refusal.TheVariants as refusals
 use Rattle.kq_reply.specs.declared.reply.Reply.{Reply}
 use Rattle.kq_reply.specs.declared.reply.Reply.TheVariants as replies
 use Rattle.kq_reply.specs.Number.{kind_of, number_of}
-use Rattle.kq_script.specs.Script.{Block, command, too_long}
+use Rattle.kq_script_blocks.specs.Script.{Block, command, too_long}
 use Rattle.kq_engine.specs.declared.work.Outcome.{Outcome}
-use Rattle.kq_engine.specs.kq_look.Fits.{Fits, MayMake, event_by}
-use Rattle.kq_engine.specs.kq_look.Merges.{NamesAll}
+use Rattle.kq_engine.specs.kq_engine_prepare.Fits.{Fits, MayMake, event_by}
+use Rattle.kq_engine.specs.kq_engine_prepare.Merges.{NamesAll}
 use Rattle.kq_engine.specs.Shared.{PassView, commit_count}
 
 -- refused for the text alone, or for want of memory
@@ -97,7 +97,8 @@ pub record GoesOn (seen : History) (old new : ExporterView) : Type 0 where
   pub serves : new.serves ≡ old.serves
   pub behind : IsPrefix new.seen seen
 
--- one block was answered through a pass: it made at most one event, the outcome fits what the pass has then seen, at a place not below what it had seen, and
+-- one block was answered through a pass: it made at most one event, the outcome fits what the pass has then seen, at a place not below what it had
+-- seen, and
 -- a merge that it tells is of all that were picked at such a place, and a fold up to the cursor there or a later one; the exporter goes on
 pub record AnswersBlock (limits : Limits) (old new : PassView) (held holds : ExporterView) (by : By) (block : Block) (now : ℤ) (outcome : Outcome) : Type 0 where
   pub of : new.of ≡ old.of

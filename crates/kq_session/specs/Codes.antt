@@ -5,8 +5,8 @@ use Rattle.std.proofs.Common.{ap, sym, ◌∙◌}
 use Rattle.std.proofs.lemmas.Bool.{eq-eqb}
 use base.Stored.{Gv, gnil, gnum, gcons, num}
 use Rattle.kq_value.specs.contracts.value.Value as value
-use Rattle.kq_fn.specs.contracts.function.Function as function
-use Rattle.kq_expr.specs.Terms.{Term, literal, column, cell, call, Terms, no_term, and_term}
+use Rattle.kq_plan_functions.specs.contracts.function.Function as function
+use Rattle.kq_plan_expressions.specs.Terms.{Term, literal, column, cell, call, Terms, no_term, and_term}
 
 abbrev head : Gv → Gv
 head gnil = gnil

@@ -2,19 +2,19 @@
 use Rattle.std.specs.Prelude.{◌≡◌, ◌⊎◌, ◌<◌, ◌+◌, ◌-◌, ℕ, ℤ, Bool, true, List, length, take, map, All, Result, Ok, Err}
 use Rattle.kq_world.specs.Told.{Adds}
 use Rattle.kq_world.specs.Outside.{Contents, Delivers, Rose}
-use Rattle.kq_model.specs.declared.limits.Limits.{Limits}
-use Rattle.kq_model.specs.History.{History}
-use Rattle.kq_command.specs.declared.command.Asked.{Asked}
-use Rattle.kq_command.specs.declared.command.Asked.TheVariants.{Engine, Exporter}
-use Rattle.kq_command.specs.declared.command.CommandFault.{CommandFault}
-use Rattle.kq_command.specs.Reads.{ReadsAs}
-use Rattle.kq_exporter.specs.Due.{Holding, IsRefusalDue, nothing_held}
+use Rattle.kq_catalog_journal.specs.declared.limits.Limits.{Limits}
+use Rattle.kq_catalog_journal.specs.History.{History}
+use Rattle.kq_read_commands.specs.declared.command.Asked.{Asked}
+use Rattle.kq_read_commands.specs.declared.command.Asked.TheVariants.{Engine, Exporter}
+use Rattle.kq_read_commands.specs.declared.command.CommandFault.{CommandFault}
+use Rattle.kq_read_commands.specs.Reads.{ReadsAs}
+use Rattle.kq_export_interface.specs.Due.{Holding, IsRefusalDue, nothing_held}
 use Rattle.kq_reply.specs.declared.refusal.Refusal.{Refusal}
 use Rattle.kq_reply.specs.declared.refusal.Refusal.TheVariants as refusals
 use Rattle.kq_reply.specs.declared.reply.Reply.TheVariants as replies
-use Rattle.kq_script.specs.Script.{Block, command, too_long, script_blocks}
-use Rattle.kq_script.specs.Reading.{IsPrefix as Begins}
-use Rattle.kq_engine.specs.kq_look.Fits.{IsDue}
+use Rattle.kq_script_blocks.specs.Script.{Block, command, too_long, script_blocks}
+use Rattle.kq_script_blocks.specs.Reading.{IsPrefix as Begins}
+use Rattle.kq_engine.specs.kq_engine_prepare.Fits.{IsDue}
 use Rattle.kq_engine.specs.Shared.{commit_count}
 use Rattle.kq_session.specs.declared.end.End.{End}
 use Rattle.kq_session.specs.declared.end.End.TheVariants.{Finished, Short, SourceFault, SinkFault, InputLimit}

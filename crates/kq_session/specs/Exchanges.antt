@@ -3,17 +3,17 @@ use Rattle.std.specs.Prelude.{◌≡◌, ◌≤◌, ℕ, ℤ, List, [], ◌∷�
 use Rattle.kq_world.specs.Told.{Adds}
 use Rattle.kq_world.specs.Outside.{SourceView, Contents, Delivers, PutsAll, Rose, contents}
 use Rattle.kq_world.specs.declared.outside.Failed.{Failed}
-use Rattle.kq_model.specs.declared.event.By.{By}
-use Rattle.kq_model.specs.declared.limits.Limits.{Limits}
+use Rattle.kq_catalog_journal.specs.declared.event.By.{By}
+use Rattle.kq_catalog_journal.specs.declared.limits.Limits.{Limits}
 use Rattle.kq_reply.specs.Number.{kind_of}
-use Rattle.kq_printed.specs.Text.{text_of}
-use Rattle.kq_script.specs.Item.{IsItemOf}
-use Rattle.kq_script.specs.Script.{Block}
-use Rattle.kq_script.specs.declared.item.Item.{Item}
-use Rattle.kq_script.specs.Reading.{IsReading}
-use Rattle.kq_script.specs.declared.reader.ScriptReader.{ScriptReader}
+use Rattle.kq_reply_print.specs.Text.{text_of}
+use Rattle.kq_script_blocks.specs.Item.{IsItemOf}
+use Rattle.kq_script_blocks.specs.Script.{Block}
+use Rattle.kq_script_blocks.specs.declared.item.Item.{Item}
+use Rattle.kq_script_blocks.specs.Reading.{IsReading}
+use Rattle.kq_script_blocks.specs.declared.reader.ScriptReader.{ScriptReader}
 use Rattle.kq_engine.specs.Shared.{PassView}
-use Rattle.kq_exporter.specs.Due.{ExporterView}
+use Rattle.kq_export_interface.specs.Due.{ExporterView}
 use Rattle.kq_session.specs.declared.end.End.{End}
 use Rattle.kq_session.specs.declared.end.End.TheVariants.{Finished, Short, SourceFault, SinkFault, InputLimit}
 use Rattle.kq_session.specs.declared.receipt.Receipt.{Receipt}

@@ -4,20 +4,20 @@ use Rattle.std.specs.List.{flat_map, list_any}
 use mathlib.Core.List.{IsPrefix}
 use Rattle.kq_world.specs.Told.{Adds}
 use Rattle.kq_world.specs.Outside.{SourceView, Contents, Delivers}
-use Rattle.kq_model.specs.declared.event.Event.{Event}
-use Rattle.kq_model.specs.declared.limits.Limits.{Limits}
-use Rattle.kq_model.specs.History.{History, CommitAt}
+use Rattle.kq_catalog_journal.specs.declared.event.Event.{Event}
+use Rattle.kq_catalog_journal.specs.declared.limits.Limits.{Limits}
+use Rattle.kq_catalog_journal.specs.History.{History, CommitAt}
 use Rattle.kq_reply.specs.declared.reply.Reply.{Reply}
 use Rattle.kq_reply.specs.Number.{kind_of, number_of}
 use Rattle.kq_reply.specs.declared.refusal.Refusal.TheVariants.{ArtefactFault}
-use Rattle.kq_printed.specs.Text.{text_of}
-use Rattle.kq_script.specs.Script.{Block, script_blocks}
-use Rattle.kq_script.specs.Reading.{IsPrefix as Begins}
-use Rattle.kq_script.specs.State.{IsAtEnd}
-use Rattle.kq_engine.specs.kq_look.Fits.{own_commit}
-use Rattle.kq_engine.specs.kq_look.Merges.{NamesAll}
+use Rattle.kq_reply_print.specs.Text.{text_of}
+use Rattle.kq_script_blocks.specs.Script.{Block, script_blocks}
+use Rattle.kq_script_blocks.specs.Reading.{IsPrefix as Begins}
+use Rattle.kq_script_blocks.specs.State.{IsAtEnd}
+use Rattle.kq_engine.specs.kq_engine_prepare.Fits.{own_commit}
+use Rattle.kq_engine.specs.kq_engine_prepare.Merges.{NamesAll}
 use Rattle.kq_engine.specs.Shared.{PassView}
-use Rattle.kq_exporter.specs.Due.{Holding, nothing_held}
+use Rattle.kq_export_interface.specs.Due.{Holding, nothing_held}
 use Rattle.kq_session.specs.declared.end.End.{End}
 use Rattle.kq_session.specs.declared.end.End.TheVariants.{Finished, Short, SourceFault, SinkFault, InputLimit}
 use Rattle.kq_session.specs.declared.receipt.Receipt.{Receipt}
@@ -45,7 +45,8 @@ pub record IsExchange (limits : Limits) (h : History) (actor : ℕ) (t : Exchang
   pub within : t.receipt.place ≤ length h
   pub kind : t.receipt.kind ≡ kind_of t.reply
 
--- the exchange isn't before the place q, and a merge that it tells is of all that were picked at a place from q on, and a fold up to the cursor there or a later one
+-- the exchange isn't before the place q, and a merge that it tells is of all that were picked at a place from q on, and a fold up to the cursor there
+-- or a later one
 pub record ComesAfter (h : History) (q : ℕ) (t : Exchange) : Type 0 where
   pub since : q ≤ t.receipt.place
   pub names_all : NamesAll (take t.receipt.place h) q t.reply

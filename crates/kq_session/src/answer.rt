@@ -1,20 +1,20 @@
 // Answering a block.
 ghost use Rattle.std.specs.Prelude.{◌≡◌, ◌≢◌, ℕ, false, length};
 ghost use mathlib.Core.List.{IsPrefix};
-ghost use Rattle.kq_script.specs.Script.{Block, command};
-ghost use Rattle.kq_script.specs.Item.{IsItemOf};
+ghost use Rattle.kq_script_blocks.specs.Script.{Block, command};
+ghost use Rattle.kq_script_blocks.specs.Item.{IsItemOf};
 ghost use Rattle.kq_value.specs.Typed.{IsMoment};
 ghost use Rattle.kq_engine.specs.Shared.{Applies};
 ghost use Rattle.kq_reply.specs.declared.reply.Reply.TheVariants as replies;
 ghost use Rattle.kq_session.specs.Blocks.{AnswersBlock, AnswersExport, refusal_of, serves_to};
 
 use crate::service::Service;
-use kq_command::{Asked, CommandFault, Export, read_command};
+use kq_catalog_journal::By;
 use kq_engine::{Outcome, Pass, Shared, Work};
-use kq_exporter::{Exporter, answered};
-use kq_model::By;
+use kq_export_interface::{Exporter, answered};
+use kq_read_commands::{Asked, CommandFault, Export, read_command};
 use kq_reply::{Refusal, Reply};
-use kq_script::Item;
+use kq_script_blocks::Item;
 use kq_value::Bytes;
 use kq_world::Gate;
 use std::sync::Wait;

@@ -1,12 +1,12 @@
 // What a session asks memory for between its replies.
 ghost use Rattle.std.specs.Prelude.{◌≡◌, ◌<◌, [], false, IfOk, None, OnErr, OnOk, Some, length, vec_capacity, vec_len};
-ghost use Rattle.kq_gen.specs.Commands.{script};
-ghost use Rattle.kq_script.specs.Reading.{IsReading, IsUnclosed};
+ghost use Rattle.kq_script_generated.specs.Commands.{script};
+ghost use Rattle.kq_script_blocks.specs.Reading.{IsReading, IsUnclosed};
 ghost use Rattle.kq_world.specs.Outside.{SourceView};
 
 use crate::receipt::Receipt;
-use kq_gen::ScriptSource;
-use kq_script::ScriptReader;
+use kq_script_blocks::ScriptReader;
+use kq_script_generated::ScriptSource;
 use kq_value::Memory;
 use std::alloc::Global;
 use std::marker::Model;

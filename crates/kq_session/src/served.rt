@@ -3,7 +3,7 @@ use crate::end::End;
 use crate::receipt::Receipts;
 use crate::requests::Requests;
 use kq_engine::Pass;
-use kq_exporter::Exporter;
+use kq_export_interface::Exporter;
 use kq_world::{Clock, Parts, Sink, Source};
 use std::marker::Model;
 
@@ -24,7 +24,7 @@ pub struct Served<S: Source, K: Sink, C: Clock, E: Exporter> {
 impl<S: Source, K: Sink, C: Clock, E: Exporter> Model for Served<S, K, C, E> {
     ghost use Rattle.std.specs.Coded.{codes};
     ghost use Rattle.kq_value.specs.contracts.value.Value as cell;
-    ghost use Rattle.kq_expr.specs.contracts.expr.Expr as expr;
+    ghost use Rattle.kq_plan_expressions.specs.contracts.expr.Expr as expr;
     ghost use Rattle.kq_session.specs.Codes.{term_code};
     ghost use Rattle.kq_session.specs.Objects.{ServedView, objects};
 

@@ -1,3 +1,4 @@
+pub mod Computed
 pub mod Bags
 pub mod Codes
 pub mod Contents

@@ -1,7 +1,8 @@
 // What names a record.
 ghost use Rattle.std.specs.Prelude.{◌≡◌, ◌↔◌, IsTrue};
 
-/// What names a record of a table for good: the cursor of the commit that gave the record, and its number from 0 among all rows that this commit gives its table.
+/// What names a record of a table for good: the cursor of the commit that gave the record, and its number from 0 among all rows that this commit
+/// gives its table.
 #[derive(Clone, Copy)]
 pub struct RecordId {
     pub cursor: u64,

@@ -16,7 +16,8 @@ use crate::ty::Ty;
 use std::alloc::Global;
 use std::cmp::Ordering;
 
-/// A cell. A datetime and a timespan are in ticks of 100 ns, a datetime from 0001-01-01. A null has the type of its column, but a missing string is empty and a missing dynamic is the null of dynamics, so that no `Null` of a table has these two types.
+/// A cell. A datetime and a timespan are in ticks of 100 ns, a datetime from 0001-01-01. A null has the type of its column, but a missing string is
+/// empty and a missing dynamic is the null of dynamics, so that no `Null` of a table has these two types.
 #[derive(Drop)]
 pub enum Value {
     Null(Ty),
@@ -55,7 +56,8 @@ impl Value {
         }
     }
 
-    /// The total order: `Null` first, in the order of the types, and then long, int, string, bool, datetime, timespan, dynamic, each in its own order. `Dyn::Null` is the first of the dynamics.
+    /// The total order: `Null` first, in the order of the types, and then long, int, string, bool, datetime, timespan, dynamic, each in its own
+    /// order. `Dyn::Null` is the first of the dynamics.
     pub fn cmp(&self, other: &Value) -> Ordering
         ensures { result ≡ value_cmp self.now other.now }
     {
@@ -80,7 +82,8 @@ impl Value {
         self.cmp(other).is_eq()
     }
 
-    /// FNV-1a over the kind and then the bytes of a text or the number as one word, under the finish of MurmurHash3: no two longs have one hash, and any bits of it serve for a table. It guards against no one who picks the values.
+    /// FNV-1a over the kind and then the bytes of a text or the number as one word, under the finish of MurmurHash3: no two longs have one hash, and
+    /// any bits of it serve for a table. It guards against no one who picks the values.
     pub fn hash64(&self) -> u64
         ensures { result ≡ hash_of self.now }
     {

@@ -3,16 +3,16 @@ use Rattle.std.proofs.Common.{◌≡◌, ◌||◌, ◌&&◌, All, Bool, true, fa
 use Rattle.std.proofs.lemmas.Bool.{eq-eqb}
 use Rattle.std.proofs.lemmas.List.Elements.{All-append, All-cons, All-nil}
 use mathlib.Core.List.{IsPrefix}
-use Rattle.kq_turn.proofs.Beginnings.{IsPrefix-refl, IsPrefix-trans}
-use Rattle.kq_model.specs.declared.event.Event.{Event}
-use Rattle.kq_model.specs.declared.event.Operation.{Operation}
-use Rattle.kq_model.specs.declared.event.Operation.TheVariants as operation
-use Rattle.kq_model.specs.declared.limits.Limits.{Limits}
-use Rattle.kq_model.specs.History.{History, commits_of}
+use Rattle.kq_lock.proofs.Beginnings.{IsPrefix-refl, IsPrefix-trans}
+use Rattle.kq_catalog_journal.specs.declared.event.Event.{Event}
+use Rattle.kq_catalog_journal.specs.declared.event.Operation.{Operation}
+use Rattle.kq_catalog_journal.specs.declared.event.Operation.TheVariants as operation
+use Rattle.kq_catalog_journal.specs.declared.limits.Limits.{Limits}
+use Rattle.kq_catalog_journal.specs.History.{History, commits_of}
 use Rattle.kq_reply.specs.declared.reply.Reply.{Reply}
 use Rattle.kq_engine.specs.declared.upkeep.Upkeep.{Upkeep}
 use Rattle.kq_engine.specs.declared.upkeep.Upkeep.TheVariants as upkeeps
-use Rattle.kq_engine.specs.kq_look.Fits.{event_by}
+use Rattle.kq_engine.specs.kq_engine_prepare.Fits.{event_by}
 use Rattle.kq_engine.specs.Shared.{PassView}
 use Rattle.kq_engine.specs.Upkeeps.{IsWanted, MakesOwn}
 use Rattle.kq_workers.specs.declared.worker.Worker.{Worker}

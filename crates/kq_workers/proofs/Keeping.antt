@@ -3,27 +3,27 @@ use Rattle.std.proofs.Common.{◌≡◌, ◌≤◌, ◌<◌, ◌⊎◌, inl, inr
 use Rattle.std.proofs.lemmas.Bool.{true≢false}
 use Rattle.std.proofs.lemmas.List.{length_push, take_all, take-append-le}
 use mathlib.Core.List.{IsPrefix}
-use Rattle.kq_turn.proofs.Beginnings.{length-IsPrefix, take-IsPrefix}
-use Rattle.kq_model.specs.declared.event.By.{By}
-use Rattle.kq_model.specs.declared.event.Event.{Event}
-use Rattle.kq_model.specs.declared.event.Operation.TheVariants as operation
-use Rattle.kq_model.specs.declared.limits.Limits.{Limits}
-use Rattle.kq_model.specs.History.{History, cursor, log, view_cursor, view_count}
-use Rattle.kq_model.specs.Lawful.{AreLawful, AreLawfulAfter}
-use Rattle.kq_model.specs.Records.{picked}
-use Rattle.kq_model.proofs.Merging.{lawful_parts}
-use Rattle.kq_model.proofs.Views.{view_cursor-rises}
+use Rattle.kq_lock.proofs.Beginnings.{length-IsPrefix, take-IsPrefix}
+use Rattle.kq_catalog_journal.specs.declared.event.By.{By}
+use Rattle.kq_catalog_journal.specs.declared.event.Event.{Event}
+use Rattle.kq_catalog_journal.specs.declared.event.Operation.TheVariants as operation
+use Rattle.kq_catalog_journal.specs.declared.limits.Limits.{Limits}
+use Rattle.kq_catalog_journal.specs.History.{History, cursor, log, view_cursor, view_count}
+use Rattle.kq_catalog_journal.specs.Lawful.{AreLawful, AreLawfulAfter}
+use Rattle.kq_catalog_journal.specs.Records.{picked}
+use Rattle.kq_catalog_journal.proofs.Merging.{lawful_parts}
+use Rattle.kq_catalog_journal.proofs.Views.{view_cursor-rises}
 use Rattle.kq_reply.specs.declared.refusal.Refusal.TheVariants as refusals
 use Rattle.kq_reply.specs.declared.reply.Reply.{Reply}
 use Rattle.kq_reply.specs.declared.reply.Reply.TheVariants as replies
 use Rattle.kq_engine.specs.declared.upkeep.Upkeep.{Upkeep}
 use Rattle.kq_engine.specs.declared.upkeep.Upkeep.TheVariants as upkeeps
 use Rattle.kq_engine.specs.declared.work.Outcome.{Outcome}
-use Rattle.kq_engine.specs.kq_look.Folds.{FoldsView, OverflowsBeyond}
-use Rattle.kq_engine.specs.kq_look.Merges.{MergesTable, NamesAll}
+use Rattle.kq_engine.specs.kq_engine_prepare.Folds.{FoldsView, OverflowsBeyond}
+use Rattle.kq_engine.specs.kq_engine_prepare.Merges.{MergesTable, NamesAll}
 use Rattle.kq_engine.specs.Shared.{PassView}
 use Rattle.kq_engine.specs.Upkeeps.{IsIdle, IsThere, KeepsUp, TellsUpkeep}
-use Rattle.kq_engine.proofs.kq_look.Telling.{cursor_take}
+use Rattle.kq_engine.proofs.kq_engine_prepare.Telling.{cursor_take}
 use Rattle.kq_engine.proofs.Upholding.{there_later}
 use Rattle.kq_workers.specs.Kept.{AreKept, IsForward, IsKept, IsLate, IsMerged}
 use Rattle.kq_workers.specs.Rounds.{SeenGoesOn, wants_memory}

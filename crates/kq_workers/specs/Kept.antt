@@ -1,13 +1,13 @@
 -- What is kept up of what stood at a history's end, once it has gone on.
 use Rattle.std.specs.Prelude.{◌≡◌, ◌⊎◌, ◌<◌, ◌≤◌, ℕ, List, ◌∷◌, ◌++◌, length, take}
-use Rattle.kq_engine.specs.kq_look.Folds.{OverflowsBeyond}
+use Rattle.kq_engine.specs.kq_engine_prepare.Folds.{OverflowsBeyond}
 use Rattle.kq_engine.specs.Upkeeps.{IsThere}
 use Rattle.kq_engine.specs.declared.upkeep.Upkeep.{Upkeep}
 use Rattle.kq_engine.specs.declared.upkeep.Upkeep.TheVariants as upkeeps
-use Rattle.kq_model.specs.declared.event.By.{By}
-use Rattle.kq_model.specs.declared.event.Operation.TheVariants as operation
-use Rattle.kq_model.specs.History.{History, cursor, log, view_cursor}
-use Rattle.kq_model.specs.Records.{picked}
+use Rattle.kq_catalog_journal.specs.declared.event.By.{By}
+use Rattle.kq_catalog_journal.specs.declared.event.Operation.TheVariants as operation
+use Rattle.kq_catalog_journal.specs.History.{History, cursor, log, view_cursor}
+use Rattle.kq_catalog_journal.specs.Records.{picked}
 
 -- a place of a history that isn't before the end of an earlier one
 pub record IsLate (first h : History) (place : ℕ) : Type 0 where

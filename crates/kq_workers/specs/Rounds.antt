@@ -1,10 +1,10 @@
 -- What a worker does to its pass: rounds of chores.
 use Rattle.std.specs.Prelude.{◌≡◌, ◌+◌, ◌-◌, ◌^◌, ◌||◌, ◌&&◌, ◌++◌, ◌∷◌, [], ℕ, Bool, true, false, List, length, min, All, nat_eq, if◌then◌else◌}
 use mathlib.Core.List.{IsPrefix}
-use Rattle.kq_model.specs.declared.event.Event.{Event}
-use Rattle.kq_model.specs.declared.limits.Limits.{Limits}
-use Rattle.kq_model.specs.History.{History, commits_of}
-use Rattle.kq_model.specs.Lawful.{AreLawful}
+use Rattle.kq_catalog_journal.specs.declared.event.Event.{Event}
+use Rattle.kq_catalog_journal.specs.declared.limits.Limits.{Limits}
+use Rattle.kq_catalog_journal.specs.History.{History, commits_of}
+use Rattle.kq_catalog_journal.specs.Lawful.{AreLawful}
 use Rattle.kq_reply.specs.declared.refusal.Refusal.TheVariants as refusals
 use Rattle.kq_reply.specs.declared.reply.Reply.{Reply}
 use Rattle.kq_reply.specs.declared.reply.Reply.TheVariants as replies
@@ -75,7 +75,9 @@ begun pass = record { pass = pass; refused = record { count = 0 }; number = 0; s
 abbrev pub is_upkeep : ℕ → Event → Bool
 is_upkeep actor e = nat_eq e.by.actor actor && nat_eq (length (commits_of e.operation)) 0
 
--- a pass after a worker's rounds, of which there is one or more: it has seen at least as much, and all events that were made through it are folds and merges of the actor; each chore made, under its last take, at most one event, a fold or a merge with the actor's request id; so many looks were refused, and memory was wanting, or not
+-- a pass after a worker's rounds, of which there is one or more: it has seen at least as much, and all events that were made through it are folds and
+-- merges of the actor; each chore made, under its last take, at most one event, a fold or a merge with the actor's request id; so many looks were
+-- refused, and memory was wanting, or not
 pub record Works (limits : Limits) (actor : ℕ) (old new : PassView) (refused : ℕ) (short : Bool) : Type 0 where
   pub of : new.of ≡ old.of
   pub worth : new.worth ≡ old.worth

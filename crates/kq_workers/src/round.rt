@@ -1,13 +1,13 @@
 // One round of a worker.
 ghost use Rattle.std.specs.Prelude.{◌≡◌, false, length};
 ghost use Rattle.kq_engine.specs.Upkeeps.{IsThere, KeepsUp};
-ghost use Rattle.kq_model.specs.History.{log, tables, view_count};
+ghost use Rattle.kq_catalog_journal.specs.History.{log, tables, view_count};
 ghost use Rattle.kq_workers.specs.Kept.{AreKept, AreKeptBelow, IsKept};
 ghost use Rattle.kq_workers.specs.Rounds.{SeenGoesOn, HasRound, HasChores, TakesOne, wants_memory as wants_memory_by};
 
 use crate::worker::{Post, Worker};
+use kq_catalog_journal::By;
 use kq_engine::{Outcome, Pass, Snapshot, Upkeep};
-use kq_model::By;
 use kq_reply::{Refusal, Reply};
 use kq_world::{Gate, Point};
 use std::sync::Wait;

@@ -1,6 +1,6 @@
 // A worker, and what it works with.
 ghost use Rattle.std.specs.Prelude.{◌≡◌, IfOk, OnErr, OnOk};
-ghost use Rattle.kq_model.specs.Lawful.{AreLawful};
+ghost use Rattle.kq_catalog_journal.specs.Lawful.{AreLawful};
 ghost use Rattle.kq_workers.specs.Rounds.{Looks, begun, next};
 
 use kq_engine::{Pass, Shared, Snapshot};

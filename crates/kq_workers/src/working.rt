@@ -1,6 +1,6 @@
 // A worker's rounds.
 ghost use Rattle.std.specs.Prelude.{◌≡◌, ◌<◌, ℕ, false, length};
-ghost use Rattle.kq_model.specs.History.{log, tables, view_count};
+ghost use Rattle.kq_catalog_journal.specs.History.{log, tables, view_count};
 ghost use Rattle.kq_workers.specs.Kept.{AreKept, IsForward, IsMerged};
 ghost use Rattle.kq_workers.specs.Rounds.{HasRounds, Works};
 

@@ -6,4 +6,5 @@ mod objects;
 mod replies;
 mod scripts;
 mod turns;
+mod values;
 mod words;

@@ -1,11 +1,11 @@
 // What threads gather beside each other of a row or two each.
 use super::steps::{ran, work};
-use kq_command::{Command, Query};
+use kq_catalog_journal::Limits;
 use kq_engine::Work;
-use kq_model::Limits;
-use kq_parallel::Crew;
-use kq_query::answer;
+use kq_engine_query::answer;
+use kq_read_commands::{Command, Query};
 use kq_reply::{Refusal, Reply};
+use kq_run_parallel::Crew;
 use std::alloc::Global;
 use std::test::Fail;
 

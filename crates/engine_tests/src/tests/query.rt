@@ -1,7 +1,7 @@
 // The one call of the reader that the program takes in parts.
-use kq_parse::parse_query;
-use kq_syntax::{Kind, OperatorWord, Symbol, Word};
-use kq_token::Punctuation;
+use kq_read_queries::parse_query;
+use kq_read_symbols::{Kind, OperatorWord, Symbol, Word};
+use kq_read_tokens::Punctuation;
 
 #[test]
 fn a_query_is_parsed_with_ample_memory(rt: HostRuntime) {

@@ -1,8 +1,8 @@
 // Interleavings of steps.
-use kq_command::{Asked, Command, read_command};
-use kq_model::{By, Limits};
+use kq_catalog_journal::{By, Limits};
+use kq_engine_interleavings::{Step, Trace, Work, run_steps};
+use kq_read_commands::{Asked, Command, read_command};
 use kq_reply::{Refusal, Reply};
-use kq_steps::{Step, Trace, Work, run_steps};
 use std::alloc::Global;
 use std::test::Fail;
 

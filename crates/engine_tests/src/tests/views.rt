@@ -1,8 +1,8 @@
 // What asking a view looks at.
 use super::steps::{E, FOLD_V, VIEW, ran};
-use kq_model::Limits;
+use kq_catalog_journal::Limits;
+use kq_engine_query::view_rows_of;
 use kq_plan::LeafKind;
-use kq_query::view_rows_of;
 use std::alloc::Global;
 use std::test::Fail;
 

@@ -1,6 +1,6 @@
 // Steps between which a table gets further columns.
 use super::steps::{E, printed, ran, tells};
-use kq_model::Limits;
+use kq_catalog_journal::Limits;
 use std::test::Fail;
 
 #[test]

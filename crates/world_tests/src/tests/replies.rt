@@ -1,9 +1,9 @@
 // What refusals print, in the words of their table, and their numbers; and how a reply leaves.
 ghost use Rattle.std.specs.Prelude.{◌<◌};
 
-use kq_answer::{Cause, Why};
-use kq_printed::write_reply;
 use kq_reply::{Refusal, Reply};
+use kq_reply_print::write_reply;
+use kq_store_rows::{Cause, Why};
 use kq_value::{Bytes, Memory, Text};
 use kq_world::{MemorySink, put_all};
 use std::alloc::Global;

@@ -1,8 +1,8 @@
 // Scripts read from memory.
 ghost use Rattle.std.specs.Prelude.{◌<◌};
-ghost use Rattle.kq_script.specs.Reading.{IsUnclosed};
+ghost use Rattle.kq_script_blocks.specs.Reading.{IsUnclosed};
 
-use kq_script::{Item, ScriptFault, ScriptReader};
+use kq_script_blocks::{Item, ScriptFault, ScriptReader};
 use kq_value::{Bytes, Memory};
 use kq_world::MemorySource;
 use std::alloc::Global;

@@ -1,9 +1,9 @@
 ghost use Rattle.std.specs.Prelude.{◌≡◌, ◌+◌, ◌-◌, ◌*◌, ◌≤◌, ◌^◌, ◌<◌, length, IfSome, if◌then◌else◌};
 ghost use mathlib.Core.List.{IsPrefix};
 ghost use Rattle.std.specs.Thread.{IsSync};
-ghost use Rattle.kq_turn.specs.Passes.{IsIdle};
+ghost use Rattle.kq_lock.specs.Passes.{IsIdle};
 
-use kq_turn::{Grows, Pass, Turn};
+use kq_lock::{Grows, Pass, Turn};
 use std::alloc::Global;
 use std::process::Abort;
 use std::sync::Wait;

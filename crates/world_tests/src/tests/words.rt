@@ -1,6 +1,6 @@
 // Words of every form, and what they ask for.
+use kq_program_options::{Options, OptionsError};
 use kq_value::Memory;
-use kq_words::{Options, OptionsError};
 use std::alloc::Global;
 use std::fmt::Write;
 

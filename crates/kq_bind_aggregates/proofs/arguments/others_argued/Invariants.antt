@@ -2,9 +2,9 @@ use Rattle.std.proofs.Common.{◌≡◌, ◌++◌, map, drop, Ok}
 use Rattle.kq_bind_aggregates.specs.Arguments.{all_argued}
 use Rattle.kq_bind_aggregates.specs.Seen.{argued_of}
 use Rattle.kq_bind_aggregates.proofs.arguments.others_argued.Given as goal
-use Rattle.kq_bind_expression.specs.Names.{names_of}
-use Rattle.kq_bind_expression.specs.Verdicts.{and_then}
-use Rattle.kq_grammar.specs.Views.{argument_view}
+use Rattle.kq_bind_expressions.specs.Names.{names_of}
+use Rattle.kq_bind_expressions.specs.Verdicts.{and_then}
+use Rattle.kq_read_grammar.specs.Views.{argument_view}
 
 abbrev pub invariant-loop-argument : goal.invariant-loop-argument
 invariant-loop-argument l =

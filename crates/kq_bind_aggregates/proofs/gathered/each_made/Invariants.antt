@@ -2,8 +2,8 @@ use Rattle.std.proofs.Common.{◌≡◌, map, drop}
 use Rattle.kq_bind_aggregates.specs.Gathered.{each_made}
 use Rattle.kq_bind_aggregates.specs.Seen.{gathering_of}
 use Rattle.kq_bind_aggregates.proofs.gathered.each_made.Given as goal
-use Rattle.kq_bind_expression.specs.Names.{names_of}
-use Rattle.kq_grammar.specs.Views.{aggregate_view}
+use Rattle.kq_bind_expressions.specs.Names.{names_of}
+use Rattle.kq_read_grammar.specs.Views.{aggregate_view}
 
 abbrev pub invariant-loop-aggregate : goal.invariant-loop-aggregate
 invariant-loop-aggregate l =

@@ -1,7 +1,7 @@
 use Rattle.std.proofs.Common.{◌≡◌, map, drop}
 use Rattle.kq_bind_aggregates.specs.Unsupported.{unsupported_aggregates}
 use Rattle.kq_bind_aggregates.proofs.literals.unsupported_aggregates.Given as goal
-use Rattle.kq_grammar.specs.Views.{aggregate_view}
+use Rattle.kq_read_grammar.specs.Views.{aggregate_view}
 
 abbrev pub invariant-loop-aggregate : goal.invariant-loop-aggregate
 invariant-loop-aggregate l =

@@ -1,8 +1,8 @@
 use Rattle.std.proofs.Common.{◌≡◌, ℕ, zero, suc, ◌<◌, List, [], ◌∷◌, ◌++◌, map, length, drop, Ok, Err, refl, ap, ◌∙◌, arith}
 use Rattle.kq_bind_clauses.specs.Tables.{rows_made}
 use Rattle.kq_bind_clauses.proofs.tables.rows_made.Goals as goal
-use Rattle.kq_bind_expression.specs.Verdicts.{and_then, mistyped}
-use Rattle.kq_grammar.specs.declared.clause.Cell.{Cell}
+use Rattle.kq_bind_expressions.specs.Verdicts.{and_then, mistyped}
+use Rattle.kq_read_grammar.specs.declared.clause.Cell.{Cell}
 use Rattle.kq_plan.specs.Plans.{cells_seen}
 use Rattle.kq_value.specs.declared.schema.Field.{Field}
 use Rattle.kq_value.specs.declared.value.Value.{Value}

@@ -1,7 +1,7 @@
 use Rattle.std.proofs.Common.{◌≡◌, [], ◌++◌, map, drop, Ok}
 use Rattle.kq_bind_clauses.proofs.tables.rows_made.Given as goal
 use Rattle.kq_bind_clauses.specs.Tables.{rows_made}
-use Rattle.kq_bind_expression.specs.Verdicts.{and_then}
+use Rattle.kq_bind_expressions.specs.Verdicts.{and_then}
 use Rattle.kq_plan.specs.Plans.{cells_seen}
 
 abbrev pub invariant-loop-cell : goal.invariant-loop-cell

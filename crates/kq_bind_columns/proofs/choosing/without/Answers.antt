@@ -1,7 +1,7 @@
 use Rattle.std.proofs.Common.{◌≡◌, ℕ, zero, suc, ◌+◌, ◌<◌, ◌++◌, true, List, [], ◌∷◌, length, map, drop, refl, ap, ◌∙◌, arith, add-one, rules}
 use Rattle.kq_bind_columns.specs.Chosen.{has_number, without}
 use Rattle.kq_bind_columns.proofs.choosing.without.Goals as goal
-use Rattle.kq_expr.specs.Terms.{term_of}
+use Rattle.kq_plan_expressions.specs.Terms.{term_of}
 use Rattle.kq_value.specs.declared.schema.Field.{Field}
 
 left_out : (j i : ℕ) (cs : List Field) (is : List ℕ) → i < length cs → has_number is j ≡ true → without j (drop i cs) is ≡ without (suc j) (drop (suc i) cs) is

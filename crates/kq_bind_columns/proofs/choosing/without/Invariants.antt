@@ -1,7 +1,7 @@
 use Rattle.std.proofs.Common.{◌≡◌, ◌++◌, map, drop}
 use Rattle.kq_bind_columns.specs.Chosen.{without}
 use Rattle.kq_bind_columns.proofs.choosing.without.Given as goal
-use Rattle.kq_expr.specs.Terms.{term_of}
+use Rattle.kq_plan_expressions.specs.Terms.{term_of}
 
 abbrev pub invariant-loop-i : goal.invariant-loop-i
 invariant-loop-i l =

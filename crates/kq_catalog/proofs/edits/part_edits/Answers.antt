@@ -3,12 +3,12 @@ use Rattle.std.specs.Arc.{arc_value}
 use Rattle.std.proofs.lemmas.Iterator.Adapters.{YieldsList-from_vec}
 use Rattle.std.proofs.lemmas.Iterator.Consumers.{YieldsList-turn, YieldsList-so_far, YieldsList-end}
 use Rattle.std.proofs.lemmas.List.{map-id, map_push, length_push}
-use Rattle.kq_rows.specs.Numbered.{numbered}
-use Rattle.kq_model.specs.declared.batch.Batch.{Batch}
-use Rattle.kq_model.specs.declared.event.Commit.TheVariants.{Ingest}
-use Rattle.kq_model.specs.Edits.{new_extents}
-use Rattle.kq_model.specs.Records.{rows_to}
-use Rattle.kq_model.proofs.Records.{rows_to-push}
+use Rattle.kq_store_rows.specs.Numbered.{numbered}
+use Rattle.kq_catalog_journal.specs.declared.batch.Batch.{Batch}
+use Rattle.kq_catalog_journal.specs.declared.event.Commit.TheVariants.{Ingest}
+use Rattle.kq_catalog_journal.specs.Edits.{new_extents}
+use Rattle.kq_catalog_journal.specs.Records.{rows_to}
+use Rattle.kq_catalog_journal.proofs.Records.{rows_to-push}
 use Rattle.kq_catalog.specs.declared.edit.Change.TheVariants.{PutExtent}
 use Rattle.kq_catalog.specs.declared.intent.Part.{Part}
 use Rattle.kq_catalog.specs.Edits.{edit_with, edits_by}

@@ -1,6 +1,6 @@
 use Rattle.std.proofs.Common.{◌≡◌, ◌+◌, ℕ, [], length, map}
-use Rattle.kq_model.specs.Edits.{new_extents}
-use Rattle.kq_model.specs.Records.{rows_to}
+use Rattle.kq_catalog_journal.specs.Edits.{new_extents}
+use Rattle.kq_catalog_journal.specs.Records.{rows_to}
 use Rattle.kq_catalog.specs.Edits.{count_given, edits_by}
 use Rattle.kq_catalog.specs.Intents.{batch_of}
 use Rattle.kq_catalog.proofs.edits.part_edits.Given as goal

@@ -1,5 +1,5 @@
 use Rattle.std.proofs.Common.{◌≡◌, ◌++◌, drop}
-use Rattle.kq_model.specs.Enabled.{enabled_in}
+use Rattle.kq_catalog_journal.specs.Enabled.{enabled_in}
 use Rattle.kq_catalog.proofs.enabled.add_policy.Given as goal
 
 -- what is listed, and what is left to list, is the whole

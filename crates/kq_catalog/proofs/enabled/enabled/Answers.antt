@@ -1,7 +1,7 @@
 use Rattle.std.proofs.Common.{rules, ◌≡◌, ◌<◌, ◌++◌, ◌∙◌, [], List, length, get_or, ap, sym}
 use Rattle.std.proofs.lemmas.Option.{get_or_from_slice_get}
-use Rattle.kq_model.specs.declared.policy.Entry.{Entry}
-use Rattle.kq_model.specs.Enabled.{enabled, enabled_in}
+use Rattle.kq_catalog_journal.specs.declared.policy.Entry.{Entry}
+use Rattle.kq_catalog_journal.specs.Enabled.{enabled, enabled_in}
 use Rattle.kq_catalog.proofs.Listing.{listed-policy}
 use Rattle.kq_catalog.proofs.enabled.enabled.Goals as goal
 

@@ -1,5 +1,5 @@
 use Rattle.std.proofs.Common.{◌≡◌, ◌++◌, drop}
-use Rattle.kq_model.specs.Enabled.{enabled, enabled_from}
+use Rattle.kq_catalog_journal.specs.Enabled.{enabled, enabled_from}
 use Rattle.kq_catalog.proofs.enabled.enabled.Given as goal
 
 abbrev pub invariant-loop-target : goal.invariant-loop-target

@@ -1,5 +1,5 @@
 use Rattle.std.proofs.Common.{◌≡◌, ◌++◌, map, take}
-use Rattle.kq_model.specs.Policies.{noted_at}
+use Rattle.kq_catalog_journal.specs.Policies.{noted_at}
 use Rattle.kq_catalog.proofs.noting.note_all.Given as goal
 
 abbrev pub invariant-loop-failure : goal.invariant-loop-failure

@@ -1,6 +1,6 @@
 use Rattle.std.proofs.Common.{ℕ, List, ◌&&◌, nat_eq, subst}
-use Rattle.kq_model.specs.kq_repeats.Names.{is_among}
-use Rattle.kq_tagged.specs.Index.{AddsTags}
+use Rattle.kq_catalog_journal.specs.kq_value_text_sets.Names.{is_among}
+use Rattle.kq_catalog_indexes.specs.Tags.{AddsTags}
 use Rattle.kq_catalog.proofs.Tagged.{batches_more}
 use Rattle.kq_catalog.proofs.tagging.with_batches.Goals as goal
 

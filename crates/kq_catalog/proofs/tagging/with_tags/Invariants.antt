@@ -1,6 +1,6 @@
 use Rattle.std.proofs.Common.{take, ◌&&◌, nat_eq}
-use Rattle.kq_model.specs.kq_repeats.Names.{is_among}
-use Rattle.kq_tagged.specs.Index.{AddsTags}
+use Rattle.kq_catalog_journal.specs.kq_value_text_sets.Names.{is_among}
+use Rattle.kq_catalog_indexes.specs.Tags.{AddsTags}
 use Rattle.kq_catalog.proofs.tagging.with_tags.Given as goal
 
 abbrev pub invariant-loop-tag : goal.invariant-loop-tag

@@ -1,17 +1,17 @@
 use Rattle.std.proofs.Common.{◌≡◌, ℕ, OnErr, true, drop, length, take, ap, subst, sym, ◌∙◌}
-use Rattle.kq_model.specs.declared.limits.Limits.{Limits}
-use Rattle.kq_model.specs.History.{log}
+use Rattle.kq_catalog_journal.specs.declared.limits.Limits.{Limits}
+use Rattle.kq_catalog_journal.specs.History.{log}
 use Rattle.kq_catalog.specs.Seen.{CatalogView, hist}
 use Rattle.kq_reply.specs.declared.refusal.Refusal.TheVariants as refusals
 use Rattle.kq_reply.specs.declared.reply.Reply.TheVariants as replies
 use Rattle.kq_engine.specs.declared.work.Outcome.{Outcome}
 use Rattle.kq_engine.specs.Acts.{Acts, outcome_of}
-use Rattle.kq_look.specs.Found.{IsReady, is_as_read}
-use Rattle.kq_look.specs.Folds.{IsFoldingFor}
-use Rattle.kq_look.specs.Merges.{IsMergingFor}
+use Rattle.kq_engine_prepare.specs.Found.{IsReady, is_as_read}
+use Rattle.kq_engine_prepare.specs.Folds.{IsFoldingFor}
+use Rattle.kq_engine_prepare.specs.Merges.{IsMergingFor}
 use Rattle.kq_engine.proofs.Advancing.{Advances-acts, Advances-decided}
 use Rattle.kq_engine.proofs.Bringing.{Acts-fold, folding_made}
-use Rattle.kq_look.proofs.Lasting.{Offered-still}
+use Rattle.kq_engine_prepare.proofs.Lasting.{Offered-still}
 use Rattle.kq_engine.proofs.Uniting.{Acts-merge}
 use Rattle.kq_engine.proofs.on_catalog.conclude.Goals as goal
 

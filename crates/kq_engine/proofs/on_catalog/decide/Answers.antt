@@ -1,16 +1,16 @@
 use Rattle.std.proofs.Common.{ℤ, ◌≡◌, arith, inr, length, subst, sym, take, rules, w64, to_z, of_z}
 use Rattle.std.proofs.lemmas.Int.{to_z-of_z}
 use Rattle.std.proofs.lemmas.List.{take_all}
-use Rattle.kq_model.specs.History.{History, cursor, log}
+use Rattle.kq_catalog_journal.specs.History.{History, cursor, log}
 use Rattle.kq_catalog.specs.Intents.{commit_of}
 use Rattle.kq_catalog.specs.Seen.{CatalogView, hist}
-use Rattle.kq_look.specs.Fits.{IsDue}
-use Rattle.kq_look.specs.Folds.{IsFoldingFor}
-use Rattle.kq_look.specs.Found.{IsCommitDue, IsFound}
-use Rattle.kq_look.specs.Merges.{IsSettled}
+use Rattle.kq_engine_prepare.specs.Fits.{IsDue}
+use Rattle.kq_engine_prepare.specs.Folds.{IsFoldingFor}
+use Rattle.kq_engine_prepare.specs.Found.{IsCommitDue, IsFound}
+use Rattle.kq_engine_prepare.specs.Merges.{IsSettled}
 use Rattle.kq_engine.proofs.Acting.{Acts-answer}
 use Rattle.kq_engine.proofs.Bringing.{Acts-fold, folding_made}
-use Rattle.kq_look.proofs.Wanting.{commit_finds, due_finds}
+use Rattle.kq_engine_prepare.proofs.Wanting.{commit_finds, due_finds}
 use Rattle.kq_engine.proofs.on_catalog.decide.Goals as goal
 
 pub put_in-requires-clause-due : goal.put_in-requires-clause-due

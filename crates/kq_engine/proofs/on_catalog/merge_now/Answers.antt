@@ -1,10 +1,10 @@
 use Rattle.std.proofs.Common.{◌≡◌, arith, length, subst, sym, take}
 use Rattle.std.proofs.lemmas.List.{take_all}
-use Rattle.kq_model.specs.History.{History}
+use Rattle.kq_catalog_journal.specs.History.{History}
 use Rattle.kq_catalog.specs.declared.merging.MergeFault.{MergeFault}
 use Rattle.kq_catalog.specs.Merges.{IsGone, Moves}
 use Rattle.kq_catalog.specs.Seen.{hist}
-use Rattle.kq_look.specs.Merges.{IsMergingFor}
+use Rattle.kq_engine_prepare.specs.Merges.{IsMergingFor}
 use Rattle.kq_engine.proofs.Uniting.{Acts-merge, merging_picked, not_gone}
 use Rattle.kq_engine.proofs.on_catalog.merge_now.Goals as goal
 

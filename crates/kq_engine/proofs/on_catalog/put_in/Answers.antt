@@ -1,10 +1,10 @@
 use Rattle.std.proofs.Common.{arith, ◌∙◌, ◌+◌, ℕ, ap, length}
-use Rattle.kq_model.specs.History.{log}
+use Rattle.kq_catalog_journal.specs.History.{log}
 use Rattle.kq_catalog.specs.Intents.{commit_of, event_by}
 use Rattle.kq_catalog.specs.Seen.{hist}
-use Rattle.kq_look.specs.Due.{reply_to}
+use Rattle.kq_engine_prepare.specs.Due.{reply_to}
 use Rattle.kq_engine.proofs.Acting.{Acts-commit}
-use Rattle.kq_look.proofs.Dues.{Commit-lawful}
+use Rattle.kq_engine_prepare.proofs.Dues.{Commit-lawful}
 use Rattle.kq_engine.proofs.on_catalog.put_in.Goals as goal
 
 pub overflow_add-cursor : goal.overflow_add-cursor

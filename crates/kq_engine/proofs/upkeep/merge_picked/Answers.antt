@@ -1,6 +1,6 @@
 use Rattle.std.proofs.Common.{◌≡◌, arith, length, subst, sym, take}
 use Rattle.std.proofs.lemmas.List.{take_all}
-use Rattle.kq_model.specs.History.{History}
+use Rattle.kq_catalog_journal.specs.History.{History}
 use Rattle.kq_catalog.specs.declared.merging.MergeFault.{MergeFault}
 use Rattle.kq_catalog.specs.Merges.{IsUnion, Moves}
 use Rattle.kq_catalog.specs.Seen.{hist}

@@ -1,7 +1,7 @@
 -- What is found is where it is refused.
 use Rattle.std.proofs.Common.{◌∙◌, ℕ, Option, Some, ap, sym}
 use Rattle.std.specs.Prelude.{unwrap_or}
-use Rattle.kq_body.specs.Parts.{pipe_place}
+use Rattle.kq_view_body.specs.Parts.{pipe_place}
 use Rattle.kq_export_laws.proofs.Owned.{foreign_found}
 use Rattle.kq_export_laws.proofs.laws.refused_bodies_have_their_places.Goals as goal
 

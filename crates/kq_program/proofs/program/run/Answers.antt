@@ -1,5 +1,5 @@
 use Rattle.std.proofs.Common.{map, string_bytes}
-use Rattle.kq_words.specs.Words.{as_asked}
+use Rattle.kq_program_options.specs.Words.{as_asked}
 use Rattle.kq_program.proofs.Asking.{asked-feeds, asked-rows, asked-workers}
 use Rattle.kq_program.proofs.Completing.{CompletesRun-runs}
 use Rattle.kq_program.proofs.program.run.Goals as goal

@@ -1,5 +1,5 @@
 use Rattle.std.proofs.Common.{◌∙◌, ap, refl, sym, subst}
-use Rattle.kq_model.specs.Limits.{AreFull}
+use Rattle.kq_catalog_journal.specs.Limits.{AreFull}
 use Rattle.kq_workers.specs.kq_engine.Shared.{PassView}
 use Rattle.kq_program.specs.Headline.{first_status}
 use Rattle.kq_program.proofs.Running.{RanSessions-all, first-of-sessions}

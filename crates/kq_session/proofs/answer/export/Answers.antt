@@ -1,9 +1,9 @@
 use Rattle.std.proofs.Common.{◌≡◌, ◌⊎◌, refl, sym, subst}
 use mathlib.Core.List.{IsPrefix}
-use Rattle.kq_turn.proofs.Beginnings.{IsPrefix-trans}
-use Rattle.kq_model.specs.History.{History}
+use Rattle.kq_lock.proofs.Beginnings.{IsPrefix-trans}
+use Rattle.kq_catalog_journal.specs.History.{History}
 use Rattle.kq_reply.specs.declared.reply.Reply.{Reply}
-use Rattle.kq_exporter.specs.Due.{AnswersHolding, reply_of}
+use Rattle.kq_export_interface.specs.Due.{AnswersHolding, reply_of}
 use Rattle.kq_session.proofs.Blocks.{GoesOn-asked}
 use Rattle.kq_session.proofs.answer.export.Goals as goal
 

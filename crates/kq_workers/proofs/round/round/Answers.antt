@@ -1,7 +1,7 @@
 use Rattle.std.proofs.Common.{◌∙◌, true, refl, subst, sym}
 use mathlib.Core.List.{IsPrefix}
 use Rattle.kq_workers.specs.declared.worker.Worker.{Worker}
-use Rattle.kq_model.specs.History.{History}
+use Rattle.kq_catalog_journal.specs.History.{History}
 use Rattle.kq_workers.specs.Rounds.{HasChores}
 use Rattle.kq_workers.proofs.Going.{Carries-looks, HasRound-refused, HasRound-chores}
 use Rattle.kq_workers.proofs.Keeping.{AreKept-earlier}

@@ -1,5 +1,5 @@
 use Rattle.std.proofs.Common.{rules, ◌≡◌, ◌<◌, subst, sym}
-use Rattle.kq_model.specs.History.{log, view_count}
+use Rattle.kq_catalog_journal.specs.History.{log, view_count}
 use Rattle.kq_catalog.specs.Seen.{CatalogView, hist}
 use Rattle.kq_catalog.proofs.Viewing.{fold_stands}
 use Rattle.kq_catalog.proofs.catalog.Catalog.stage_fold.Goals as goal

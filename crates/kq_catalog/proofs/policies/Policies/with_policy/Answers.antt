@@ -1,6 +1,6 @@
 use Rattle.std.proofs.Common.{◌<◌, ◌∙◌, List, length, slice_set, ap, arith}
-use Rattle.kq_model.specs.declared.policy.Entry.{Entry}
-use Rattle.kq_model.specs.Policies.{with_policy}
+use Rattle.kq_catalog_journal.specs.declared.policy.Entry.{Entry}
+use Rattle.kq_catalog_journal.specs.Policies.{with_policy}
 use Rattle.kq_catalog.proofs.Putting.{set-any}
 use Rattle.kq_catalog.proofs.policies.Policies.with_policy.Goals as goal
 

@@ -1,7 +1,7 @@
 use Rattle.std.proofs.Common.{◌≡◌, ◌++◌, ◌∷◌, ◌∙◌, [], List, ap, sym}
-use Rattle.kq_model.specs.declared.policy.Entry.{Entry}
-use Rattle.kq_model.specs.Enabled.{enabled}
-use Rattle.kq_model.proofs.Policies.{enabled-new}
+use Rattle.kq_catalog_journal.specs.declared.policy.Entry.{Entry}
+use Rattle.kq_catalog_journal.specs.Enabled.{enabled}
+use Rattle.kq_catalog_journal.proofs.Policies.{enabled-new}
 use Rattle.kq_catalog.proofs.policies.Policies.with_table.Goals as goal
 
 pub invariant_of-result : goal.invariant_of-result

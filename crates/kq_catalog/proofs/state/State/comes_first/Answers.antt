@@ -1,5 +1,5 @@
 use Rattle.std.proofs.Common.{◌≡◌, ℕ, map, nat_eq, ap, ◌∙◌}
-use Rattle.kq_model.specs.Records.{small_items}
+use Rattle.kq_catalog_journal.specs.Records.{small_items}
 use Rattle.kq_catalog.specs.Held.{extent_item}
 use Rattle.kq_catalog.proofs.Merged.{front_some}
 use Rattle.kq_catalog.proofs.state.State.comes_first.Goals as goal

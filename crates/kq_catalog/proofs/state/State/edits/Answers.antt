@@ -1,11 +1,11 @@
 use Rattle.std.proofs.Common.{◌<◌, ◌+◌, length, map, ap, sym, subst, arith}
 use Rattle.std.proofs.lemmas.List.{length-map}
-use Rattle.kq_model.specs.declared.event.Commit.TheVariants.{Ingest}
-use Rattle.kq_model.specs.History.{log, cursor as cursor_of}
-use Rattle.kq_model.specs.Lawful.{LawfulCommit}
-use Rattle.kq_model.proofs.Bounded.{few_made_by, few_rows}
+use Rattle.kq_catalog_journal.specs.declared.event.Commit.TheVariants.{Ingest}
+use Rattle.kq_catalog_journal.specs.History.{log, cursor as cursor_of}
+use Rattle.kq_catalog_journal.specs.Lawful.{LawfulCommit}
+use Rattle.kq_catalog_journal.proofs.Bounded.{few_made_by, few_rows}
 use Rattle.kq_catalog.specs.declared.intent.Intent.{Intent}
-use Rattle.kq_model.specs.Records.{extents_made}
+use Rattle.kq_catalog_journal.specs.Records.{extents_made}
 use Rattle.kq_catalog.specs.Edits.{AreEdits}
 use Rattle.kq_catalog.specs.Intents.{batch_of, commit_of}
 use Rattle.kq_catalog.specs.Seen.{CatalogView, hist}

@@ -1,8 +1,8 @@
 use Rattle.std.proofs.Common.{◌∙◌, List, length, ap, subst, arith}
-use Rattle.kq_model.specs.declared.policy.Entry.{Entry}
-use Rattle.kq_model.specs.History.{log}
-use Rattle.kq_model.specs.Force.{policy_at}
-use Rattle.kq_model.proofs.Policies.{length-policies}
+use Rattle.kq_catalog_journal.specs.declared.policy.Entry.{Entry}
+use Rattle.kq_catalog_journal.specs.History.{log}
+use Rattle.kq_catalog_journal.specs.Force.{policy_at}
+use Rattle.kq_catalog_journal.proofs.Policies.{length-policies}
 use Rattle.kq_catalog.specs.Seen.{CatalogView, Sound, hist}
 use Rattle.kq_catalog.proofs.state.State.entries.Goals as goal
 

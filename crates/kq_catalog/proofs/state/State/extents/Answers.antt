@@ -2,10 +2,10 @@ use Rattle.std.proofs.Common.{◌≡◌, ◌∙◌, List, length, Some, ap, sym,
 use Rattle.std.specs.List.{slice_get}
 use Rattle.std.specs.List.Sorted.{IsPermutation}
 use Rattle.kq_value.specs.declared.schema.Field.{Field}
-use Rattle.kq_extent.specs.Seen.{HeldExtents, held_records}
-use Rattle.kq_extent.specs.Wide.{wide_held}
-use Rattle.kq_model.specs.History.{log}
-use Rattle.kq_model.specs.Records.{records, extents}
+use Rattle.kq_store_extent.specs.Seen.{HeldExtents, held_records}
+use Rattle.kq_store_extent.specs.Wide.{wide_held}
+use Rattle.kq_catalog_journal.specs.History.{log}
+use Rattle.kq_catalog_journal.specs.Records.{records, extents}
 use Rattle.kq_catalog.specs.Held.{AreItems}
 use Rattle.kq_catalog.specs.Seen.{CatalogView, Sound, hist}
 use Rattle.kq_catalog.proofs.Standing.{count_held, held_at, schema_held, typed_at, few_records}

@@ -1,7 +1,7 @@
 use Rattle.std.proofs.Common.{◌≡◌, ◌∙◌, ap, subst}
 use Rattle.std.specs.Option.{is_some}
-use Rattle.kq_model.specs.History.{log, names_of_views, views}
-use Rattle.kq_model.specs.kq_repeats.Names.{is_among}
+use Rattle.kq_catalog_journal.specs.History.{log, names_of_views, views}
+use Rattle.kq_catalog_journal.specs.kq_value_text_sets.Names.{is_among}
 use Rattle.kq_catalog.specs.Seen.{CatalogView, Sound, hist}
 use Rattle.kq_catalog.specs.Views.{names_held}
 use Rattle.kq_catalog.proofs.Viewing.{names_are, placed}

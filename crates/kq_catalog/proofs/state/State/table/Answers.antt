@@ -1,6 +1,6 @@
 use Rattle.std.proofs.Common.{◌≡◌, ◌∙◌, List, ap, subst}
-use Rattle.kq_model.specs.declared.table.Table.{Table}
-use Rattle.kq_model.specs.History.{log, tables}
+use Rattle.kq_catalog_journal.specs.declared.table.Table.{Table}
+use Rattle.kq_catalog_journal.specs.History.{log, tables}
 use Rattle.kq_catalog.specs.Held.{FindsTable, tables_in}
 use Rattle.kq_catalog.specs.Seen.{CatalogView, Sound, hist}
 use Rattle.kq_catalog.proofs.Standing.{tables_held}

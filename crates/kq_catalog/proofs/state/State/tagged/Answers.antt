@@ -1,6 +1,6 @@
 use Rattle.std.proofs.Common.{◌∙◌, ap}
-use Rattle.kq_model.specs.History.{log}
-use Rattle.kq_model.specs.Tagged.{first_tagged}
+use Rattle.kq_catalog_journal.specs.History.{log}
+use Rattle.kq_catalog_journal.specs.Tagged.{first_tagged}
 use Rattle.kq_catalog.specs.Seen.{CatalogView, hist}
 use Rattle.kq_catalog.proofs.state.State.tagged.Goals as goal
 

@@ -1,8 +1,8 @@
 use Rattle.std.proofs.Common.{◌≡◌, ◌∙◌, Some, ap, sym, subst}
 use Rattle.std.specs.List.{slice_get}
 use Rattle.std.specs.Option.{option_map}
-use Rattle.kq_names.specs.Places.{place_of}
-use Rattle.kq_model.specs.History.{Viewed, log, names_of_views, views}
+use Rattle.kq_catalog_indexes.specs.Places.{place_of}
+use Rattle.kq_catalog_journal.specs.History.{Viewed, log, names_of_views, views}
 use Rattle.kq_catalog.specs.Seen.{CatalogView, Sound, hist}
 use Rattle.kq_catalog.specs.Views.{names_held}
 use Rattle.kq_catalog.proofs.Viewing.{names_are, place_within, view_held}

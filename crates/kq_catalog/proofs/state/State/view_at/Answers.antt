@@ -1,7 +1,7 @@
 use Rattle.std.proofs.Common.{◌≡◌, ◌∙◌, Some, length, option_map, ap, sym, subst, arith}
 use Rattle.std.specs.List.{slice_get}
 use Rattle.std.proofs.lemmas.Option.{slice_get_past}
-use Rattle.kq_model.specs.History.{Viewed, log, views}
+use Rattle.kq_catalog_journal.specs.History.{Viewed, log, views}
 use Rattle.kq_catalog.specs.Seen.{CatalogView, Sound, hist}
 use Rattle.kq_catalog.proofs.Viewing.{count_views, view_held}
 use Rattle.kq_catalog.proofs.state.State.view_at.Goals as goal

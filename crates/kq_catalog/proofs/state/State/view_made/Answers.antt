@@ -1,6 +1,6 @@
 use Rattle.std.proofs.Common.{◌≡◌, ◌∙◌, Some, length, ap, sym, subst, arith}
 use Rattle.std.specs.List.{slice_get}
-use Rattle.kq_model.specs.History.{Viewed}
+use Rattle.kq_catalog_journal.specs.History.{Viewed}
 use Rattle.kq_catalog.specs.Seen.{CatalogView, Sound, hist}
 use Rattle.kq_catalog.specs.Views.{viewed_of}
 use Rattle.kq_catalog.proofs.Viewing.{count_views, some_same, view_held}

@@ -1,17 +1,17 @@
 use Rattle.std.proofs.Common.{◌≡◌, ◌+◌, ℕ, Option, None, length, ◌++◌, ◌∷◌, [], refl, ap, sym, ◌∙◌, subst, arith}
 use Rattle.std.specs.Option.{IfSome}
-use Rattle.kq_names.specs.Places.{place_of}
-use Rattle.kq_model.specs.declared.event.Commit.{Commit}
-use Rattle.kq_model.specs.declared.event.Event.{Event}
-use Rattle.kq_model.specs.declared.event.Operation.TheVariants as operation
-use Rattle.kq_model.specs.Edits.{FitAll, edits_of}
-use Rattle.kq_model.specs.History.{log, cursor as cursor_of}
-use Rattle.kq_model.specs.Lawful.{LawfulCommit}
-use Rattle.kq_model.specs.Policies.{noted_by, policies_with}
-use Rattle.kq_model.specs.Records.{extents_made}
-use Rattle.kq_model.proofs.Bounded.{few_made_by}
-use Rattle.kq_model.specs.Tagged.{is_tagged_by}
-use Rattle.kq_tagged.specs.Index.{AddsTags}
+use Rattle.kq_catalog_indexes.specs.Places.{place_of}
+use Rattle.kq_catalog_journal.specs.declared.event.Commit.{Commit}
+use Rattle.kq_catalog_journal.specs.declared.event.Event.{Event}
+use Rattle.kq_catalog_journal.specs.declared.event.Operation.TheVariants as operation
+use Rattle.kq_catalog_journal.specs.Edits.{FitAll, edits_of}
+use Rattle.kq_catalog_journal.specs.History.{log, cursor as cursor_of}
+use Rattle.kq_catalog_journal.specs.Lawful.{LawfulCommit}
+use Rattle.kq_catalog_journal.specs.Policies.{noted_by, policies_with}
+use Rattle.kq_catalog_journal.specs.Records.{extents_made}
+use Rattle.kq_catalog_journal.proofs.Bounded.{few_made_by}
+use Rattle.kq_catalog_journal.specs.Tagged.{is_tagged_by}
+use Rattle.kq_catalog_indexes.specs.Tags.{AddsTags}
 use Rattle.kq_catalog.specs.Edits.{AreEdits, edits_by}
 use Rattle.kq_catalog.specs.Held.{tables_in}
 use Rattle.kq_catalog.specs.Intents.{commit_of, event_by, view_by}

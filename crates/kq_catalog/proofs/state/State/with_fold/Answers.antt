@@ -1,5 +1,5 @@
 use Rattle.std.proofs.Common.{◌≡◌, ◌<◌, ◌++◌, ◌∷◌, [], ap, sym, ◌∙◌, subst, arith}
-use Rattle.kq_model.specs.History.{view_cursor}
+use Rattle.kq_catalog_journal.specs.History.{view_cursor}
 use Rattle.kq_catalog.specs.Seen.{CatalogView, hist}
 use Rattle.kq_catalog.specs.Views.{WasFolded, fold_event}
 use Rattle.kq_catalog.proofs.Viewing.{HoldsHistory-fold, count_views, fold_stands}

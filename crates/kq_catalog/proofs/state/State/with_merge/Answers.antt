@@ -1,10 +1,10 @@
 use Rattle.std.proofs.Common.{◌≡◌, ◌+◌, ◌++◌, ◌∷◌, ℕ, [], length, ap, sym, ◌∙◌, subst, arith}
 use Rattle.std.specs.Arc.{arc_value}
-use Rattle.kq_model.specs.declared.event.Event.{Event}
-use Rattle.kq_model.specs.declared.event.Operation.TheVariants as operation
-use Rattle.kq_model.specs.Edits.{changed}
-use Rattle.kq_model.specs.Records.{extents_made, small_items}
-use Rattle.kq_extent.specs.Seen.{ExtentView}
+use Rattle.kq_catalog_journal.specs.declared.event.Event.{Event}
+use Rattle.kq_catalog_journal.specs.declared.event.Operation.TheVariants as operation
+use Rattle.kq_catalog_journal.specs.Edits.{changed}
+use Rattle.kq_catalog_journal.specs.Records.{extents_made, small_items}
+use Rattle.kq_store_extent.specs.Seen.{ExtentView}
 use Rattle.kq_catalog.specs.Edits.{with_merged}
 use Rattle.kq_catalog.specs.Merges.{IsInFront, WasPicked, merge_event}
 use Rattle.kq_catalog.specs.Seen.{CatalogView, hist}

@@ -1,6 +1,6 @@
 use Rattle.std.proofs.Common.{◌≡◌, ◌∙◌, List, None, Some, ap, sym}
-use Rattle.kq_names.specs.Places.{place_of}
-use Rattle.kq_model.specs.History.{table_numbered}
+use Rattle.kq_catalog_indexes.specs.Places.{place_of}
+use Rattle.kq_catalog_journal.specs.History.{table_numbered}
 use Rattle.kq_catalog.specs.Held.{HeldTable, tables_in}
 use Rattle.kq_catalog.proofs.Naming.{names_in, some_table, numbered-none, numbered-some}
 use Rattle.kq_catalog.proofs.tables.Tables.find.Goals as goal

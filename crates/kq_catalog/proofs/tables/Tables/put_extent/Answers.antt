@@ -1,6 +1,6 @@
 use Rattle.std.proofs.Common.{◌≡◌, ◌∙◌, slice_set, refl, ap, sym}
 use Rattle.std.specs.Arc.{arc_value}
-use Rattle.kq_model.specs.Edits.{changed}
+use Rattle.kq_catalog_journal.specs.Edits.{changed}
 use Rattle.kq_catalog.specs.Edits.{with_extent}
 use Rattle.kq_catalog.specs.Held.{HeldTable}
 use Rattle.kq_catalog.proofs.Keeping.{map-changed}

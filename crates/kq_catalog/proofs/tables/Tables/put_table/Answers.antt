@@ -1,7 +1,7 @@
 use Rattle.std.proofs.Common.{◌≡◌, ◌∙◌, List, None, ap}
 use Rattle.std.specs.Arc.{arc_value}
-use Rattle.kq_names.specs.Places.{place_of}
-use Rattle.kq_model.specs.History.{table_named}
+use Rattle.kq_catalog_indexes.specs.Places.{place_of}
+use Rattle.kq_catalog_journal.specs.History.{table_named}
 use Rattle.kq_catalog.specs.Held.{HeldTable, tables_in}
 use Rattle.kq_catalog.proofs.Naming.{names_in, unnamed}
 use Rattle.kq_catalog.proofs.tables.Tables.put_table.Goals as goal

@@ -2,7 +2,7 @@ use Rattle.std.proofs.Common.{rules, ◌≡◌, ◌∙◌, ap, sym, subst, lengt
 use Rattle.std.proofs.lemmas.Iterator.Adapters.{YieldsList-from_vec}
 use Rattle.std.proofs.lemmas.Iterator.Consumers.{YieldsList-turn, YieldsList-so_far}
 use Rattle.std.proofs.lemmas.List.{map-id}
-use Rattle.kq_model.specs.Edits.{FitsTables}
+use Rattle.kq_catalog_journal.specs.Edits.{FitsTables}
 use Rattle.kq_catalog.specs.Edits.{edit_of, put_in, put_all}
 use Rattle.kq_catalog.specs.Held.{HeldTable, tables_in}
 use Rattle.kq_catalog.proofs.Putting.{FitAll-at, put_all-push}

@@ -1,5 +1,5 @@
 use Rattle.std.proofs.Common.{◌≡◌, ◌∙◌, slice_set, refl, ap, sym}
-use Rattle.kq_model.specs.Edits.{changed}
+use Rattle.kq_catalog_journal.specs.Edits.{changed}
 use Rattle.kq_catalog.specs.Views.{HeldView, folded_view, names_held}
 use Rattle.kq_catalog.proofs.Keeping.{map-changed}
 use Rattle.kq_catalog.proofs.Putting.{set-changed}

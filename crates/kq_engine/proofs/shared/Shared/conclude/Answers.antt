@@ -1,5 +1,5 @@
 use Rattle.std.proofs.Common.{◌≡◌, length, ap, ◌∙◌, subst}
-use Rattle.kq_look.specs.Found.{IsReady}
+use Rattle.kq_engine_prepare.specs.Found.{IsReady}
 use Rattle.kq_engine.specs.Shared.{PassView}
 use Rattle.kq_engine.proofs.Sharing.{Concludes-answered}
 use Rattle.kq_engine.proofs.shared.Shared.conclude.Goals as goal

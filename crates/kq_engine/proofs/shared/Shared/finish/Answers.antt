@@ -1,14 +1,14 @@
 use Rattle.std.proofs.Common.{◌≡◌, ℕ, take, ap, ◌∙◌, subst, sym, rules}
-use Rattle.kq_turn.proofs.Beginnings.{take-IsPrefix}
-use Rattle.kq_model.specs.History.{History}
+use Rattle.kq_lock.proofs.Beginnings.{take-IsPrefix}
+use Rattle.kq_catalog_journal.specs.History.{History}
 use Rattle.kq_catalog.specs.Seen.{hist}
-use Rattle.kq_model.specs.declared.limits.Limits.{Limits}
+use Rattle.kq_catalog_journal.specs.declared.limits.Limits.{Limits}
 use Rattle.kq_catalog.specs.Grown.{numbers_of}
 use Rattle.kq_catalog.proofs.Grown.{same_limits}
 use Rattle.kq_engine.specs.declared.work.Outcome.{Outcome}
 use Rattle.kq_engine.specs.Acts.{Advances}
-use Rattle.kq_look.specs.Fits.{event_by}
-use Rattle.kq_look.specs.Found.{IsReady}
+use Rattle.kq_engine_prepare.specs.Fits.{event_by}
+use Rattle.kq_engine_prepare.specs.Found.{IsReady}
 use Rattle.kq_engine.specs.Acts.{WantsToFinish}
 use Rattle.kq_reply.specs.declared.refusal.Refusal.TheVariants as refusals
 use Rattle.kq_reply.specs.declared.reply.Reply.TheVariants as replies

@@ -1,11 +1,11 @@
 use Rattle.std.proofs.Common.{◌≡◌, ◌∙◌, length, subst, sym, rules}
-use Rattle.kq_model.specs.declared.limits.Limits.{Limits}
-use Rattle.kq_model.specs.History.{log}
-use Rattle.kq_model.specs.Lawful.{AreLawful}
+use Rattle.kq_catalog_journal.specs.declared.limits.Limits.{Limits}
+use Rattle.kq_catalog_journal.specs.History.{log}
+use Rattle.kq_catalog_journal.specs.Lawful.{AreLawful}
 use Rattle.kq_catalog.specs.Grown.{numbers_of}
 use Rattle.kq_catalog.specs.Seen.{hist}
 use Rattle.kq_catalog.proofs.Grown.{same_limits}
-use Rattle.kq_look.specs.Fits.{event_by}
+use Rattle.kq_engine_prepare.specs.Fits.{event_by}
 use Rattle.kq_engine.specs.Upkeeps.{IsChore, IsThere}
 use Rattle.kq_engine.proofs.Upholding.{FinishesUpkeep-step, chore_found, seen_chore}
 use Rattle.kq_engine.proofs.shared.Shared.finish_upkeep.Goals as goal

@@ -1,5 +1,5 @@
 use Rattle.std.proofs.Common.{◌∙◌, ◌+◌, ap}
-use Rattle.kq_model.specs.History.{cursor}
+use Rattle.kq_catalog_journal.specs.History.{cursor}
 use Rattle.kq_engine.specs.Shared.{PassView}
 use Rattle.kq_engine.proofs.Counting.{cursor-append}
 use Rattle.kq_engine.proofs.shared.Shared.join.Goals as goal

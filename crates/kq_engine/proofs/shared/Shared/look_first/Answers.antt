@@ -1,12 +1,12 @@
 use Rattle.std.proofs.Common.{ℤ, ◌≡◌, subst, IfErr, IfOk, rules, w64, to_z, of_z}
 use Rattle.std.proofs.lemmas.Int.{to_z-of_z}
-use Rattle.kq_model.specs.declared.limits.Limits.{Limits}
+use Rattle.kq_catalog_journal.specs.declared.limits.Limits.{Limits}
 use Rattle.kq_catalog.specs.Grown.{numbers_of}
 use Rattle.kq_catalog.specs.Seen.{hist}
 use Rattle.kq_catalog.proofs.Grown.{same_limits}
-use Rattle.kq_turn.proofs.Beginnings.{IsPrefix-refl}
-use Rattle.kq_look.specs.Fits.{AnswersCommand}
-use Rattle.kq_look.specs.Found.{IsLooked}
+use Rattle.kq_lock.proofs.Beginnings.{IsPrefix-refl}
+use Rattle.kq_engine_prepare.specs.Fits.{AnswersCommand}
+use Rattle.kq_engine_prepare.specs.Found.{IsLooked}
 use Rattle.kq_reply.specs.declared.reply.Reply.TheVariants as replies
 use Rattle.kq_engine.proofs.shared.Shared.look_first.Goals as goal
 

@@ -1,5 +1,5 @@
 use Rattle.std.proofs.Common.{subst, sym}
-use Rattle.kq_model.specs.History.{History, log}
+use Rattle.kq_catalog_journal.specs.History.{History, log}
 use Rattle.kq_engine.specs.Upkeeps.{IsThere, IsWanted}
 use Rattle.kq_engine.proofs.Upholding.{there_later}
 use Rattle.kq_engine.proofs.shared.Shared.prepare_upkeep.Goals as goal

@@ -1,6 +1,6 @@
 use Rattle.std.proofs.Common.{◌≡◌, subst, IfOk, rules}
-use Rattle.kq_model.specs.declared.limits.Limits.{Limits}
-use Rattle.kq_model.specs.Lawful.{AreLawful}
+use Rattle.kq_catalog_journal.specs.declared.limits.Limits.{Limits}
+use Rattle.kq_catalog_journal.specs.Lawful.{AreLawful}
 use Rattle.kq_catalog.specs.Grown.{numbers_of}
 use Rattle.kq_catalog.specs.Seen.{hist}
 use Rattle.kq_catalog.proofs.Grown.{same_limits}

@@ -1,5 +1,5 @@
 use Rattle.std.proofs.Common.{◌≡◌, ◌+◌, ◌≤◌, length}
-use Rattle.kq_turn.specs.Passes.{IsIdle}
+use Rattle.kq_lock.specs.Passes.{IsIdle}
 use Rattle.world_tests.proofs.tests.turns.add_all.Given as goal
 
 abbrev pub invariant-loop-x : goal.invariant-loop-x

@@ -1,5 +1,5 @@
 use Rattle.std.proofs.Common.{◌≡◌, ◌∙◌, ◌+◌, ℕ, true, [], length, ap, sym, arith, length-append}
-use Rattle.kq_turn.specs.Passes.{Known}
+use Rattle.kq_lock.specs.Passes.{Known}
 use Rattle.world_tests.proofs.Counts.{every}
 use Rattle.world_tests.proofs.tests.turns.by_two.Goals as goal
 

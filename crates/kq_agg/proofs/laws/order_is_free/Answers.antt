@@ -1,6 +1,0 @@
--- The law is proved over the definition.
-use Rattle.kq_agg.proofs.AnyOrder.{Holds-any_order}
-use Rattle.kq_agg.proofs.laws.order_is_free.Goals as goal
-
-pub returns : goal.returns
-returns c = Holds-any_order

@@ -1,5 +1,0 @@
-pub mod Arithmetic
-pub mod Comparing
-pub mod Logic
-pub mod Numbers
-pub mod kq_written

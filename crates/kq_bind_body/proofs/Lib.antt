@@ -1,4 +1,0 @@
-pub mod Adding
-pub mod Growing
-pub mod Bound
-pub mod Answered

@@ -1,2 +1,0 @@
--- What callers of this crate name of `kq_grouping`.
-pub use Rattle.kq_grouping.specs.Bodies

@@ -1,0 +1,10 @@
+pub mod Names
+pub mod Verdicts
+pub mod Seen
+pub mod Lookup
+pub mod Apply
+pub mod Operators
+pub mod Bound
+pub mod Unsupported
+pub mod kq_read_meanings
+pub mod kq_plan_functions

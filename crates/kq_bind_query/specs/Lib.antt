@@ -1,0 +1,16 @@
+pub mod Pipes
+pub mod Queries
+pub mod Seen
+pub mod kq_bind_supported
+pub mod kq_bind_operators
+pub mod Different
+pub mod Suffixes
+pub mod Paired
+pub mod Expanded
+pub mod Staged
+pub mod United
+pub mod Counted
+pub mod Written
+pub mod kq_bind_aggregates
+pub mod kq_read_meanings
+pub mod kq_bind_columns

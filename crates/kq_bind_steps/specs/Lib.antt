@@ -1,8 +1,0 @@
-pub mod Flows
-pub mod Scopes
-pub mod Operators
-pub mod Clauses
-pub mod Seen
-pub mod kq_bind_clauses
-pub mod kq_bind_columns
-pub mod kq_spelled

@@ -1,2 +1,0 @@
-pub mod Calendar
-pub mod kq_time

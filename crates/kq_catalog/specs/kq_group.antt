@@ -1,2 +1,0 @@
--- What callers of this crate name of `kq_group`.
-pub use Rattle.kq_group.specs.Groups

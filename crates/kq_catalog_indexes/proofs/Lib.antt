@@ -1,0 +1,5 @@
+pub mod Places
+pub mod Sorted
+pub mod Indexed
+pub mod Tagged
+pub mod Sent

@@ -1,0 +1,5 @@
+use Rattle.std.proofs.Common.{◌≡◌, take}
+use Rattle.kq_catalog_indexes.proofs.names.with_name.Given as goal
+
+abbrev pub invariant-loop-held : goal.invariant-loop-held
+invariant-loop-held l = l.all.items ≡ take l.held-index l.names

@@ -1,0 +1,4 @@
+pub mod Index
+pub mod Places
+pub mod Tags
+pub mod TagTrees

@@ -1,8 +1,0 @@
-use Rattle.std.proofs.Common.{◌-◌, map, ◌∙◌, arith}
-use Rattle.kq_vector.specs.Vectors.{cell_of}
-use Rattle.kq_column.proofs.Bagged.{cells_between}
-use Rattle.kq_column.proofs.bags.Bags.lend.Goals as goal
-
-pub returns : goal.returns
-returns c =
-    (λ t. map (cell_of (c.lent-bags.ensures t)) (c.in_ok-places.ensures t)) ∙ cells_between c.args.self.now c.args.from (c.args.to - c.args.from) (omega (arith, c.requires.0, c.requires.1))

@@ -1,9 +1,0 @@
-use Rattle.std.proofs.Common.{take}
-use Rattle.std.specs.List.{flat_map}
-use Rattle.kq_vector.specs.Vectors.{cells_of}
-use Rattle.kq_column.specs.Built.{AreBuilt}
-use Rattle.kq_column.proofs.numbers.Numbers.joined.Given as goal
-
--- the parts so far
-abbrev pub invariant-loop-part : goal.invariant-loop-part
-invariant-loop-part l = AreBuilt l.ty l.nulls.items l.numbers.items l.any (flat_map cells_of (take l.part-index l.parts))

@@ -1,7 +1,0 @@
-use Rattle.std.proofs.Common.{◌≡◌, map, take}
-use Rattle.kq_vector.specs.Vectors.{member_at}
-use Rattle.kq_columnar.specs.Seen.{cells_in_parts}
-use Rattle.kq_columnar.proofs.members.parts_of.Given as goal
-
-abbrev pub invariant-loop-cell : goal.invariant-loop-cell
-invariant-loop-cell l = cells_in_parts l.parts.items ≡ map (member_at l.key) (take l.cell-index l.cells)

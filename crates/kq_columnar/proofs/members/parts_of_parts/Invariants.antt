@@ -1,7 +1,0 @@
-use Rattle.std.proofs.Common.{◌≡◌, map, take}
-use Rattle.kq_vector.specs.Vectors.{member_at}
-use Rattle.kq_columnar.specs.Seen.{cells_in_parts}
-use Rattle.kq_columnar.proofs.members.parts_of_parts.Given as goal
-
-abbrev pub invariant-loop-i : goal.invariant-loop-i
-invariant-loop-i l = cells_in_parts l.parts.items ≡ map (member_at l.key) (cells_in_parts (take l.i l.whole))

@@ -1,8 +1,0 @@
-use Rattle.std.proofs.Common.{◌≡◌, map, take}
-use Rattle.kq_value.specs.declared.value.Value.TheVariants.{Long}
-use Rattle.kq_scalar.specs.kq_conversions.Converted.{as_long}
-use Rattle.kq_columnar.specs.Seen.{cells_in_parts}
-use Rattle.kq_columnar.proofs.parts.longs_of_parts.Given as goal
-
-abbrev pub invariant-loop-i : goal.invariant-loop-i
-invariant-loop-i l = map as_long (cells_in_parts (take l.i l.parts)) ≡ map Long l.longs.items

@@ -1,8 +1,0 @@
-use Rattle.std.proofs.Common.{◌≡◌, map, take}
-use Rattle.kq_scalar.specs.kq_conversions.Parts.{member_of}
-use Rattle.kq_scalar.specs.kq_texts.Texts.{pieces}
-use Rattle.kq_vector.specs.Vectors.{cells_of}
-use Rattle.kq_columnar.proofs.splits.pieces_by.Given as goal
-
-abbrev pub invariant-loop-i : goal.invariant-loop-i
-invariant-loop-i l = l.members.items ≡ map (λ x. member_of (pieces x l.part) l.place) (take l.i (cells_of l.texts))

@@ -1,7 +1,0 @@
-use Rattle.kq_columnar.proofs.tests.tests_beside.Goals as goal
-
-pub returns-in-Some : goal.returns-in-Some
-returns-in-Some c = rw c.in-Some.ensures c.tests_of_cells.ensures
-
-pub returns-in-Some-words : goal.returns-in-Some-words
-returns-in-Some-words c = rw c.in-Some-words.ensures c.tests_of_words.ensures

@@ -1,3 +1,0 @@
-pub mod Converted
-pub mod Parts
-pub mod kq_written

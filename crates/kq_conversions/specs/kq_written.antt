@@ -1,4 +1,0 @@
--- What callers of this crate name of `kq_written`.
-pub use Rattle.kq_written.specs.Conversions
-pub use Rattle.kq_written.specs.Members
-pub use Rattle.kq_written.specs.Numerals

@@ -1,6 +1,0 @@
-use Rattle.std.proofs.Common.{take}
-use Rattle.kq_distinct.proofs.Kept.{AreDistinct}
-use Rattle.kq_distinct.proofs.distinct.Given as goal
-
-abbrev pub invariant-loop-text : goal.invariant-loop-text
-invariant-loop-text l = AreDistinct (take l.text-index l.texts) l.seen.keys

@@ -1,4 +1,0 @@
-pub mod Binding
-pub mod Marking
-pub mod Searching
-pub mod Setting

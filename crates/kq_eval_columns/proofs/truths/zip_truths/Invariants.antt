@@ -1,0 +1,11 @@
+use Rattle.std.proofs.Common.{◌≡◌, ◌++◌, drop, map}
+use Rattle.kq_value.specs.Computed.{Is, and_then}
+use Rattle.kq_value.specs.declared.value.Value.TheVariants.{Bool as Truth}
+use Rattle.kq_eval_kernels.specs.Pairs.{each_two, without_overflow}
+use Rattle.kq_eval_columns.proofs.truths.zip_truths.Given as goal
+
+-- what has been made, then what the rest gives, is the whole
+abbrev pub invariant-loop-i : goal.invariant-loop-i
+invariant-loop-i g l =
+    let f = without_overflow g.O.TruthOperator.operator in
+    each_two f (map Truth l.a) (map Truth l.b) ≡ and_then (each_two f (drop l.i (map Truth l.a)) (drop l.i (map Truth l.b))) (λ zs. Is (map Truth l.truths.items ++ zs))

@@ -1,0 +1,2 @@
+-- What callers of this crate name of `kq_eval_row`.
+pub use Rattle.kq_eval_columns.specs.kq_eval_row.Val

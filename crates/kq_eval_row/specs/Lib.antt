@@ -1,0 +1,5 @@
+pub mod Applied
+pub mod Seen
+pub mod Val
+pub mod kq_value_string_functions
+pub mod kq_value_conversions

@@ -1,5 +1,0 @@
-pub mod Bound
-pub mod Held
-pub mod Runs
-pub mod Serving
-pub mod kq_exported

@@ -1,0 +1,4 @@
+pub mod Exported
+pub mod Names
+pub mod Ranges
+pub mod Ledgers

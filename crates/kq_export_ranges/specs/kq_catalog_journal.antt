@@ -1,0 +1,2 @@
+-- Histories, for crates above.
+pub use Rattle.kq_catalog_journal.specs.History

@@ -1,3 +1,0 @@
-pub mod Exported
-pub mod Names
-pub mod Ranges

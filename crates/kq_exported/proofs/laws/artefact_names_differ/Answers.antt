@@ -1,5 +1,0 @@
-use Rattle.kq_exported.proofs.Names.{one_name}
-use Rattle.kq_exported.proofs.laws.artefact_names_differ.Goals as goal
-
-pub returns : goal.returns
-returns c = λ name other r s ahead fits behind room same. one_name name other r.above s.above r.to s.to ahead fits behind room same

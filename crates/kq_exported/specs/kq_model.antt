@@ -1,2 +1,0 @@
--- Histories, for crates above.
-pub use Rattle.kq_model.specs.History

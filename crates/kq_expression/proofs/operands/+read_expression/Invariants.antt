@@ -1,4 +1,0 @@
-use Rattle.kq_expression.proofs.operands.+read_expression.Given as goal
-
-abbrev pub decreases-read_expression : goal.decreases-read_expression
-decreases-read_expression l = l.budget

@@ -1,7 +1,0 @@
-use Rattle.std.proofs.Common.{◌≡◌, ◌++◌, [], map, take}
-use Rattle.kq_widened.specs.Widened.{widened}
-use Rattle.kq_extent.proofs.columns.Columns.push_rows.Given as goal
-
--- the first rows were added, and nothing is left in the buffer
-abbrev pub invariant-loop-index : goal.invariant-loop-index
-invariant-loop-index l = record { added : l.rows ≡ l.initial.rows ++ take l.index (map (widened l.fields) l.self); emptied : l.row.items ≡ [] }

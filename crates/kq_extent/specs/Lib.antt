@@ -1,9 +1,0 @@
-pub mod Cells
-pub mod Columns
-pub mod Coming
-pub mod Runs
-pub mod Seen
-pub mod SeenRows
-pub mod Split
-pub mod Wide
-pub mod kq_widened

@@ -1,6 +1,0 @@
--- The law is proved over the definition.
-use Rattle.kq_fitting.proofs.Suffixed.{made_free}
-use Rattle.kq_fitting.proofs.laws.default_names_are_free.Goals as goal
-
-pub returns : goal.returns
-returns c = made_free

@@ -1,3 +1,0 @@
--- What callers of this crate name of `kq_bind`.
-pub use Rattle.kq_bind.specs.Pipes
-pub use Rattle.kq_bind.specs.Queries

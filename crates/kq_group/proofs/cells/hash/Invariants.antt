@@ -1,6 +1,0 @@
-use Rattle.std.proofs.Common.{◌≡◌, drop}
-use Rattle.kq_group.specs.Keys.{hash_from, key_hash}
-use Rattle.kq_group.proofs.cells.hash.Given as goal
-
-abbrev pub invariant-loop-cell : goal.invariant-loop-cell
-invariant-loop-cell l = key_hash l.key ≡ hash_from l.state (drop l.cell-index l.key)

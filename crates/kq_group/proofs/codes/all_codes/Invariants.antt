@@ -1,7 +1,0 @@
-use Rattle.std.proofs.Common.{ℕ, map, take}
-use Rattle.kq_vector.specs.Vectors.{cells_of}
-use Rattle.kq_group.specs.Columns.{HaveLength, Tell}
-use Rattle.kq_group.proofs.codes.all_codes.Given as goal
-
-abbrev pub invariant-loop-column : goal.invariant-loop-column
-invariant-loop-column l = (n : ℕ) → HaveLength n (map cells_of (take l.column-index l.columns)) → Tell n l.codes.items (map cells_of (take l.column-index l.columns))

@@ -1,5 +1,0 @@
-use Rattle.kq_group.specs.Found.{FoundBetween}
-use Rattle.kq_group.proofs.key_table.KeyTable.find_between.Given as goal
-
-abbrev pub invariant-loop-place : goal.invariant-loop-place
-invariant-loop-place l = FoundBetween l.self.keys l.other.keys l.from l.place l.found.items

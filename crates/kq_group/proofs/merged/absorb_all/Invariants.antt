@@ -1,5 +1,0 @@
-use Rattle.kq_group.proofs.Merging.{AbsorbsSome}
-use Rattle.kq_group.proofs.merged.absorb_all.Given as goal
-
-abbrev pub invariant-loop-i : goal.invariant-loop-i
-invariant-loop-i l = AbsorbsSome l.numbers l.places l.others l.count l.i l.fn.states l.states

@@ -1,2 +1,0 @@
--- What callers of this crate name of `kq_agg`.
-pub use Rattle.kq_agg.specs.Aggregates

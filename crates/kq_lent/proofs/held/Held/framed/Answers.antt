@@ -1,5 +1,0 @@
-use Rattle.kq_rows.proofs.Typed.{same_width-wide}
-use Rattle.kq_lent.proofs.held.Held.framed.Goals as goal
-
-pub invariant_of-result : goal.invariant_of-result
-invariant_of-result c = same_width-wide c.width-width.result c.args.frame c.width-width.ensures

@@ -1,7 +1,0 @@
-use Rattle.std.proofs.Common.{map, take}
-use Rattle.kq_expr.specs.Terms.{term_of}
-use Rattle.kq_lent.specs.Settled.{MeanAs, seen}
-use Rattle.kq_lent.proofs.settled.args_settled.Given as goal
-
-abbrev pub invariant-loop-arg : goal.invariant-loop-arg
-invariant-loop-arg l = MeanAs (seen l.around) (map term_of l.settled.items) (map term_of (take l.arg-index l.args))

@@ -1,6 +1,0 @@
--- What callers of this crate name of `kq_reshape`.
-pub use Rattle.kq_stretch.specs.kq_reshape.Cells
-pub use Rattle.kq_stretch.specs.kq_reshape.Distinct
-pub use Rattle.kq_stretch.specs.kq_reshape.Expand
-pub use Rattle.kq_stretch.specs.kq_reshape.Range
-pub use Rattle.kq_stretch.specs.kq_reshape.Union

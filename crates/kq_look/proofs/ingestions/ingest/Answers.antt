@@ -1,7 +1,0 @@
-use Rattle.kq_model.specs.History.{log, tables}
-use Rattle.kq_model.proofs.Tables.{table_numbered-at}
-use Rattle.kq_look.proofs.ingestions.ingest.Goals as goal
-
-pub read-requires : goal.read-requires
-read-requires c =
-    (table_numbered-at c.args.ingestion.now.table.text (tables (log c.args.snapshot.now.history)) (record { number = c.in-Some.number; table = c.in-Some.table.now }) c.in-Some.ensures).1

@@ -1,7 +1,0 @@
-use Rattle.std.proofs.Common.{◌≡◌, map, take}
-use Rattle.std.specs.Arc.{arc_value}
-use Rattle.kq_extent.specs.Seen.{ExtentView}
-use Rattle.kq_look.proofs.merges.ids_of.Given as goal
-
-abbrev pub invariant-loop-extent : goal.invariant-loop-extent
-invariant-loop-extent l = l.ids ≡ map (λ (e : ExtentView). e.id) (take l.extent-index (map arc_value l.extents))

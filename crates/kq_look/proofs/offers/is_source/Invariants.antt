@@ -1,6 +1,0 @@
-use Rattle.std.proofs.Common.{◌≡◌, drop}
-use Rattle.kq_look.specs.Found.{is_source}
-use Rattle.kq_look.proofs.offers.is_source.Given as goal
-
-abbrev pub invariant-loop-due : goal.invariant-loop-due
-invariant-loop-due l = is_source l.table (drop l.due-index l.dues) ≡ is_source l.table l.dues

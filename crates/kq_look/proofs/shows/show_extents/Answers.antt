@@ -1,7 +1,0 @@
-use Rattle.kq_model.specs.History.{log, tables}
-use Rattle.kq_model.proofs.Tables.{table_numbered-at}
-use Rattle.kq_look.proofs.shows.show_extents.Goals as goal
-
-pub extents_of-requires : goal.extents_of-requires
-extents_of-requires c =
-    (table_numbered-at c.args.table.now.text (tables (log c.args.snapshot.now.history)) (record { number = c.in-Some.number; table = c.in-Some._table.now }) c.in-Some.ensures).0

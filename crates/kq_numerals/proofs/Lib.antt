@@ -1,2 +1,0 @@
-pub mod BlankLemmas
-pub mod NumberLemmas

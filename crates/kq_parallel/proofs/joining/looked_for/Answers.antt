@@ -1,7 +1,0 @@
-use denote.Param.Send.{sendable}
-use Rattle.std.proofs.Crossing.{crosses}
-use Rattle.kq_parallel.proofs.Crossing.{lookup_sync}
-use Rattle.kq_parallel.proofs.joining.looked_for.Goals as goal
-
-pub halves-requires-sync-T : goal.halves-requires-sync-T
-halves-requires-sync-T g c κs within = search (lookup_sync, sendable, crosses) depth 60 fits 20000

@@ -1,5 +1,0 @@
-use Rattle.kq_parse.proofs.DepthLaws.{deep_found}
-use Rattle.kq_parse.proofs.depth.too_deep.Goals as goal
-
-pub returns : goal.returns
-returns c = deep_found c.args.symbols.now c.deep_place.result c.deep_place.ensures

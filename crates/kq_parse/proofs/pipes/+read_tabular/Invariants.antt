@@ -1,4 +1,0 @@
-use Rattle.kq_parse.proofs.pipes.+read_tabular.Given as goal
-
-abbrev pub decreases-read_tabular : goal.decreases-read_tabular
-decreases-read_tabular l = l.budget

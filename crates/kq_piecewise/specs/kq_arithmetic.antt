@@ -1,2 +1,0 @@
--- What callers of this crate name of `kq_arithmetic`.
-pub use Rattle.kq_columnar.specs.kq_arithmetic.Logic

@@ -1,2 +1,0 @@
--- What callers of this crate name of `kq_expr`.
-pub use Rattle.kq_expr.specs.Terms

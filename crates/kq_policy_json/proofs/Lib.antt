@@ -1,2 +1,0 @@
-pub mod PolicyExamples
-pub mod PolicyLemmas

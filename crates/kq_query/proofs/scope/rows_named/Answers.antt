@@ -1,7 +1,0 @@
-use Rattle.kq_model.specs.History.{log, tables}
-use Rattle.kq_model.proofs.Tables.{table_numbered-at}
-use Rattle.kq_query.proofs.scope.rows_named.Goals as goal
-
-pub table_rows-requires : goal.table_rows-requires
-table_rows-requires c =
-    (table_numbered-at c.args.name.now (tables (log c.args.snapshot.now.history)) (record { number = c.in-Some.number; table = c.in-Some.table.now }) c.in-Some.ensures).1

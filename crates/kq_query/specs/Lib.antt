@@ -1,5 +1,0 @@
-pub mod Views
-pub mod Worlds
-pub mod Printed
-pub mod Answers
-pub mod kq_lent

@@ -1,7 +1,0 @@
-use Rattle.std.proofs.Common.{◌≡◌, drop, map}
-use Rattle.kq_repeats.specs.Names.{is_among}
-use Rattle.kq_repeats.proofs.is_among.Given as goal
-
--- what is left has the answer of the whole
-abbrev pub invariant-loop-item : goal.invariant-loop-item
-invariant-loop-item g l = is_among l.name (map g.T.Named.name_of (drop l.item-index l.items)) ≡ is_among l.name (map g.T.Named.name_of l.items)

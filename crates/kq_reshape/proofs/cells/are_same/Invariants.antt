@@ -1,7 +1,0 @@
-use Rattle.std.proofs.Common.{◌≡◌, drop}
-use Rattle.std.specs.Cmp.Lexicographic.{pointwise}
-use Rattle.kq_value.specs.Values.{is_same}
-use Rattle.kq_reshape.proofs.cells.are_same.Given as goal
-
-abbrev pub invariant-loop-i : goal.invariant-loop-i
-invariant-loop-i l = pointwise is_same (drop l.i l.a) (drop l.i l.b) ≡ pointwise is_same l.a l.b

@@ -1,3 +1,0 @@
-pub mod Chunked
-pub mod Sent
-pub mod Typed

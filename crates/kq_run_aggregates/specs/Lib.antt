@@ -1,0 +1,10 @@
+pub mod Alone
+pub mod Across
+pub mod Aggregates
+pub mod Holds
+pub mod Ranks
+pub mod SameLaws
+pub mod Steps
+pub mod Tables
+pub mod kq_plan
+pub mod kq_value_arithmetic

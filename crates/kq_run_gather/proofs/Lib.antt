@@ -1,0 +1,17 @@
+pub mod AnyOrder
+pub mod ArgumentColumns
+pub mod Arguments
+pub mod Columns
+pub mod Coming
+pub mod Joining
+pub mod KeyColumns
+pub mod Led
+pub mod Paired
+pub mod Pieces
+pub mod Regrouped
+pub mod Stepped
+pub mod kq_run_groups
+pub mod kq_eval_row
+pub mod kq_run_row_operators
+pub mod kq_run_aggregates
+pub mod kq_value_arithmetic

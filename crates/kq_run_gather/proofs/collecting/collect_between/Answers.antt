@@ -1,0 +1,19 @@
+use Rattle.std.proofs.Common.{◌≡◌, ℕ, ℤ, IfOk, map, rules, subst, w64, to_z, of_z}
+use Rattle.std.proofs.lemmas.Int.{to_z-of_z}
+use Rattle.kq_run_scan.specs.kq_eval_pieces.Pieces.{piece_of}
+use Rattle.kq_run_scan.specs.kq_eval_row.Val.{surroundings}
+use Rattle.kq_run_row_operators.specs.Operators.{rowwise_of}
+use Rattle.kq_run_row_operators.specs.Ran.{Ran, ran}
+use Rattle.kq_run_gather.specs.Pipelines.{CollectsTo, width_through}
+use Rattle.kq_run_gather.proofs.collecting.collect_between.Goals as goal
+
+pub returns : goal.returns
+returns c =
+    let p = c.args.pipeline.now in
+    let again = to_z w64 (of_z w64 p.moment) in
+    let same : again ≡ p.moment = search (rules, to_z-of_z) in
+    let part = λ (z : ℤ). ran (map rowwise_of p.operators.now) (surroundings z p.lets.now) (piece_of c.args.rows.now c.args.from c.args.to) in
+    let width = width_through p c.args.rows.now in
+    let wide = subst (λ (w : ℕ). IfOk c.collect_all.result (CollectsTo w c.flow_between-flow.result.to_come)) c.flow_between-flow.ensures.width c.collect_all.ensures in
+    let collects = subst (λ (r : Ran). IfOk c.collect_all.result (CollectsTo width r)) c.flow_between-flow.ensures.rows wide in
+    subst (λ (z : ℤ). IfOk c.collect_all.result (CollectsTo width (part z))) same collects

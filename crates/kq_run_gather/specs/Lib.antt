@@ -1,0 +1,15 @@
+pub mod Steps
+pub mod Grouping
+pub mod Arriving
+pub mod Bodies
+pub mod Joined
+pub mod Leading
+pub mod Partnered
+pub mod Pipelines
+pub mod Summaries
+pub mod kq_run_aggregates
+pub mod kq_run_row_operators
+pub mod kq_eval_pieces
+pub mod kq_run_groups
+pub mod kq_eval_row
+pub mod kq_value_arithmetic

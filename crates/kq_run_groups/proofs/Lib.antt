@@ -1,0 +1,11 @@
+pub mod ColumnKeys
+pub mod Columns
+pub mod Finding
+pub mod Finishing
+pub mod Gathering
+pub mod Groupings
+pub mod Merging
+pub mod Search
+pub mod Tables
+pub mod Typed
+pub mod kq_value_arithmetic

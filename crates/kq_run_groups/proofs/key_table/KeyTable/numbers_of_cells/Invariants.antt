@@ -1,0 +1,12 @@
+use Rattle.std.proofs.Common.{◌≡◌, take}
+use Rattle.kq_run_aggregates.specs.Alone.{each_alone}
+use Rattle.kq_store_column_view.specs.Vectors.{cells_of}
+use Rattle.kq_run_groups.specs.Keys.{IsTable, Numbers}
+use Rattle.kq_run_groups.proofs.key_table.KeyTable.numbers_of_cells.Given as goal
+
+abbrev pub invariant-loop-i : goal.invariant-loop-i
+invariant-loop-i l = record {
+  table : IsTable l.self;
+  width : l.self.width ≡ l.fn.self.width;
+  numbers : Numbers l.fn.self.keys l.self.keys l.numbers.items (take l.i (each_alone (cells_of l.column)));
+}

@@ -1,0 +1,13 @@
+use Rattle.std.proofs.Common.{◌≡◌, map, take}
+use Rattle.kq_run_aggregates.specs.Alone.{each_alone}
+use Rattle.kq_store_column_view.specs.Vectors.{cell_of}
+use Rattle.kq_run_groups.specs.Keys.{AreKnown, IsTable, Numbers}
+use Rattle.kq_run_groups.proofs.key_table.KeyTable.numbers_of_words.Given as goal
+
+abbrev pub invariant-loop-i : goal.invariant-loop-i
+invariant-loop-i l = record {
+  table : IsTable l.self;
+  width : l.self.width ≡ l.fn.self.width;
+  numbers : Numbers l.fn.self.keys l.self.keys l.numbers.items (take l.i (each_alone (map (cell_of l.words) l.codes)));
+  known : AreKnown l.self.keys l.words l.known.items;
+}

@@ -1,0 +1,9 @@
+pub mod Arguments
+pub mod Columns
+pub mod Found
+pub mod Grouped
+pub mod Groups
+pub mod Keys
+pub mod Merges
+pub mod kq_run_aggregates
+pub mod kq_value_arithmetic

@@ -1,0 +1,2 @@
+-- What callers of this crate name of `kq_value_arithmetic`.
+pub use Rattle.kq_run_aggregates.specs.kq_value_arithmetic.Logic

@@ -1,0 +1,7 @@
+use denote.Param.Send.{sendable}
+use Rattle.std.proofs.Crossing.{crosses}
+use Rattle.kq_run_parallel.proofs.Crossing.{lookup_sync}
+use Rattle.kq_run_parallel.proofs.joining.looked_for.Goals as goal
+
+pub halves-requires-sync-T : goal.halves-requires-sync-T
+halves-requires-sync-T g c κs within = search (lookup_sync, sendable, crosses) depth 60 fits 20000

@@ -1,0 +1,13 @@
+pub mod Outcomes
+pub mod Operators
+pub mod Reshaped
+pub mod Grouping
+pub mod Gives
+pub mod Joining
+pub mod Typed
+pub mod Ended
+pub mod Stretches
+pub mod kq_run_gather
+pub mod kq_plan_expressions
+pub mod kq_run_scan
+pub mod Sorting

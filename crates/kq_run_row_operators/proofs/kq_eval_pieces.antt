@@ -1,0 +1,3 @@
+-- What callers of this crate name of `kq_eval_pieces`.
+pub use Rattle.kq_eval_pieces.proofs.Laws
+pub use Rattle.kq_eval_pieces.proofs.Standing

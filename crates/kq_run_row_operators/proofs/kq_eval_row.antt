@@ -1,0 +1,3 @@
+-- What callers of this crate name of `kq_eval_row`.
+pub use Rattle.kq_eval_pieces.proofs.kq_eval_row.Meant
+pub use Rattle.kq_eval_pieces.proofs.kq_eval_row.Typed

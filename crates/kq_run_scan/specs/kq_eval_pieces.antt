@@ -1,0 +1,3 @@
+-- What callers of this crate name of `kq_eval_pieces`.
+pub use Rattle.kq_run_row_operators.specs.kq_eval_pieces.Operators
+pub use Rattle.kq_run_row_operators.specs.kq_eval_pieces.Pieces

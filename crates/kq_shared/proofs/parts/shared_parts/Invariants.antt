@@ -1,6 +1,0 @@
-use Rattle.std.proofs.Common.{◌≡◌, take}
-use Rattle.kq_shared.specs.Pieces.{items_in, AreCounted}
-use Rattle.kq_shared.proofs.parts.shared_parts.Given as goal
-
-abbrev pub invariant-loop-part : goal.invariant-loop-part
-invariant-loop-part g l = (items_in l.all.items ≡ items_in (take l.part-index l.parts)) × AreCounted l.all.items

@@ -1,0 +1,11 @@
+pub mod Across
+pub mod Bounded
+pub mod Columnwise
+pub mod Coming
+pub mod Filters
+pub mod Lent
+pub mod Named
+pub mod Sent
+pub mod Walked
+pub mod Wide
+pub mod kq_store_shared_lists

@@ -1,0 +1,4 @@
+pub mod Chunked
+pub mod Sent
+pub mod Typed
+pub mod WidenedLemmas

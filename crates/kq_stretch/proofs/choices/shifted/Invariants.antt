@@ -1,5 +1,0 @@
-use Rattle.std.proofs.Common.{◌≡◌, ◌+◌, map, take}
-use Rattle.kq_stretch.proofs.choices.shifted.Given as goal
-
-abbrev pub invariant-loop-place : goal.invariant-loop-place
-invariant-loop-place l = l.shifted.items ≡ map (λ p. l.from + p) (take l.place-index l.places)

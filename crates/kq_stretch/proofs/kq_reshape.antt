@@ -1,3 +1,0 @@
--- What callers of this crate name of `kq_reshape`.
-pub use Rattle.kq_reshape.proofs.Parted
-pub use Rattle.kq_reshape.proofs.Typed

@@ -1,3 +1,0 @@
--- What callers of this crate name of `kq_scalar`.
-pub use Rattle.kq_piecewise.proofs.kq_scalar.Meant
-pub use Rattle.kq_piecewise.proofs.kq_scalar.Typed

@@ -1,5 +1,0 @@
-use Rattle.kq_strings.specs.Case.{StandsBetween}
-use Rattle.kq_strings.proofs.compare.first_difference.Given as goal
-
-abbrev pub invariant-loop-place : goal.invariant-loop-place
-invariant-loop-place l = StandsBetween l.by l.text l.part l.at l.start l.place

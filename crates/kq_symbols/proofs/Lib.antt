@@ -1,5 +1,0 @@
-mod Bodies
-mod First
-mod Foreign
-mod Found
-mod Supported

@@ -1,6 +1,0 @@
--- The law is proved over the definition.
-use Rattle.kq_symbols.proofs.Foreign.{moments_found}
-use Rattle.kq_symbols.proofs.laws.calls_of_the_moment_are_found.Goals as goal
-
-pub returns : goal.returns
-returns c = moments_found

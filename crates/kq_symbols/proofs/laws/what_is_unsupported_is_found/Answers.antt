@@ -1,6 +1,0 @@
--- The law is proved over the definition.
-use Rattle.kq_symbols.proofs.Supported.{query_first}
-use Rattle.kq_symbols.proofs.laws.what_is_unsupported_is_found.Goals as goal
-
-pub returns : goal.returns
-returns c = query_first

@@ -1,6 +1,0 @@
-use Rattle.std.proofs.Common.{◌≡◌, drop}
-use Rattle.kq_tagged.specs.Index.{cursor_at}
-use Rattle.kq_tagged.proofs.entry.find_among.Given as goal
-
-abbrev pub invariant-loop-entry : goal.invariant-loop-entry
-invariant-loop-entry l = cursor_at l.entries l.table l.tag ≡ cursor_at (drop l.entry-index l.entries) l.table l.tag

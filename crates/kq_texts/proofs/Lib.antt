@@ -1,5 +1,0 @@
-pub mod Places
-pub mod Same
-pub mod SplitPieces
-pub mod Typing
-pub mod kq_conversions

@@ -1,6 +1,0 @@
-use Rattle.std.specs.Str.Iter.{chars_rest}
-use Rattle.kq_texts.proofs.Places.{IsBehind}
-use Rattle.kq_texts.proofs.place.behind.Given as goal
-
-abbrev pub invariant-loop-skipped : goal.invariant-loop-skipped
-invariant-loop-skipped l = IsBehind l.text l._skipped (chars_rest l.rest)

@@ -1,7 +1,0 @@
-use Rattle.std.proofs.Common.{◌≡◌, take}
-use Rattle.std.specs.Str.Parse.{digits_value}
-use Rattle.kq_time.specs.Parts.{capped}
-use Rattle.kq_time.proofs.digits.number.Given as goal
-
-abbrev pub invariant-loop-digit : goal.invariant-loop-digit
-invariant-loop-digit l = l.number ≡ capped (digits_value 10 (take l.digit-index l.digits))

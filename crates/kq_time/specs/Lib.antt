@@ -1,4 +1,0 @@
-pub mod Dates
-pub mod Parts
-pub mod Units
-pub mod kq_written

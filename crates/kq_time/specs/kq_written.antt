@@ -1,2 +1,0 @@
--- What callers of this crate name of `kq_written`.
-pub use Rattle.kq_written.specs.Datetimes

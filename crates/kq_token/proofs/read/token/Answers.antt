@@ -1,7 +1,0 @@
-use Rattle.std.proofs.Common.{sym, subst}
-use Rattle.kq_token.specs.Reading.{IsTokenOrNone}
-use Rattle.kq_token.proofs.TokenLemmas.{token_right}
-use Rattle.kq_token.proofs.read.token.Goals as goal
-
-pub returns : goal.returns
-returns c = subst (λ o. IsTokenOrNone o c.args.bytes.now) (sym c.scan.ensures) (token_right c.args.bytes.now)

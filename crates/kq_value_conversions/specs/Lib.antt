@@ -1,0 +1,3 @@
+pub mod Converted
+pub mod Parts
+pub mod kq_value_formats

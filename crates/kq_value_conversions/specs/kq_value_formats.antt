@@ -1,0 +1,4 @@
+-- What callers of this crate name of `kq_value_formats`.
+pub use Rattle.kq_value_formats.specs.Conversions
+pub use Rattle.kq_value_formats.specs.Members
+pub use Rattle.kq_value_formats.specs.Numerals

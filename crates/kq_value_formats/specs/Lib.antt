@@ -1,0 +1,12 @@
+pub mod Blanks
+pub mod Cells
+pub mod Civil
+pub mod Conversions
+pub mod Datetimes
+pub mod Json
+pub mod Members
+pub mod Numerals
+pub mod Strings
+pub mod Ticks
+pub mod Timespans
+pub mod kq_value

@@ -1,0 +1,5 @@
+pub mod Places
+pub mod Same
+pub mod SplitPieces
+pub mod Typing
+pub mod kq_value_conversions

@@ -1,0 +1,4 @@
+use Rattle.kq_value_time.proofs.print.+put_padded.Given as goal
+
+abbrev pub decreases-put_padded : goal.decreases-put_padded
+decreases-put_padded l = l.width

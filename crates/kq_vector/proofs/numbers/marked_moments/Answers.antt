@@ -1,8 +1,0 @@
-use Rattle.std.proofs.Common.{refl, sym}
-use Rattle.kq_value.specs.declared.ty.Ty.TheVariants as ty
-use Rattle.kq_value.specs.declared.value.Value.TheVariants as value
-use Rattle.kq_vector.proofs.Masked.{plain}
-use Rattle.kq_vector.proofs.numbers.marked_moments.Goals as goal
-
-pub returns : goal.returns
-returns c = sym (plain ty.Moment value.Moment (λ z. refl) c.args.ticks.now)

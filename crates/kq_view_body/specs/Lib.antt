@@ -1,0 +1,11 @@
+pub mod Answers
+pub mod ViewFaults
+pub mod kq_bind_query
+pub mod kq_bind_supported
+pub mod kq_run_gather
+pub mod Bodies
+pub mod Exports
+pub mod Faults
+pub mod Moments
+pub mod Parts
+pub mod Said

@@ -1,6 +1,0 @@
-pub mod CivilLemmas
-pub mod FunctionExamples
-pub mod JsonLemmas
-pub mod PrintedDatetimes
-pub mod PrintedTimespans
-pub mod WrittenExamples
