@@ -4,6 +4,7 @@ import json
 import os
 import subprocess
 
+from checksums import file_checksum
 from programs import PROVED
 
 STAMP = os.path.join(os.path.dirname(PROVED), "gate.json")
@@ -17,7 +18,10 @@ class Stamp:
     lines: list
 
 
-def write(top, stamp):
+def write(top, sources, lines):
+    """Writes the stamp of a run that passed over these sources and printed these lines."""
+    said = [line.rstrip() for line in lines if line.strip()]
+    stamp = Stamp(sources, file_checksum(os.path.join(top, PROVED)), this_kit(), said)
     with open(os.path.join(top, STAMP), "w", encoding="utf-8") as file:
         json.dump(dataclasses.asdict(stamp), file, indent=1)
 

@@ -5,29 +5,45 @@ import shutil
 import subprocess
 import tempfile
 import unittest
+from unittest import mock
 
 from load_runs import TOP
 
+import checksums
+import gate
+import programs
 import release
 
 KIT = "kit-of-a-test logic 0"
 # It prints its words, its script and the folder that it was started from, so a test sees whether it ran. It has a MiB, as a program has.
 PROGRAM = b"#!/bin/sh\necho ran \"$@\"\ncat\nexit 0\n" + b"# a program has many bytes\n" * (1 << 15)
+LINES = ["105 passed, 0 failed\n", "\n", "scripts: 1 ran, 0 differences\n"]
 COPIED = ("kq", "check", "release/make", "tools/program", ".ci/scripts", ".ci/passed", ".ci/release")
 
 
 class Checkout(unittest.TestCase):
     """Tests in a checkout of their own, with a cache of their own and a stand-in for rt."""
 
+    is_released = False
+    """Whether there is a release of its sources."""
+
+    @classmethod
+    def setUpClass(cls):
+        cls.first = cls("lay_out")
+        cls.first.room = tempfile.mkdtemp()
+        cls.addClassCleanup(shutil.rmtree, cls.first.room)
+        cls.first.lay_out()
+
     def setUp(self):
         folder = tempfile.TemporaryDirectory()
         self.addCleanup(folder.cleanup)
-        self.room = folder.name
-        self.top = os.path.join(self.room, "checkout")
-        self.cache = os.path.join(self.room, "cache")
+        self.room = os.path.join(folder.name, "room")
+        shutil.copytree(self.first.room, self.room)
+
+    def lay_out(self):
         for path in COPIED:
             self.put(path, self.bytes_of(os.path.join(TOP, path)), 0o755)
-        shutil.copytree(os.path.join(TOP, "tools", "lib"), os.path.join(self.top, "tools", "lib"), ignore=shutil.ignore_patterns("__pycache__"))
+        shutil.copytree(os.path.join(TOP, "tools", "lib"), self.path("tools/lib"), ignore=shutil.ignore_patterns("__pycache__"))
         self.put("crates.txt", b"kq_console:\n")
         self.put("HANDLES", b"Handles allowed: none.\n")
         self.put("crates/kq_console/src/main.rt", b"fn main() {}\n")
@@ -37,8 +53,18 @@ class Checkout(unittest.TestCase):
         # It says that it is a kit, and that it tried, whatever it is asked to try.
         rt = f"#!/bin/sh\n[ \"$1\" = version ] && echo {KIT} && exit\necho tried\necho 'run=ended status=0' >&2\n"
         self.put("../bin/rt", rt.encode(), 0o755)
-        self.git("init", "-q")
+        self.git("init", "-q", "--template=")
         self.commit()
+        if self.is_released:
+            self.make_release()
+
+    @property
+    def top(self):
+        return os.path.join(self.room, "checkout")
+
+    @property
+    def cache(self):
+        return os.path.join(self.room, "cache")
 
     def path(self, name):
         return os.path.join(self.top, name)
@@ -63,19 +89,26 @@ class Checkout(unittest.TestCase):
         self.git("add", "-A")
         self.git("commit", "-q", "-m", "A state")
 
-    def run_tool(self, *words, stdin="", before=(), **more):
-        """Runs a tool of the checkout, in a shell of which a test may ask something before."""
-        environment = {**os.environ, "XDG_CACHE_HOME": self.cache, "PATH": f"{self.room}/bin:{os.environ['PATH']}", "PYTHONDONTWRITEBYTECODE": "1", **more}
+    @property
+    def environment(self):
+        return {"XDG_CACHE_HOME": self.cache, "PATH": f"{self.room}/bin:{os.environ['PATH']}", "PYTHONDONTWRITEBYTECODE": "1"}
+
+    def run_tool(self, *words, stdin="", before=()):
+        """Runs a tool of the checkout, by words that a test may put before it."""
         words = [*before, self.path(words[0]), *words[1:]]
+        environment = {**os.environ, **self.environment}
         return subprocess.run(words, input=stdin, stdout=subprocess.PIPE, stderr=subprocess.PIPE, text=True, env=environment, timeout=60)
 
+    def choose(self):
+        """What ./kq, ./kq-log and ./check run."""
+        with mock.patch.dict(os.environ, self.environment):
+            return programs.choose(self.top)
+
     def pass_gate(self, program=PROGRAM):
-        """What the gate does where it passes."""
-        begun = self.run_tool(".ci/passed", "--begin")
+        """What the gate leaves where it passes."""
         self.put("crates/kq_console/out/kq_console", program, 0o755)
-        self.put("../lines", b"105 passed, 0 failed\n\nscripts: 1 ran, 0 differences\n")
-        ended = self.run_tool(".ci/passed", begun.stdout.strip(), f"{self.room}/lines")
-        self.assertEqual((begun.returncode, ended.returncode, ended.stdout), (0, 0, ""), ended.stderr)
+        with mock.patch.dict(os.environ, self.environment):
+            gate.write(self.top, checksums.sources_checksum(self.top), LINES)
 
     def make_release(self, program=PROGRAM):
         """Makes a release, and takes away what the gate left, as in a fresh clone with that release."""

@@ -1,4 +1,5 @@
 """Releases, and which program ./kq runs: each release here is made as release/make makes it, with a shell script as the program."""
+import hashlib
 import json
 import lzma
 import os
@@ -6,10 +7,12 @@ import shutil
 import subprocess
 import unittest
 
-from checkouts import COPIED, KIT, PROGRAM, Checkout
+from checkouts import COPIED, KIT, LINES, PROGRAM, Checkout
 from load_runs import TOP
 
 import checksums
+import gate
+import programs
 import release
 
 PACKED = "release/kq_console.xz"
@@ -21,58 +24,60 @@ def can_mount():
     return ran.returncode == 0
 
 
-class Choice(Checkout):
-    """Which program is run."""
+class NoRelease(Checkout):
+    """Which program is run without a release."""
 
-    def kq(self, **how):
-        return self.run_tool("kq", stdin="print 1\n", **how)
-
-    def test_without_a_release_the_sources_are_tried(self):
-        self.assertCompiled(self.kq())
-
-    def test_the_release_of_the_same_sources_is_run_without_a_word(self):
-        self.make_release()
-        self.assertRan(self.kq())
-        self.assertRan(self.kq())
+    def test_the_sources_are_tried(self):
+        self.assertCompiled(self.run_tool("kq", stdin="print 1\n"))
+        self.assertEqual(self.run_tool("tools/program").returncode, 1)
 
     def test_words_and_status_are_handed_through(self):
         self.make_release(PROGRAM.replace(b"exit 0", b"exit $#"))
         found = self.run_tool("kq", "--workers", "2", stdin="x\n")
         self.assertEqual((found.stdout, found.returncode), ("ran --workers 2\nx\n", 2))
 
+
+class Choice(Checkout):
+    """Which program is run where there is a release."""
+
+    is_released = True
+
+    def kq(self, **how):
+        return self.run_tool("kq", stdin="print 1\n", **how)
+
+    def test_the_release_of_the_same_sources_is_run_without_a_word(self):
+        self.assertRan(self.kq())
+        self.assertRan(self.kq())
+
     def test_a_release_of_other_sources_says_its_commit(self):
-        self.make_release()
         commit = self.git("rev-parse", "HEAD~1")
         self.put("crates/kq_console/src/main.rt", b"fn main() { }\n")
         found = self.kq()
         self.assertRan(found, commit[:12])
         self.assertEqual(found.stderr.count("\n"), 1)
 
-    def test_each_kind_of_source_makes_the_sources_others(self):
-        self.make_release()
+    def test_each_kind_of_source_changes_the_checksum(self):
+        found = [checksums.sources_checksum(self.top)]
         for path in ("crates.txt", "HANDLES", "crates/kq_console/specs/A.antt", "crates/kq_other/src/a/lib.rt", "crates/kq_console/proofs/A.antt"):
             self.put(path, b"other\n")
-            self.assertIn("the sources here are others", self.kq().stderr, path)
-            self.git("clean", "-fdq")
-            self.git("checkout", "-q", ".")
+            found.append(checksums.sources_checksum(self.top))
+        self.assertEqual(len(set(found)), 6)
+
+    def test_other_files_are_no_sources(self):
         self.put("crates/kq_console/wrong/a.edit", b"no source\n")
         self.put("docs/PAGE.md", b"no source\n")
         self.assertRan(self.kq())
 
     def test_the_proved_program_goes_before_the_release(self):
-        self.make_release()
         self.put("crates/kq_console/out/kq_console", b"#!/bin/sh\necho proved\n", 0o755)
         self.assertEqual(self.kq().stdout, "proved\n")
 
     def test_a_proved_program_that_is_older_than_its_sources_is_not_run(self):
-        self.make_release()
         self.put("crates/kq_console/out/kq_console", b"#!/bin/sh\necho proved\n", 0o755)
         os.utime(self.path("crates/kq_console/out/kq_console"), (1, 1))
         self.assertRan(self.kq())
 
     def test_the_path_of_the_program_is_printed_for_other_tools(self):
-        self.assertEqual(self.run_tool("tools/program").returncode, 1)
-        self.make_release()
         found = self.run_tool("tools/program")
         self.assertEqual(self.bytes_of(found.stdout.strip()), PROGRAM)
         self.assertTrue(found.stdout.startswith(self.cache))
@@ -81,20 +86,32 @@ class Choice(Checkout):
 class Spoiled(Checkout):
     """Releases that must not be run, each with a sentence that says why."""
 
-    def setUp(self):
-        super().setUp()
-        self.make_release()
+    is_released = True
 
-    def assertRefused(self, *told, **how):
-        self.assertCompiled(self.run_tool("kq", stdin="print 1\n", **how), *told)
-        parts = [name for _, _, names in os.walk(self.cache) for name in names]
-        self.assertIn(parts, ([], ["kq_console"]))
+    def assertRefused(self, told):
+        chosen = self.choose()
+        self.assertEqual((chosen.path, chosen.origin), (None, programs.Origin.NONE))
+        self.assertTrue(chosen.told.startswith("release: "))
+        self.assertNotIn("\n", chosen.told)
+        self.assertIn(told, chosen.told)
+        self.assertNothingIsLeft()
+
+    def assertCompiledInstead(self, *told, before=()):
+        """The same of ./kq, which compiles the sources instead."""
+        self.assertCompiled(self.run_tool("kq", stdin="print 1\n", before=before), *told)
+        self.assertNothingIsLeft()
+
+    def assertNothingIsLeft(self):
+        self.assertEqual([name for _, _, names in os.walk(self.cache) for name in names], [])
 
     def test_one_byte_changed(self):
         whole = self.bytes_of(self.path(PACKED))
-        for place in (0, len(whole) // 3, len(whole) // 2, len(whole) - 1):
+        self.put(PACKED, whole[:-1] + b"\0")
+        self.assertCompiledInstead("kq_console.xz is damaged")
+        for place in range(0, len(whole), 9):
             self.put(PACKED, whole[:place] + bytes([whole[place] ^ 1]) + whole[place + 1 :])
-            self.assertRefused("kq_console.xz is damaged")
+            with self.assertRaisesRegex(release.Unusable, "damaged|checksum is wrong|cut short"):
+                release.compare_packed(self.path("release"), release.read(self.path("release")))
 
     def test_another_program_in_its_place(self):
         self.put(PACKED, lzma.compress(PROGRAM[:-2] + b".\n"))
@@ -106,9 +123,12 @@ class Spoiled(Checkout):
 
     def test_cut_short(self):
         whole = self.bytes_of(self.path(PACKED))
-        for length in (0, 1, len(whole) // 2, len(whole) - 1):
+        self.put(PACKED, whole[: len(whole) // 2])
+        self.assertCompiledInstead("cut short")
+        for length in range(0, len(whole), 9):
             self.put(PACKED, whole[:length])
-            self.assertRefused("cut short")
+            with self.assertRaisesRegex(release.Unusable, "cut short"):
+                release.compare_packed(self.path("release"), release.read(self.path("release")))
 
     def test_no_program(self):
         os.remove(self.path(PACKED))
@@ -121,7 +141,7 @@ class Spoiled(Checkout):
     def test_any_byte_of_the_manifest_changed(self):
         whole = self.bytes_of(self.path(MANIFEST))
         wanted = release.read(self.path("release"))
-        for place in range(len(whole)):
+        for place in range(0, len(whole), 5):
             self.put(MANIFEST, whole[:place] + bytes([whole[place] ^ 1]) + whole[place + 1 :])
             try:
                 self.assertEqual(release.read(self.path("release")), wanted, place)
@@ -129,14 +149,17 @@ class Spoiled(Checkout):
                 self.assertIn("manifest.json is damaged", str(why))
 
     def test_a_damaged_manifest(self):
-        for text in (b"", b"[]", b"{}", b"\xff", b'{"checksum": 1}'):
+        for text in (b"[]", b"{}", b"\xff", b'{"checksum": 1}'):
             self.put(MANIFEST, text)
-            self.assertRefused("manifest.json is damaged")
+            with self.assertRaisesRegex(release.Unusable, "manifest.json is damaged"):
+                release.read(self.path("release"))
+        self.put(MANIFEST, b"")
+        self.assertRefused("manifest.json is damaged")
 
     def test_another_machine(self):
         here = os.uname()
         self.change_manifest(system=f"{here.sysname} another")
-        self.assertRefused(f"is for {here.sysname} another, and this is {here.sysname} {here.machine}")
+        self.assertCompiledInstead(f"is for {here.sysname} another, and this is {here.sysname} {here.machine}")
 
     def test_a_program_that_the_system_does_not_know(self):
         self.make_release(b"\x7fELF of another kind")
@@ -148,7 +171,7 @@ class Spoiled(Checkout):
 
     def test_no_room_by_a_limit(self):
         # In blocks of 512 bytes: more than the files of other tools, less than the program.
-        self.assertRefused("can't be unpacked", "File too large", before=["sh", "-c", 'ulimit -f 512; exec "$@"', "sh"])
+        self.assertCompiledInstead("can't be unpacked", "File too large", before=["sh", "-c", 'ulimit -f 512; exec "$@"', "sh"])
 
     def mounted(self, options):
         os.makedirs(self.cache)
@@ -156,11 +179,11 @@ class Spoiled(Checkout):
 
     @unittest.skipUnless(can_mount(), "no file system may be mounted here")
     def test_a_disk_without_room(self):
-        self.assertRefused("can't be unpacked", "No space left on device", before=self.mounted("size=256k"))
+        self.assertCompiledInstead("can't be unpacked", "No space left on device", before=self.mounted("size=256k"))
 
     @unittest.skipUnless(can_mount(), "no file system may be mounted here")
     def test_a_disk_from_which_nothing_may_be_run(self):
-        self.assertRefused("no program may be run from", before=self.mounted("noexec"))
+        self.assertCompiledInstead("no program may be run from", before=self.mounted("noexec"))
 
     def test_a_folder_that_others_may_write_to(self):
         os.makedirs(os.path.join(self.cache, "kq"))
@@ -181,13 +204,14 @@ class Spoiled(Checkout):
 class Unpacked(Checkout):
     """What stands in the cache."""
 
+    is_released = True
+
     def setUp(self):
         super().setUp()
-        self.make_release()
-        self.place = self.run_tool("tools/program").stdout.strip()
+        self.place = self.choose().path
 
-    def kq(self):
-        return self.run_tool("kq", stdin="print 1\n")
+    def assertWhole(self):
+        self.assertEqual((self.choose().path, self.bytes_of(self.place)), (self.place, PROGRAM))
 
     def test_it_is_private(self):
         for path in (self.place, os.path.dirname(self.place), os.path.dirname(os.path.dirname(self.place))):
@@ -195,36 +219,36 @@ class Unpacked(Checkout):
 
     def test_it_is_unpacked_once(self):
         before = os.stat(self.place)
-        self.assertRan(self.kq())
+        self.assertWhole()
         self.assertEqual(os.stat(self.place).st_ino, before.st_ino)
 
     def test_a_copy_that_was_changed_is_not_run(self):
-        for spoiled in (PROGRAM.replace(b"echo ran", b"echo bad"), PROGRAM[:-1], b""):
+        for spoiled in (PROGRAM.replace(b"echo ran", b"echo bad"), PROGRAM[:-1]):
             with open(self.place, "wb") as file:
                 file.write(spoiled)
-            self.assertRan(self.kq())
+            self.assertWhole()
 
     def test_a_copy_that_lost_its_permission_is_made_anew(self):
         os.chmod(self.place, 0o600)
-        self.assertRan(self.kq())
+        self.assertWhole()
 
     def test_a_changed_copy_beside_a_damaged_release_is_not_run(self):
         with open(self.place, "ab") as file:
             file.write(b"echo bad\n")
         self.put(PACKED, b"")
-        self.assertCompiled(self.kq(), "cut short")
+        self.assertCompiled(self.run_tool("kq"), "cut short")
 
     def test_many_starts_at_once(self):
         shutil.rmtree(self.cache)
-        environment = {**os.environ, "XDG_CACHE_HOME": self.cache}
-        started = [subprocess.Popen([self.path("tools/program")], stdout=subprocess.PIPE, env=environment) for _ in range(6)]
+        environment = {**os.environ, **self.environment}
+        started = [subprocess.Popen([self.path("tools/program")], stdout=subprocess.PIPE, env=environment) for _ in range(4)]
         self.assertEqual({process.communicate()[0].decode().strip() for process in started}, {self.place})
         self.assertEqual(os.listdir(os.path.dirname(self.place)), ["kq_console"])
 
     def test_another_release_stands_beside_it(self):
         other = PROGRAM + b"#\n"
         self.make_release(other)
-        self.assertRan(self.kq())
+        self.assertEqual(self.bytes_of(self.choose().path), other)
         self.assertEqual(self.bytes_of(self.place), PROGRAM)
 
 
@@ -247,9 +271,8 @@ class Make(Checkout):
         self.assertEqual(sorted(os.listdir(self.path("release"))), ["kq_console.xz", "make", "manifest.json"])
         self.assertEqual(lzma.decompress(self.bytes_of(self.path(PACKED))), PROGRAM)
         said = json.loads(self.bytes_of(self.path(MANIFEST)))
-        summed = subprocess.run(["sha256sum"], input=PROGRAM, stdout=subprocess.PIPE).stdout.decode()
         here = os.uname()
-        self.assertEqual((said["commit"], said["program"], said["size"]), (commit, summed.split()[0], len(PROGRAM)))
+        self.assertEqual((said["commit"], said["program"], said["size"]), (commit, hashlib.sha256(PROGRAM).hexdigest(), len(PROGRAM)))
         self.assertEqual((said["kit"], said["system"]), (KIT, f"{here.sysname} {here.machine}"))
         self.assertEqual(said["gate"], ["105 passed, 0 failed", "scripts: 1 ran, 0 differences"])
 
@@ -264,7 +287,7 @@ class Make(Checkout):
 
     def test_it_refuses_while_the_gate_runs_anew(self):
         self.pass_gate()
-        self.run_tool(".ci/passed", "--begin")
+        gate.remove(self.top)
         self.assertRefuses("the gate hasn't passed here")
 
     def test_it_refuses_other_sources(self):
@@ -298,6 +321,8 @@ class Make(Checkout):
 class Gate(Checkout):
     """What .ci/run asks."""
 
+    is_released = True
+
     def compared(self):
         found = self.run_tool(".ci/release", self.path("crates/kq_console/out/kq_console"))
         self.assertEqual(found.stderr, "")
@@ -311,35 +336,43 @@ class Gate(Checkout):
 
     def test_no_release(self):
         self.pass_gate()
+        os.remove(self.path(PACKED))
+        os.remove(self.path(MANIFEST))
         self.assertEqual(self.compared(), (0, "release: there is none\n"))
 
     def test_the_same_bytes(self):
-        self.make_release()
         self.pass_gate()
         self.assertCompared(0, "has the same bytes")
 
     def test_other_bytes_of_the_same_sources(self):
-        self.make_release()
         self.pass_gate(PROGRAM + b"#")
         self.assertCompared(1, "check failed: ", "has other bytes")
 
     def test_other_bytes_of_other_sources(self):
-        self.make_release()
         self.put("HANDLES", b"Handles allowed: Wait.\n")
         self.pass_gate(PROGRAM + b"#")
         self.assertCompared(0, "whose sources are others")
 
     def test_other_bytes_of_another_kit(self):
-        self.make_release()
         self.change_manifest(kit="another")
         self.pass_gate(PROGRAM + b"#")
         self.assertCompared(0, "not compared")
 
     def test_a_damaged_release(self):
-        self.make_release()
         self.pass_gate()
         self.put(PACKED, self.bytes_of(self.path(PACKED))[:-1])
         self.assertCompared(1, "check failed: ", "cut short")
+
+    def test_a_run_that_passed_is_stamped(self):
+        self.pass_gate()
+        begun = self.run_tool(".ci/passed", "--begin").stdout.strip()
+        self.assertIsNone(gate.read(self.top))
+        self.put("../lines", "".join(LINES).encode())
+        ended = self.run_tool(".ci/passed", begun, f"{self.room}/lines")
+        self.assertEqual((ended.returncode, ended.stdout, ended.stderr), (0, "", ""))
+        stamp = gate.read(self.top)
+        self.assertEqual((stamp.sources, stamp.kit, stamp.lines), (begun, KIT, ["105 passed, 0 failed", "scripts: 1 ran, 0 differences"]))
+        self.assertEqual(stamp.program, hashlib.sha256(PROGRAM).hexdigest())
 
     def test_sources_that_changed_while_it_ran(self):
         begun = self.run_tool(".ci/passed", "--begin").stdout.strip()
@@ -348,7 +381,7 @@ class Gate(Checkout):
         found = self.run_tool(".ci/passed", begun, os.devnull)
         self.assertEqual(found.returncode, 1)
         self.assertIn("have changed while the gate ran", found.stdout)
-        self.assertFalse(os.path.exists(self.path("crates/kq_console/out/gate.json")))
+        self.assertIsNone(gate.read(self.top))
 
 
 class Sources(unittest.TestCase):
