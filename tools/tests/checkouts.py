@@ -18,7 +18,7 @@ KIT = "kit-of-a-test logic 0"
 # It prints its words, its script and the folder that it was started from, so a test sees whether it ran. It has a MiB, as a program has.
 PROGRAM = b"#!/bin/sh\necho ran \"$@\"\ncat\nexit 0\n" + b"# a program has many bytes\n" * (1 << 15)
 LINES = ["105 passed, 0 failed\n", "\n", "scripts: 1 ran, 0 differences\n"]
-COPIED = ("kq", "check", "release/make", "tools/program", ".ci/scripts", ".ci/passed", ".ci/release")
+COPIED = ("kq", "kq-log", "check", "release/make", "tools/program", ".ci/run", ".ci/scripts", ".ci/passed", ".ci/release")
 
 
 class Checkout(unittest.TestCase):

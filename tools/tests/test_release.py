@@ -83,6 +83,19 @@ class Choice(Checkout):
         self.assertTrue(found.stdout.startswith(self.cache))
 
 
+    def test_kq_log_runs_it_too(self):
+        echo = os.path.join(TOP, "tools", "tests", "echo_program.py")
+        self.make_release(f"#!/bin/sh\nexec python3 {echo}\n".encode())
+        self.put("a.csv", b"n,s\n1,x\n")
+        found = self.run_tool("kq-log", self.path("a.csv"), "--no-echo", stdin="print 1\n")
+        self.assertEqual(found.returncode, 0, found.stderr)
+        self.assertIn("print 1", found.stdout)
+        self.assertNotIn("release: ", found.stderr)
+        self.put("crates.txt", b"# other\n")
+        found = self.run_tool("kq-log", self.path("a.csv"), stdin="print 1\n")
+        self.assertEqual((found.returncode, found.stderr.count("release: this is the proved program of commit ")), (0, 1))
+
+
 class Spoiled(Checkout):
     """Releases that must not be run, each with a sentence that says why."""
 
@@ -382,6 +395,77 @@ class Gate(Checkout):
         self.assertEqual(found.returncode, 1)
         self.assertIn("have changed while the gate ran", found.stdout)
         self.assertIsNone(gate.read(self.top))
+
+
+# The checks of the gate that these tests don't look into.
+CHECKS = [f".ci/{name}" for name in ("crates", "libraries", "edits", "memory", "theorem", "tools", "budget", "scripts", "pipe", "console")] + ["tools/processors"]
+
+
+class Run(Checkout):
+    """The gate, with stand-ins for rt and for the checks."""
+
+    def lay_out(self):
+        super().lay_out()
+        for path in CHECKS:
+            self.put(path, f"#!/bin/sh\necho of {path}\n".encode(), 0o755)
+        self.put(".ci/sample", b"#!/bin/sh\nexec sleep 60\n", 0o755)
+        self.put("../program", PROGRAM, 0o755)
+        self.commit()
+
+    out = "crates/kq_console/out"
+
+    def setUp(self):
+        super().setUp()
+        self.rt("true", 0)
+
+    def rt(self, more, status):
+        """A stand-in that builds the program, does something more, and ends with a status."""
+        self.put("../bin/rt", f"""#!/bin/sh
+[ "$1" = version ] && echo {KIT} && exit
+mkdir -p {self.out}
+for name in kq_console kq_console.by-rattle; do cp '{self.room}/program' {self.out}/$name; done
+{more}
+echo first
+echo 'rt: ok; handles allowed: none'
+echo '105 passed, 0 failed'
+exit {status}
+""".encode(), 0o755)
+
+    def test_where_all_passes_a_release_can_be_made(self):
+        ran = self.run_tool(".ci/run")
+        self.assertEqual((ran.returncode, ran.stderr), (0, ""), ran.stdout)
+        told = ran.stdout.splitlines()
+        for line in ("first", "105 passed, 0 failed", *(f"of {path}" for path in CHECKS), "release: there is none"):
+            self.assertIn(line, told)
+        lines = gate.read(self.top).lines
+        self.assertEqual(lines[:4], ["rt: ok; handles allowed: none", "105 passed, 0 failed", "of .ci/scripts", "of .ci/scripts"])
+        self.assertEqual(lines[-1], "of .ci/tools")
+        self.assertEqual(self.run_tool("release/make").returncode, 0)
+        self.assertIn("has the same bytes", self.run_tool(".ci/run").stdout)
+
+    def test_where_a_check_fails_there_is_no_stamp(self):
+        self.assertEqual(self.run_tool(".ci/run").returncode, 0)
+        for path in (".ci/crates", ".ci/scripts", ".ci/tools", "tools/processors"):
+            whole = self.bytes_of(self.path(path))
+            self.put(path, whole + b"exit 1\n", 0o755)
+            self.assertEqual((self.run_tool(".ci/run").returncode, gate.read(self.top)), (1, None), path)
+            self.put(path, whole, 0o755)
+
+    def test_where_the_proofs_fail_there_is_no_stamp(self):
+        self.rt("true", 1)
+        self.assertEqual((self.run_tool(".ci/run").returncode, gate.read(self.top)), (1, None))
+
+    def test_where_the_sources_change_meanwhile_there_is_no_stamp(self):
+        self.rt("echo >>crates.txt", 0)
+        ran = self.run_tool(".ci/run")
+        self.assertEqual((ran.returncode, gate.read(self.top)), (1, None))
+        self.assertIn("have changed while the gate ran", ran.stdout)
+
+    def test_where_the_release_has_other_bytes_it_fails(self):
+        self.make_release(PROGRAM + b"#")
+        ran = self.run_tool(".ci/run")
+        self.assertEqual((ran.returncode, gate.read(self.top)), (1, None))
+        self.assertIn("its program has other bytes", ran.stdout)
 
 
 class Sources(unittest.TestCase):
