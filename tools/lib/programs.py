@@ -49,5 +49,5 @@ def choose(top):
         return Choice(Origin.NONE, told=f"release: {why}")
     if manifest.sources == sources_checksum(top):
         return Choice(Origin.RELEASE, program, commit=manifest.commit)
-    told = f"release: this is the proved program of commit {manifest.commit[:12]}; the sources here are others"
+    told = f"release: this is the proved program of commit {manifest.commit[:12]}; the sources here are others (./kq --unproved runs these)"
     return Choice(Origin.OTHER_RELEASE, program, told, manifest.commit)

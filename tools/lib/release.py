@@ -154,7 +154,7 @@ def copy_unpacked(file, plain, packed, manifest):
 
 
 def try_to_start(part):
-    """Finds whether the system runs it at all: the disk may forbid it, and the C library or the processor be another. An empty script has status 0."""
+    """Finds whether the system runs it: the disk may forbid it, and the C library or the processor be another. An empty script has status 0."""
     if not os.access(part, os.X_OK):
         raise Unusable(f"no program may be run from {os.path.dirname(part)}, where the release is unpacked; {ELSEWHERE}")
     quiet = {"stdin": subprocess.DEVNULL, "stdout": subprocess.DEVNULL, "stderr": subprocess.DEVNULL}

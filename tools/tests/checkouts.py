@@ -3,6 +3,7 @@ import json
 import os
 import shutil
 import subprocess
+import sys
 import tempfile
 import unittest
 from unittest import mock
@@ -33,12 +34,14 @@ class Checkout(unittest.TestCase):
         cls.first.room = tempfile.mkdtemp()
         cls.addClassCleanup(shutil.rmtree, cls.first.room)
         cls.first.lay_out()
+        # Each test copies it, so it has few files.
+        cls.first.git("gc", "-q")
 
     def setUp(self):
         folder = tempfile.TemporaryDirectory()
         self.addCleanup(folder.cleanup)
         self.room = os.path.join(folder.name, "room")
-        shutil.copytree(self.first.room, self.room)
+        shutil.copytree(self.first.room, self.room, symlinks=True)
 
     def lay_out(self):
         for path in COPIED:
@@ -53,6 +56,8 @@ class Checkout(unittest.TestCase):
         # It says that it is a kit, and that it tried, whatever it is asked to try.
         rt = f"#!/bin/sh\n[ \"$1\" = version ] && echo {KIT} && exit\necho tried\necho 'run=ended status=0' >&2\n"
         self.put("../bin/rt", rt.encode(), 0o755)
+        # The tools' python3 is the one of the tests, and not a script that looks for one.
+        os.symlink(os.path.realpath(sys.executable), self.path("../bin/python3"))
         self.git("init", "-q", "--template=")
         self.commit()
         if self.is_released:

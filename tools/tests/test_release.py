@@ -68,6 +68,11 @@ class Choice(Checkout):
         self.put("docs/PAGE.md", b"no source\n")
         self.assertRan(self.kq())
 
+    def test_unproved_it_is_the_sources(self):
+        found = self.run_tool("kq", "--unproved", "--workers", "1")
+        self.assertCompiled(found)
+        self.assertNotIn("not built", found.stderr)
+
     def test_the_proved_program_goes_before_the_release(self):
         self.put("crates/kq_console/out/kq_console", b"#!/bin/sh\necho proved\n", 0o755)
         self.assertEqual(self.kq().stdout, "proved\n")
@@ -398,7 +403,8 @@ class Gate(Checkout):
 
 
 # The checks of the gate that these tests don't look into.
-CHECKS = [f".ci/{name}" for name in ("crates", "libraries", "edits", "memory", "theorem", "tools", "budget", "scripts", "pipe", "console")] + ["tools/processors"]
+PAGES = ("crates", "libraries", "edits", "memory", "theorem")
+CHECKS = [f".ci/{name}" for name in (*PAGES, "tools", "budget", "scripts", "pipe", "console")] + ["tools/processors"]
 
 
 class Run(Checkout):
