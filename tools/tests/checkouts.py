@@ -16,6 +16,8 @@ import programs
 import release
 
 KIT = "kit-of-a-test logic 0"
+PACKED = "release/kq_console.xz"
+MANIFEST = "release/manifest.json"
 # It prints its words, its script and the folder that it was started from, so a test sees whether it ran. It has a MiB, as a program has.
 PROGRAM = b"#!/bin/sh\necho ran \"$@\"\ncat\nexit 0\n" + b"# a program has many bytes\n" * (1 << 15)
 LINES = ["105 passed, 0 failed\n", "\n", "scripts: 1 ran, 0 differences\n"]
