@@ -1,5 +1,4 @@
 """The program as one process, whose standard input is kept open: a block is sent, and its reply is read."""
-import os
 import queue
 import secrets
 import subprocess
@@ -100,19 +99,3 @@ class Program:
         self.reader.join()
         self.process.stdout.close()
         return status
-
-
-def proved_program(top):
-    """The proved program where it stands and is no older than its sources, as ./kq asks too; else none."""
-    program = os.path.join(top, "crates", "kq_console", "out", "kq_console")
-    if not os.access(program, os.X_OK):
-        return None
-    built = os.stat(program).st_mtime_ns
-    if os.stat(os.path.join(top, "crates.txt")).st_mtime_ns > built:
-        return None
-    for crate in os.scandir(os.path.join(top, "crates")):
-        for part in ("src", "specs", "proofs"):
-            for folder, _, files in os.walk(os.path.join(crate.path, part)):
-                if any(os.lstat(os.path.join(folder, name)).st_mtime_ns > built for name in files):
-                    return None
-    return program

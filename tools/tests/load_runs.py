@@ -17,10 +17,11 @@ if LIB not in sys.path:
 import load_options  # noqa: E402
 import loading  # noqa: E402
 import problems  # noqa: E402
+import programs  # noqa: E402
 import progress  # noqa: E402
 import sessions  # noqa: E402
 
-PROGRAM = os.environ.get("KQ_PROGRAM") or sessions.proved_program(TOP)
+PROGRAM = os.environ.get("KQ_PROGRAM") or programs.proved_program(TOP)
 HEAD = re.compile(r"\.ingest inline into table (.+?) with \(tags='\[(.*)\]', ingestIfNotExists='\[(.*)\]'\) <\|\n(.*)", re.S)
 
 
