@@ -65,6 +65,12 @@ def make(answer, kind, x=None, y=(), by=None, title=None):
     return Chart(kind, x, types[x], ", ".join(y), types[y[0]], series, notes, title)
 
 
+def kind_of(answer):
+    """The chart that fits an answer, by the types of its columns."""
+    types = [kind for _, kind in answer.columns]
+    return "time" if "datetime" in types else "bar" if "string" in types else "line"
+
+
 def chosen_x(answer, kind, y, by):
     wanted = {"time": ("datetime",), "line": (*NUMBERS, "datetime"), "bar": ("string", "datetime", "bool", *NUMBERS)}[kind]
     free = [(name, type) for name, type in answer.columns if name != by and name not in y]
