@@ -50,7 +50,7 @@ def soon(holds, seconds=20):
 
 
 class Terminal:
-    """./kq-log at a terminal, in a folder with a.csv, which has three rows. Its temporary files go into another folder, which is to be empty at its end."""
+    """./kq-log at a terminal, in a folder with a.csv, which has three rows. Its temporary files go into a folder of their own."""
 
     def __init__(self, test, *words, program=FEEDS, files=(), places=None):
         folder = tempfile.TemporaryDirectory()
@@ -61,7 +61,8 @@ class Terminal:
         for name, text in (("a.csv", "n,s\n1,x\n2,y\n3,z\n"), *files):
             with open(os.path.join(self.path, name), "w") as file:
                 file.write(text)
-        self.seen = b""
+        # What came and wasn't looked at yet, and all that was looked at.
+        self.seen = self.shown = b""
         self.terminal, side = pty.openpty()
         if places:
             fcntl.ioctl(self.terminal, termios.TIOCSWINSZ, struct.pack("HHHH", 40, places, 0, 0))
@@ -90,6 +91,7 @@ class Terminal:
                 raise AssertionError(f"{wanted!r} doesn't come behind {self.seen!r}")
             self.seen += os.read(self.terminal, 65536)
         found, self.seen = self.seen.split(wanted, 1)
+        self.shown += found + wanted
         return found + wanted
 
     def type(self, text):
