@@ -144,7 +144,9 @@ def series_of(answer, kind, x, ys, by, notes):
 
 
 def with_gaps(series):
-    """The points in the order of x, with empty ones at the steps that a series lacks, where the x of all have even steps and most of these are there."""
+    """The points in the order of x, with empty ones at the steps that a series lacks.
+
+    That is where the x of all series have even steps, and most of these are there."""
     places = sorted({x for _, points in series for x, _ in points})
     steps = [after - before for before, after in zip(places, places[1:])]
     least = min(steps, default=0)

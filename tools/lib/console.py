@@ -133,8 +133,9 @@ class Console:
         self.say("still running; Ctrl-C leaves it running and takes the next question")
 
     def left(self):
-        running = len(self.session.program.running())
-        self.say(f"left running, and its answer is dropped; {running} of {counted(len(self.session.program.sessions), 'session')} taken{self.holds()}")
+        program = self.session.program
+        taken = f"{len(program.running())} of {counted(len(program.sessions), 'session')} taken"
+        self.say(f"left running, and its answer is dropped; {taken}{self.holds()}")
 
     def holds(self):
         """What the program holds of its memory, as the end of a sentence."""

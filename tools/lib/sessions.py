@@ -189,8 +189,10 @@ class Session:
 
 
 def bound_to(parent):
-    """What a child does before it becomes the program: it asks the system to be killed when its parent ends, however that ends."""
-    if not sys.platform.startswith("linux"):
+    """What a child does before it becomes the program: it asks the system to be killed when its parent ends, however that ends.
+
+    The system goes by the thread that started the child, so another thread than the main one binds nothing."""
+    if not sys.platform.startswith("linux") or threading.current_thread() is not threading.main_thread():
         return None
     # PyDLL doesn't let another thread in, which the child doesn't have.
     prctl = ctypes.PyDLL(None).prctl

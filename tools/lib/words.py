@@ -23,7 +23,15 @@ class Word(Enum):
 
 
 # Other programs call them so.
-ALSO = {"exit": Word.QUIT, "\\q": Word.QUIT, "\\quit": Word.QUIT, "?": Word.HELP, "\\?": Word.HELP, "\\h": Word.HELP, "\\help": Word.HELP, "\\d": Word.TABLES}
+ALSO = {
+    **dict.fromkeys(("exit", "\\q", "\\quit"), Word.QUIT),
+    **dict.fromkeys(("?", "\\?", "\\h", "\\help"), Word.HELP),
+    "\\d": Word.TABLES,
+}
+
+
+# Where help says what a word does.
+SIDE = 22
 
 
 class Typed(NamedTuple):
@@ -71,9 +79,11 @@ def typed(word, parts):
 
 def help_text():
     """What can be typed, a line each."""
-    lines = [f"  {word.text} {word.takes}".rstrip() for word in Word]
-    side = min(max(map(len, lines)), 20)
-    told = "\n".join(line.ljust(side) + "  " + word.does if len(line) <= side else f"{line}\n{'':{side}}  {word.does}" for line, word in zip(lines, Word))
+    lines = []
+    for word in Word:
+        head = f"  {word.text} {word.takes}".rstrip()
+        lines += [head.ljust(SIDE) + word.does] if len(head) < SIDE else [head, " " * SIDE + word.does]
+    told = "\n".join(lines)
     return f"""\
 A question is a block of lines, and a blank line ends it. Ctrl-C drops an open question; while one is answered it leaves it:
 the question runs on, its late answer is dropped, and the next one is asked beside it. Arrow keys bring questions back.

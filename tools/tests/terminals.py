@@ -39,7 +39,7 @@ def is_there(process):
         return False
 
 
-def soon(holds, seconds=20):
+def soon(holds, seconds=60):
     """Whether something holds within some seconds."""
     until = time.monotonic() + seconds
     while time.monotonic() < until:

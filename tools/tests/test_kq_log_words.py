@@ -63,7 +63,7 @@ class AtATerminal(unittest.TestCase):
         self.assertIn(b"Log (n:long, s:string)  3 rows", terminal.word("\\tables"))
         self.assertIn(b"\\chart", terminal.word("help"))
         terminal.type("quit\n")
-        self.assertEqual(terminal.process.wait(20), 0)
+        self.assertEqual(terminal.process.wait(60), 0)
 
     def test_a_question_comes_back_as_a_whole(self):
         terminal = self.start()
@@ -73,7 +73,7 @@ class AtATerminal(unittest.TestCase):
         terminal.type("\n\n")
         self.assertIn(b"print 1,\\n2", terminal.until(b"(1 row)"))
         terminal.type(CONTROL_D)
-        self.assertEqual(terminal.process.wait(20), 0)
+        self.assertEqual(terminal.process.wait(60), 0)
         kept = self.file(terminal, "kq-log/questions.kql")
         self.assertEqual(kept, "print 1,\n2\n\nprint 3\n\nprint 1,\n2\n\n")
 
@@ -109,6 +109,12 @@ class Options(unittest.TestCase):
         self.assertIn("refused Syntax", found.stdout)
         self.assertIn("\n    5\n", found.stdout)
         self.assertEqual(found.returncode, 1)
+
+    def test_the_columns_are_printed_and_nothing_is_loaded(self):
+        with Folder() as folder:
+            folder.put("a.csv", "n,s\n1,x\n")
+            found = self.run_log(folder.path, "a.csv", "--print-schema")
+        self.assertEqual((found.returncode, found.stdout), (0, ".create table Log (\n    n:long,\n    s:string\n)\n"), found.stderr)
 
     def test_a_size_that_is_none_is_refused(self):
         with Folder() as folder:
