@@ -39,7 +39,13 @@ def is_there(process):
         return False
 
 
-def soon(holds, seconds=60):
+def used(process):
+    """The seconds of processors that a process has used."""
+    with open(f"/proc/{process}/stat") as file:
+        return sum(map(int, file.read().rpartition(")")[2].split()[11:13])) / os.sysconf("SC_CLK_TCK")
+
+
+def soon(holds, seconds=120):
     """Whether something holds within some seconds."""
     until = time.monotonic() + seconds
     while time.monotonic() < until:
@@ -83,7 +89,7 @@ class Terminal:
         test.addCleanup(self.close)
         os.close(side)
 
-    def until(self, wanted, seconds=60):
+    def until(self, wanted, seconds=120):
         """What comes up to a text, and the text. What was read behind it is kept for the next call."""
         end = time.monotonic() + seconds
         while wanted not in self.seen:
