@@ -1,11 +1,15 @@
 """Charts in the terminal and as pictures."""
 
+import re
+import shlex
+import subprocess
 import sys
 import tempfile
 import unittest
 from pathlib import Path
 
-sys.path.insert(0, str(Path(__file__).resolve().parents[1] / "lib"))
+TOP = Path(__file__).resolve().parents[2]
+sys.path.insert(0, str(TOP / "tools" / "lib"))
 
 import charts  # noqa: E402
 import replies  # noqa: E402
@@ -161,6 +165,24 @@ class Pictures(unittest.TestCase):
             self.assertIn(b"2024-03-01 10:00:00", (Path(folder) / "c.svg").read_bytes())
             charts.save(made(HOSTS, "bar"), Path(folder) / "a.png")
             self.assertTrue((Path(folder) / "a.png").read_bytes().startswith(b"\x89PNG"))
+
+    def test_the_commands_of_the_page_draw_its_pictures(self):
+        try:
+            from matplotlib import __version__ as version
+        except ImportError:
+            self.skipTest("matplotlib isn't installed")
+        commands = re.findall(r"(?m)^    (tools/look (?:.*\\\n)?.* docs/pictures/(\S+) < (\S+))$", (TOP / "docs" / "TOOLS.md").read_text(encoding="utf-8"))
+        pictures = {path.name: path.read_bytes() for path in (TOP / "docs" / "pictures").iterdir()}
+        self.assertEqual(sorted(name for _, name, _ in commands), sorted(pictures))
+        if f"Matplotlib v{version}, ".encode() not in b"".join(pictures.values()):
+            self.skipTest("the pictures were drawn by another matplotlib")
+        with tempfile.TemporaryDirectory() as folder:
+            for command, name, answers in commands:
+                words = shlex.split(command.partition(" < ")[0].replace("\\\n", " "))
+                words[words.index(f"docs/pictures/{name}")] = f"{folder}/{name}"
+                with open(TOP / answers, "rb") as given:
+                    subprocess.run([sys.executable, *words], stdin=given, cwd=TOP, check=True)
+                self.assertEqual((Path(folder) / name).read_bytes(), pictures[name], name)
 
 
 if __name__ == "__main__":
