@@ -9,8 +9,8 @@ import math
 import warnings
 from typing import Any, List, NamedTuple, Optional, Tuple
 
-from replies import moment, seconds
-from widths import padded, visible, width
+from replies import escape, moment, seconds
+from widths import cut_apart, padded, visible, width
 
 KINDS = ("time", "bar", "line")
 NUMBERS = ("long", "int", "timespan")
@@ -29,8 +29,10 @@ class ChartError(Exception):
 
 
 class Series(NamedTuple):
+    """A name and its points. The y of an empty point is none: no line is drawn over it."""
+
     name: str
-    points: List[Tuple[Any, float]]
+    points: List[Tuple[Any, Optional[float]]]
 
 
 class Chart(NamedTuple):
@@ -62,7 +64,18 @@ def make(answer, kind, x=None, y=(), by=None, title=None):
         raise ChartError(f"with --by there is one --y, and here are {len(y)}: {', '.join(y)}")
     notes = []
     series = series_of(answer, kind, names.index(x), [names.index(name) for name in y], by and names.index(by), notes)
-    return Chart(kind, x, types[x], ", ".join(y), types[y[0]], series, notes, title)
+    return Chart(kind, shown(x), types[x], ", ".join(map(shown, y)), types[y[0]], series, notes, title)
+
+
+def shown(name):
+    """The name of a column as a terminal may get it."""
+    return visible(escape(name))
+
+
+def kind_of(answer):
+    """The chart that fits an answer, by the types of its columns."""
+    types = [kind for _, kind in answer.columns]
+    return "time" if "datetime" in types else "bar" if "string" in types else "line"
 
 
 def chosen_x(answer, kind, y, by):
@@ -104,29 +117,58 @@ def label(cell, kind):
 
 
 def series_of(answer, kind, x, ys, by, notes):
-    """The points of each series. Rows without an x or a y have none, which the notes say."""
+    """The points of each series. Rows without an x have none, and those without a y an empty one, which the notes say."""
     types = [type for _, type in answer.columns]
     found, missing = {}, 0
     for row in answer.rows():
         if row[x] == "null" and types[x] != "string":
-            missing += 1
+            missing += len(ys)
             continue
         place = label(row[x], types[x]) if kind == "bar" else number(row[x], types[x])
         for y in ys:
-            name = answer.columns[y].name if by is None else label(row[by], types[by])
-            points = found.setdefault(name, [])
-            if row[y] == "null":
-                missing += 1
-            else:
-                points.append((place, number(row[y], types[y])))
+            name = shown(answer.columns[y].name) if by is None else label(row[by], types[by])
+            is_null = row[y] == "null"
+            missing += is_null
+            found.setdefault(name, []).append((place, None if is_null else number(row[y], types[y])))
     if missing:
-        notes.append(f"{missing} points are null and aren't drawn")
-    series = [Series(name, points if kind == "bar" else sorted(points)) for name, points in found.items() if points]
+        notes.append("1 point is null and isn't drawn" if missing == 1 else f"{missing} points are null and aren't drawn")
+    series = [Series(name, points) for name, points in found.items() if any(y is not None for _, y in points)]
     if not series:
         raise ChartError("the answer has no rows to draw")
     if kind == "bar":
+        series = [Series(name, [point for point in points if point[1] is not None]) for name, points in series]
         check_bars(series)
+    else:
+        series = with_gaps(series)
     return largest(series, notes)
+
+
+def with_gaps(series):
+    """The points in the order of x, with empty ones at the steps that a series lacks.
+
+    That is where the x of all series have even steps, and most of these are there."""
+    places = sorted({x for _, points in series for x, _ in points})
+    steps = [after - before for before, after in zip(places, places[1:])]
+    least = min(steps, default=0)
+    is_even = least > 0 and all(abs(step / least - round(step / least)) < 1e-6 for step in steps)
+    is_even = is_even and 2 * len(places) > (places[-1] - places[0]) / least + 1
+    found = []
+    for name, points in series:
+        points = sorted(points, key=lambda point: (point[0], point[1] is not None, point[1]))
+        if is_even:
+            gaps = [(before[0] + least, None) for before, after in zip(points, points[1:]) if after[0] - before[0] > 1.5 * least]
+            points = sorted(points + gaps, key=lambda point: point[0])
+        found.append(Series(name, points))
+    return found
+
+
+def pieces(points):
+    """The runs of points between empty ones."""
+    return [list(run) for is_empty, run in itertools.groupby(points, lambda point: point[1] is None) if not is_empty]
+
+
+def values_of(chart):
+    return [y for one in chart.series for _, y in one.points if y is not None]
 
 
 def check_bars(series):
@@ -142,7 +184,7 @@ def largest(series, notes):
     """At most as many series as there are colours: those with the largest sums."""
     if len(series) <= MOST_SERIES:
         return series
-    kept = sorted(series, key=lambda one: -sum(abs(y) for _, y in one.points))[:MOST_SERIES]
+    kept = sorted(series, key=lambda one: -sum(abs(y or 0) for _, y in one.points))[:MOST_SERIES]
     notes.append(f"{len(series) - MOST_SERIES} of {len(series)} series aren't drawn, those with the smallest sums")
     return [one for one in series if one in kept]
 
@@ -156,6 +198,11 @@ def amount(y, kind):
     return f"{y:,.0f}" if y == int(y) else f"{y:,.3g}"
 
 
+def axis_amount(y, kind):
+    """A number at an axis: a long one in short."""
+    return amount(y, kind) if kind == "timespan" or abs(y) < 1e9 else plain_numbers(y, None)
+
+
 def time_text(x, span):
     moment_of_x = EPOCH + datetime.timedelta(seconds=x)
     form = "%Y-%m-%d" if span > 4 * 86400 else "%m-%d %H:%M" if span > 86400 else "%H:%M:%S" if span < 600 else "%H:%M"
@@ -163,7 +210,7 @@ def time_text(x, span):
 
 
 def x_text(chart, x, span):
-    return time_text(x, span) if chart.x_type == "datetime" else amount(x, chart.x_type)
+    return time_text(x, span) if chart.x_type == "datetime" else axis_amount(x, chart.x_type)
 
 
 def paint(text, colour, is_coloured):
@@ -186,35 +233,44 @@ def labels_of(chart):
     return list(dict.fromkeys(x for one in chart.series for x, _ in one.points))
 
 
-def cut(text, places):
-    while width(text) > places:
-        text = text[:-2] + "…"
-    return text
-
-
 def bars(chart, places, colour):
+    """A line for each bar. Where a value is below 0, bars begin in the middle, and those of such values go to the left."""
     labels = labels_of(chart)
     side = min(max(map(width, [chart.x_name, *labels])), places // 3)
-    values = [y for one in chart.series for _, y in one.points]
-    room = max(8, places - side - max(width(amount(y, chart.y_type)) for y in values) - 4)
-    scale = room / (max(max(map(abs, values)), 1e-9))
+    heads = cut_apart(labels, side)
+    values = values_of(chart)
+    below, above = max(0, -min(values)), max(0, *values, 0)
+    texts = max(width(amount(y, chart.y_type)) for y in values)
+    scale = max(8, places - side - texts - 4 - (1 if below else 0)) / max(above + below, 1e-9)
     tables = [dict(one.points) for one in chart.series]
-    lines = [f"{padded(cut(chart.x_name, side), side)} │ {chart.y_name}"]
+    lines = [f"{padded(cut_apart([chart.x_name], side)[chart.x_name], side)} │ {chart.y_name}"]
     for text in labels:
-        head = cut(text, side)
+        head = heads[text]
         for at, table in enumerate(tables):
             if text in table:
-                bar = bar_of(table[text] * scale, MARKS[at] if len(tables) > 1 and not colour else None)
-                lines.append(f"{padded(head, side)} │ {paint(bar, COLOURS[at], colour)} {amount(table[text], chart.y_type)}")
+                mark = MARKS[at] if len(tables) > 1 and not colour else None
+                bar = sided(table[text] * scale, round(below * scale), mark, lambda bar, at=at: paint(bar, COLOURS[at], colour))
+                lines.append(f"{padded(head, side)} │ {bar} {amount(table[text], chart.y_type)}")
                 head = ""
     return lines
 
 
+def sided(length, left, mark, painted):
+    """A bar with what stands before it: where there is room at the left, that and a line at 0."""
+    bar = bar_of(abs(length), mark)
+    if not left:
+        return painted(bar)
+    if length >= 0:
+        return " " * left + "│" + painted(bar)
+    whole = (mark or "█") * max(min(round(-length), left), 1)
+    return " " * (left - len(whole)) + painted(whole) + "│"
+
+
 def bar_of(length, mark=None):
     if mark:
-        return mark * round(abs(length))
-    whole = int(abs(length))
-    return ("-" if length < 0 else "") + "█" * whole + EIGHTHS[int((abs(length) - whole) * 8)].strip()
+        return mark * round(length)
+    whole = int(length)
+    return "█" * whole + EIGHTHS[int((length - whole) * 8)].strip()
 
 
 class Canvas:
@@ -253,12 +309,18 @@ class Canvas:
 
 
 def limits(chart):
-    """The ends of both axes: y begins at 0 where no value is below it."""
+    """The ends of both axes: y begins at 0 where no value is below it. Where there is one x alone it stands in the middle."""
     xs = [x for one in chart.series for x, _ in one.points]
-    ys = [y for one in chart.series for _, y in one.points]
+    ys = values_of(chart)
     low, high = min(0, *ys, 0), max(0, *ys, 0)
     left, right = min(xs), max(xs)
-    return left, right if right > left else left + 1, low, rounded_up(high) if high > low else low + 1
+    if left == right:
+        left, right = left - 1, right + 1
+    return left, right, low, rounded_up(high) if high > low else low + 1
+
+
+def has_one_x(chart):
+    return len({x for one in chart.series for x, _ in one.points}) == 1
 
 
 def rounded_up(high):
@@ -271,7 +333,8 @@ def rounded_up(high):
 
 def curves(chart, places, height, colour):
     left, right, low, high = limits(chart)
-    texts = {0: amount(high, chart.y_type), height // 2: amount((low + high) / 2, chart.y_type), height - 1: amount(low, chart.y_type)}
+    ends = ((0, high), (height // 2, (low + high) / 2), (height - 1, low))
+    texts = {y: axis_amount(number_at, chart.y_type) for y, number_at in ends}
     side = max(map(width, texts.values()))
     canvas = Canvas(max(10, places - side - 3), height)
 
@@ -280,11 +343,12 @@ def curves(chart, places, height, colour):
         return x, round((high - point[1]) / (high - low) * (height * 4 - 1))
 
     for owner, one in enumerate(chart.series):
-        points = [at(point) for point in one.points]
-        for start, end in zip(points, points[1:]):
-            canvas.line(start, end, owner)
-        if len(points) == 1:
-            canvas.spot(points[0], owner)
+        for piece in pieces(one.points):
+            points = [at(point) for point in piece]
+            for start, end in zip(points, points[1:]):
+                canvas.line(start, end, owner)
+            if len(points) == 1:
+                canvas.spot(points[0], owner)
     marked = len(chart.series) > 1 and not colour
     lines = [f"{padded('', side)}   {chart.y_name}"]
     for y in range(height):
@@ -293,15 +357,27 @@ def curves(chart, places, height, colour):
 
 
 def x_axis(chart, left, right, side, columns):
-    span = right - left
-    texts = [x_text(chart, x, span) for x in (left, left + span / 2, right)]
-    line = texts[0]
-    line = padded(line, (columns - width(texts[1])) // 2) + texts[1]
-    line = padded(line, columns - width(texts[2])) + texts[2]
-    name = chart.x_name
-    if chart.x_type == "datetime" and span <= 4 * 86400:
-        name += " from " + (EPOCH + datetime.timedelta(seconds=left)).strftime("%Y-%m-%d")
+    line, name = x_texts(chart, left, right, columns)
     return [" " * (side + 1) + "└" + "─" * columns, " " * (side + 2) + line, " " * (side + 2) + name]
+
+
+def x_texts(chart, left, right, columns):
+    """What stands at the ends and in the middle of the x axis, and below it."""
+    span, middle = right - left, left + (right - left) / 2
+    if has_one_x(chart):
+        text = whole_time(middle) if chart.x_type == "datetime" else amount(middle, chart.x_type)
+        return " " * max((columns - width(text)) // 2, 0) + text, chart.x_name
+    texts = [x_text(chart, x, span) for x in (left, middle, right)]
+    line = padded(texts[0], (columns - width(texts[1])) // 2) + texts[1]
+    line = padded(line, columns - width(texts[2])) + texts[2]
+    is_short = chart.x_type == "datetime" and span <= 4 * 86400
+    return line, chart.x_name + (" from " + whole_time(left)[:10] if is_short else "")
+
+
+def whole_time(x):
+    """A moment with its date."""
+    found = EPOCH + datetime.timedelta(seconds=x)
+    return found.strftime("%Y-%m-%d %H:%M:%S") if found.time() else found.strftime("%Y-%m-%d")
 
 
 def save(chart, path):
@@ -345,7 +421,7 @@ def axis_name(name, kind):
 
 def plain_numbers(number, _):
     """A number at an axis, short enough for its place: 2M in place of 2e6."""
-    for power, sign in ((1e12, "T"), (1e9, "G"), (1e6, "M"), (1e3, "k")):
+    for power, sign in ((1e18, "E"), (1e15, "P"), (1e12, "T"), (1e9, "G"), (1e6, "M"), (1e3, "k")):
         if abs(number) >= max(power, 1e4):
             return f"{number / power:.10g}{sign}"
     return f"{number:,.10g}"
@@ -358,7 +434,8 @@ def picture_bars(chart, axes):
         places = [labels.index(x) + (at - (len(chart.series) - 1) / 2) * thick for x, _ in one.points]
         axes.barh(places, [y for _, y in one.points], height=thick, color=PALETTE[at], label=shown_name(one.name))
     axes.set_yticks(range(len(labels)))
-    axes.set_yticklabels([literal(cut(text, 40)) for text in labels])
+    heads = cut_apart(labels, 40)
+    axes.set_yticklabels([literal(heads[text]) for text in labels])
     axes.invert_yaxis()
     axes.set_xlabel(axis_name(chart.y_name, chart.y_type))
     axes.set_ylabel(literal(chart.x_name))
@@ -371,8 +448,13 @@ def picture_curves(chart, axes):
     is_time = chart.x_type == "datetime"
     for at, one in enumerate(chart.series):
         xs = [EPOCH + datetime.timedelta(seconds=x) if is_time else x for x, _ in one.points]
-        axes.plot(xs, [y for _, y in one.points], color=PALETTE[at], label=shown_name(one.name), marker="." if len(xs) < 50 else None)
-    if is_time:
+        ys = [math.nan if y is None else y for _, y in one.points]
+        has_marks = len(xs) < 50 or any(len(piece) == 1 for piece in pieces(one.points))
+        axes.plot(xs, ys, color=PALETTE[at], label=shown_name(one.name), marker="." if has_marks else None)
+    if has_one_x(chart):
+        axes.set_xticks([xs[0]])
+        axes.set_xticklabels([x_texts(chart, *limits(chart)[:2], 0)[0]])
+    elif is_time:
         import matplotlib.dates as dates
 
         axes.xaxis.set_major_formatter(dates.ConciseDateFormatter(axes.xaxis.get_major_locator()))

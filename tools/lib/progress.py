@@ -1,6 +1,8 @@
 """Progress on standard error, by `rich` where it is a terminal."""
 import sys
 
+from widths import visible
+
 try:
     from rich.console import Console
     from rich.progress import BarColumn, Progress, TextColumn, TimeRemainingColumn, TransferSpeedColumn
@@ -29,7 +31,7 @@ class Bar:
     def __init__(self):
         self.task = None
         self.bar = Progress(
-            TextColumn("{task.description}"),
+            TextColumn("{task.description}", markup=False),
             BarColumn(),
             TextColumn("{task.percentage:>3.0f}%"),
             TransferSpeedColumn(),
@@ -41,7 +43,7 @@ class Bar:
 
     def begin(self, source):
         self.bar.start()
-        self.task = self.bar.add_task(source.name, total=source.size, rows=0, rate=0.0)
+        self.task = self.bar.add_task(visible(source.name), total=source.size, rows=0, rate=0.0)
 
     def advance(self, taken, rows):
         seconds = self.bar.tasks[self.task].elapsed or 0

@@ -4,6 +4,7 @@ import csv
 import re
 from pathlib import Path
 
+import from_kql
 from widths import visible, width
 
 PAGE = Path(__file__).resolve().parents[2] / "docs" / "REPLIES.md"
@@ -119,4 +120,13 @@ def explain(refusal, command=None, page=None):
         if place is not None:
             lines.append(("caret", " " * (9 + caret) + "^"))
     begin = command.text[:4096].decode("utf-8", "replace") if command is not None else None
-    return lines + [("sentence", "       " + sentence) for sentence in sentences(refusal, begin, page)]
+    lines += [("sentence", "       " + sentence) for sentence in sentences(refusal, begin, page)]
+    return lines + [("sentence", "       " + line) for line in instead(refusal, begin)]
+
+
+def instead(refusal, command):
+    """What docs/FROM_KQL.md says to write for a word of KQL that isn't here."""
+    lines = []
+    for written, here in from_kql.hints(refusal, command) if command is not None else ():
+        lines += ["in place of" if lines else "docs/FROM_KQL.md: in place of", "    " + written, "write", "    " + here]
+    return lines

@@ -1,6 +1,7 @@
 """Showing replies: each as a table, a chart, or a refusal with its reason."""
 
 import io
+import os
 import shutil
 import sys
 
@@ -8,6 +9,7 @@ import charts
 import refusals
 import replies
 import tables
+from widths import is_terminal, visible
 
 RED, BOLD_RED, DIM = "31", "1;31", "2"
 # A terminal shows no more rows than this unless it is asked to: nobody reads them, and what follows would be out of sight.
@@ -19,8 +21,9 @@ class Look:
 
     def __init__(self, out, *, colour=None, limit=None, places=None, chart=None, told=None):
         self.out = out
-        self.colour = is_terminal(out) if colour is None else colour
-        self.limit = limit if limit is not None else ROWS_ON_A_TERMINAL if is_terminal(out) else None
+        self.is_terminal = is_terminal(out)
+        self.colour = self.is_terminal and not os.environ.get("NO_COLOR") if colour is None else colour
+        self.limit = limit if limit is not None else ROWS_ON_A_TERMINAL if self.is_terminal else None
         self.places = places or shutil.get_terminal_size().columns
         self.chart = chart
         self.told = told or sys.stderr
@@ -32,7 +35,7 @@ class Look:
         if reply.is_refusal:
             self.refusal(reply, command)
         elif not reply.is_answer:
-            self.out.write(reply.first + "\n")
+            self.out.write(visible(reply.first) + "\n")
         elif self.chart is None or not self.drawn(reply):
             self.table(reply)
         self.out.write("\n")
@@ -42,11 +45,11 @@ class Look:
         if self.has_rich:
             tables.write_rich(reply, self.out, self.limit, self.places)
         else:
-            tables.write_plain(reply, self.out, self.limit)
+            tables.write_plain(reply, self.out, self.limit, self.places if self.is_terminal else None)
 
     def refusal(self, reply, command):
         styles = {"line": "", "caret": BOLD_RED, "sentence": DIM}
-        self.out.write(self.paint(reply.first, BOLD_RED) + "\n")
+        self.out.write(self.paint(visible(reply.first), BOLD_RED) + "\n")
         for style, text in refusals.explain(reply.first, command):
             self.out.write(self.paint(text, styles[style]) + "\n")
 
@@ -55,7 +58,7 @@ class Look:
         try:
             chart = charts.make(reply, **self.chart)
         except charts.ChartError as why:
-            self.out.write(f"no chart: {why}\n")
+            self.out.write(f"no chart: {visible(str(why))}\n")
             self.is_whole = False
             return False
         self.out.write("\n".join(charts.draw(chart, self.places, colour=self.colour)) + "\n")
@@ -63,10 +66,6 @@ class Look:
 
     def paint(self, text, colour):
         return f"\x1b[{colour}m{text}\x1b[0m" if self.colour and colour else text
-
-
-def is_terminal(out):
-    return hasattr(out, "isatty") and out.isatty()
 
 
 def has(module, told, without):

@@ -139,8 +139,8 @@ class Terminal(unittest.TestCase):
         self.read_until(b"kq> ")
         os.write(self.terminal, b"\x04")
         self.assertEqual(self.process.wait(60), 0)
-        with open(os.path.join(self.folder.name, "kq-log", "history")) as file:
-            self.assertEqual(file.read().split("\n")[-4:-1], ["print 1", "| count", "print 2"])
+        with open(os.path.join(self.folder.name, "kq-log", "questions.kql")) as file:
+            self.assertEqual(file.read(), "print 1\n| count\n\nprint 2\n\n")
 
 
 if __name__ == "__main__":

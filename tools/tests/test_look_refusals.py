@@ -6,6 +6,7 @@ from pathlib import Path
 
 sys.path.insert(0, str(Path(__file__).resolve().parents[1] / "lib"))
 
+import from_kql  # noqa: E402
 import refusals  # noqa: E402
 from replies import Command  # noqa: E402
 
@@ -72,6 +73,53 @@ class Sentences(unittest.TestCase):
     def test_the_numbers_of_limits_count(self):
         found = refusals.sentences("refused Full limit 256", ".create table T (a:long)")
         self.assertEqual(found, ["Full limit 256: there are more than 256 columns"])
+
+
+class WordsOfKql(unittest.TestCase):
+    """What the page for whoever knows the language says of words that are refused."""
+
+    def test_each_row_of_the_page_is_found_by_its_own_refusal(self):
+        rows = from_kql.rows()
+        self.assertGreater(len(rows), 30)
+        for row in rows:
+            self.assertIn(row.instead, [found.instead for found in rows if found.key == row.key])
+            self.assertNotIn(row.key[1], ("", "|"))
+
+    def test_a_refused_word_has_what_to_write_here(self):
+        for command, word, instead in (
+            ("T | summarize X = avg(a) by b", "avg", "Sum / N"),
+            ("// first\nT\n| summarize dcount(a)", "dcount", "array_length(Set)"),
+            ("T | summarize countif(a > '| x')", "countif", "sum(iff("),
+            ("T | summarize percentile(a, 95)", "percentile", "sort by Took asc"),
+            ("T | extend é = 'é', p = prev(a)", "prev", "join kind="),
+        ):
+            self.assertIn(instead, self.hint("Unknown", command, word), command)
+        for command, word, instead in (
+            ("T | parse a with '/' b", "parse", "split(Path, '/')"),
+            ("T | render timechart", "render", "\\chart"),
+            ("T | where a = 3", "=", "where Status == 503"),
+            ("T | where a in (U | project a)", "| project", "leftsemi"),
+            ("T | lookup U on a", "lookup", "leftouter"),
+            ("T | make-series N = count() on b step 1h", "make-series", "bin(Timestamp, 1h)"),
+            ("T | join U on a", "U on", "join kind=inner (Hosts)"),
+        ):
+            self.assertIn(instead, self.hint("Syntax", command, word), command)
+        self.assertIn("+ 30m)", self.hint("Type", "T | where t between (now() .. 5m)", "between"))
+
+    def test_other_refusals_have_none(self):
+        for kind, command, word in (
+            ("Unknown", "T | where avgs == 3", "avgs"),
+            ("Unknown", "T | project Host", "Host"),
+            ("Syntax", "T | extend a == 3", "=="),
+            ("Syntax", "T | where a b", "b"),
+        ):
+            self.assertEqual(self.hint(kind, command, word), "", command)
+        self.assertEqual(from_kql.hints("refused Memory", "T | render x"), [])
+
+    def hint(self, kind, command, word):
+        place = len(command[: command.index(word)].encode())
+        found = refusals.explain(f"refused {kind} at {place}", Command(1, command.encode()), page="")
+        return "\n".join(text for style, text in found if style == "sentence")
 
 
 class Places(unittest.TestCase):

@@ -4,6 +4,7 @@ import csv
 import io
 import json
 import sys
+import unicodedata
 import unittest
 from pathlib import Path
 from unittest import mock
@@ -62,7 +63,64 @@ class Plain(unittest.TestCase):
         self.assertEqual([width(text) for text in ("abc", "né", "ne\u0301", "日本")], [3, 2, 2, 4])
 
 
+    def test_a_rule_has_a_limit_and_a_longer_cell_stands_out(self):
+        text = "rows 2\nS:string\tN:long\n" + "x" * 5_000_000 + "\t7\ny\t8\n\n"
+        lines = written(tables.write_plain, text).split("\n")
+        self.assertEqual([len(lines[at]) for at in (0, 1, 2, 4)], [206, 206, 206, 206])
+        self.assertEqual(lines[3], "x" * 5_000_000 + "     7")
+
+    def test_a_table_that_is_too_wide_for_its_terminal_has_a_row_a_block(self):
+        wide = written(tables.write_plain, ANSWER, room=30).split("\n")
+        self.assertEqual(
+            wide[:6] + wide[-2:],
+            ["row 1", "  Host  web-1", "  N     7", "  At    2024-03-01T10:00:00Z", '  D     {"a":1}', "row 2", "(3 rows)", ""],
+        )
+        fitting = max(map(width, written(tables.write_plain, ANSWER).split("\n")))
+        self.assertTrue(written(tables.write_plain, ANSWER, room=fitting).startswith("Host"))
+        self.assertTrue(written(tables.write_plain, ANSWER, room=fitting - 1).startswith("row 1"))
+
+    def test_a_terminal_shows_the_beginning_of_a_long_cell(self):
+        text = "rows 1\nS:string\n" + "x" * 5_000_000 + "\n\n"
+        self.assertLess(len(written(tables.write_plain, text, room=80)), 5000)
+        self.assertIn("… (5,000,000 characters)", written(tables.write_plain, text, room=80))
+
+    def test_what_nobody_sees_is_written_out(self):
+        text = "a\x1bb\x07c\x85d\xade\u202ef\u200bg\U000e0041h"
+        self.assertEqual(visible(text), "a\\x1bb\\x07c\\x85d\\xade\\u202ef\\u200bg\\U000e0041h")
+
+    def test_all_that_unicode_calls_a_control_or_a_format_is_written_out(self):
+        signs = "".join(sign for sign in map(chr, range(sys.maxunicode + 1)) if unicodedata.category(sign) in ("Cc", "Cf", "Cs", "Zl", "Zp"))
+        self.assertTrue(visible(signs).isascii())
+
+
+class ToATerminal(io.StringIO):
+    def isatty(self):
+        return True
+
+
 class Forms(unittest.TestCase):
+    def test_no_form_steers_a_terminal(self):
+        text = "rows 2\nS\x1b:string\tD:dynamic\na\x1b[2J\x9b\u202e\u200b\U000e0041\x7f\t{\"k\":\"\x9b\"}\nb\\nc\tnull\n\n"
+        for form in tables.WRITERS:
+            out = ToATerminal()
+            tables.write(form, answer(text), out)
+            self.assertNotRegex(out.getvalue(), "[\x1b\x9b\u202e\u200b\U000e0041\x7f]", form)
+        out = ToATerminal()
+        tables.write("json", answer(text), out)
+        self.assertEqual(json.loads(out.getvalue())[0], {"S\x1b": "a\x1b[2J\x9b\u202e\u200b\U000e0041\x7f", "D": {"k": "\x9b"}})
+        out = io.StringIO()
+        tables.write("csv", answer(text), out)
+        self.assertEqual(list(csv.reader(io.StringIO(out.getvalue(), newline="")))[2], ["b\nc", ""])
+
+    def test_a_sheet_takes_no_cell_for_a_formula(self):
+        cells = ["=1+1", "+1", "-1", "@A1", "\\tx", "\\rx", " =1", "＝1", "a=1", ""]
+        text = f"rows {len(cells)}\n=a:string\tn:long\tt:timespan\n" + "".join(f"{cell}\t-7\t-00:00:01\n" for cell in cells) + "\n"
+        out = io.StringIO()
+        tables.write("csv", answer(text), out, formulas=True)
+        rows = list(csv.reader(io.StringIO(out.getvalue(), newline="")))
+        self.assertEqual([row[0] for row in rows], ["'=a", "'=1+1", "'+1", "'-1", "'@A1", "'\tx", "'\rx", "' =1", "'＝1", "a=1", ""])
+        self.assertEqual(rows[1][1:], ["-7", "-00:00:01"])
+
     def test_csv_is_read_back_as_it_was(self):
         text = 'rows 3\na:string\tb:long\tc:dynamic\nx,"y\\r\\n\\\\\tnull\t{"k":"v"}\n\t1\tnull\n\\r\t2\t[1]\n\n'
         rows = list(csv.reader(io.StringIO(written(tables.write_csv, text), newline="")))
@@ -75,9 +133,9 @@ class Forms(unittest.TestCase):
         self.assertEqual(json.loads(written(tables.write_json, "rows 0\na:long\n\n")), [])
 
     def test_markdown_keeps_signs_as_they_are(self):
-        text = "rows 1\na_b:string\tn:int\n|*x*<b>\t3\n\n"
+        text = "rows 1\na_b:string\tn:int\n|*x*<b>&amp;$x$~\t3\n\n"
         self.assertEqual(
-            written(tables.write_markdown, text), "| a\\_b | n |\n| --- | ---: |\n| \\|\\*x\\*\\<b\\> | 3 |\n"
+            written(tables.write_markdown, text), "| a\\_b | n |\n| --- | ---: |\n| \\|\\*x\\*\\<b\\>\\&amp;\\$x\\$\\~ | 3 |\n"
         )
 
 
@@ -107,6 +165,16 @@ class OnATerminal(unittest.TestCase):
     def test_a_question_may_hold_bytes_that_are_no_text(self):
         out, _ = self.shown("refused NotText at 7\n\n", script="print '\udcff'")
         self.assertIn("print '\\xff'", out)
+
+    def test_no_reply_steers_the_terminal(self):
+        for text in ("refused Cycle a\x1b[2J\u202e\n\n", "done a\x1b[2J\n\n", "rows 1\n\x1b]0;a\x07:string\n\x1b]0;b\x07\n\n"):
+            for script in (None, "print '\x1b[2J\u200b'"):
+                out = io.StringIO()
+                show.show(text, out, script=script, places=80)
+                self.assertNotRegex(out.getvalue(), "[\x1b\x07\u202e\u200b]")
+                out = io.StringIO()
+                show.show(text, out, chart={"kind": "bar"}, places=80)
+                self.assertNotRegex(out.getvalue(), "[\x1b\x07\u202e\u200b]")
 
     def test_refusals_are_red_and_pointed_at(self):
         out, _ = self.shown("done 1\n\nrefused Unknown at 4\n\n", script="a\n\n// no command\n\nb | c")
