@@ -98,11 +98,9 @@ class Input:
         return datetime.datetime.now()
 
     @property
-    def identity(self):
-        """File name, size and time of change; none of what is no file."""
-        if not self.is_regular:
-            return None
-        return f"{self.name} {self.size} {self.changed.isoformat()}.{self.state.st_mtime_ns % 10**9:09}Z"
+    def owner(self):
+        """What tells the file from others, whatever its name."""
+        return (self.state.st_dev, self.state.st_ino) if self.is_regular else self.path
 
     def read(self):
         """The next bytes; none at the end. As many as there can be, so that chunks don't hang on who writes."""

@@ -66,7 +66,7 @@ def add_load_options(parser):
     columns.add_argument("--only", metavar="NAME,..", type=words, help="takes these columns alone, in this order")
     columns.add_argument("--rest", metavar="NAME", help="a dynamic column for all fields that have none of their own")
     script = parser.add_argument_group("what is written")
-    script.add_argument("--batch", metavar="N", type=int, default=10_000, help="rows of a batch (10000)")
+    script.add_argument("--batch", metavar="N", type=int, default=10_000, help="rows of a batch, which also ends at a megabyte (10000)")
     script.add_argument("--no-table", dest="table", action="store_false", help="leaves .create table out")
     script.add_argument("--print-schema", action="store_true", help="prints the columns that were found, and loads nothing")
     bad = parser.add_argument_group("records that can't be given as they stand")

@@ -7,6 +7,7 @@ import names
 import plans
 import scripts
 from inputs import LONGEST
+from outlets import outlet
 from problems import Problems, Stopped
 from sources import Source
 
@@ -16,12 +17,16 @@ class Loading:
 
     def __init__(self, options, out, say, progress):
         self.options = options
-        self.out = out
+        self.out = outlet(out)
         self.say = say
         self.progress = progress
         self.problems = Problems(options.choices, options.rejects)
         self.rows = 0
-        self.sent = 0  # batches
+
+    @property
+    def sent(self):
+        """What was written so far of commands that have a reply."""
+        return self.script.sent if hasattr(self, "script") else []
 
     def run(self):
         """Reads the files, and writes the script."""
@@ -93,7 +98,7 @@ class Loading:
         """Writes the rows of one file."""
         began = time.monotonic()
         source.open()
-        self.script.begin(source.input.identity)
+        self.script.begin(source.path, source.input.name, source.input.owner)
         if self.options.rejects is not None:
             self.options.rejects.begin(source.heading_text)
         self.progress.begin(source.input)
@@ -114,7 +119,7 @@ class Loading:
             kept = (place for place in range(table.count) if place not in rejected)
             rows = [row for place, row in zip(kept, rows) if place not in refused]
             rejected |= refused
-        if rows and max(map(len, rows)) >= self.script.room:
+        if rows and max(map(len, rows)) >= self.script.longest:
             rows = self.short_enough(rows, rejected, table, places)
         for place in sorted(rejected):
             self.problems.reject(places.raw(place))
@@ -124,7 +129,7 @@ class Loading:
         """The rows, those aside that are too long for a command."""
         kept, found = [place for place in range(table.count) if place not in rejected], []
         for place, row in zip(kept, rows):
-            if len(row) < self.script.room:
+            if len(row) < self.script.longest:
                 found.append(row)
                 continue
             self.problems.meet("long", places.at(place), f"the record makes a row of {len(row):,} bytes, and a command has at most {LONGEST:,}")
@@ -145,7 +150,6 @@ class Loading:
     def tell(self, source, seconds):
         given, batches = self.script.given, self.script.batches
         self.rows += given
-        self.sent += batches
         rate = f", {given / seconds:,.0f} rows/s" if seconds > 0 and given else ""
         self.say(f"{source.path}: {names.counted(given, 'row')} in {names.counted(batches, 'batch')}, {seconds:.1f} s{rate}")
 

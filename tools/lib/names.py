@@ -19,7 +19,9 @@ def quoted(text):
 
 def counted(number, what):
     """A number and what it counts."""
-    return f"{number:,} {what}{'' if number == 1 else 'es' if what.endswith('ch') else 's'}"
+    if number == 1:
+        return f"1 {what}"
+    return f"{number:,} {what[:-1]}ies" if what.endswith(("ply", "ry")) else f"{number:,} {what}{'es' if what.endswith('ch') else 's'}"
 
 
 def is_word(text):

@@ -21,14 +21,16 @@ FORMATS = ["csv", "tsv", "json", *logs.FORMATS]
 
 
 class Lenient:
-    """Stands for the problems while types are found: whatever is wrong is left to the loading."""
+    """Stands for the problems while types are found: records that would stop the loading are left to it."""
 
-    def __init__(self):
+    def __init__(self, choices):
+        self.choices = choices
         self.met = False
 
     def meet(self, kind, place, why):
         self.met = True
-        return "reject"
+        choice = self.choices[kind]
+        return "reject" if choice == "stop" else choice
 
     def reject(self, raw):
         pass
@@ -46,7 +48,7 @@ class Source:
         self.heading_text = b""
         self.fields = []
         self.notes = []
-        self.lenient = Lenient()
+        self.lenient = Lenient(problems.choices)
         self.sample = self.looked_at()
         lines = list(itertools.islice((line for chunk in self.sample for line in chunk.lines if line.strip()), 50))
         self.format = options.format or sniffed(path, lines)
@@ -177,7 +179,7 @@ class Source:
         keep, fitting = [], []
         spans = Spans(chunk, self.reader, None)
         for place, record in enumerate(records):
-            if len(record) == 1 and not record[0].strip():
+            if len(record) == 1 and not record[0].strip() and not spans.raw(place).strip():
                 continue
             if len(record) < width:
                 choice = problems.meet("short", spans.at(place), f"the record has {len(record)} cells, and there are {width} columns")

@@ -27,11 +27,12 @@ HEAD = re.compile(r"\.ingest inline into table (.+?) with \(tags='\[(.*)\]', ing
 class Loaded:
     """What became of one call."""
 
-    def __init__(self, status, script, told, rejects):
+    def __init__(self, status, script, told, rejects, sent):
         self.status = status
         self.script = script
         self.told = told
         self.rejects = rejects
+        self.sent = sent
 
     @property
     def blocks(self):
@@ -97,7 +98,7 @@ class Folder:
                 call.stop(fault)
                 status = 1
             call.summary()
-            return Loaded(status, out.getvalue(), "\n".join(told), self.rejected(options))
+            return Loaded(status, out.getvalue(), "\n".join(told), self.rejected(options), call.sent)
         finally:
             os.chdir(before)
 

@@ -1,7 +1,13 @@
 """The commands that tools/load writes."""
+import hashlib
+import os
 import unittest
 
 from load_runs import Folder, loaded, tag_of
+
+
+def tag_of_first(script):
+    return script.decode().split("tags='[")[1].split("]'")[0]
 
 
 class Names(unittest.TestCase):
@@ -68,27 +74,48 @@ class Batches(unittest.TestCase):
         self.assertTrue(all(len(block.encode()) <= 2**24 for block in found.blocks))
         self.assertEqual([row[0] for row in found.rows], [f"{i:04}" for i in range(180)])
 
-    def test_a_tag_of_name_size_time_and_number_that_is_asked_about(self):
-        content = "n\n1\n2\n3\n"
+    def test_a_tag_of_the_name_the_number_and_a_digest_that_is_asked_about(self):
         with Folder() as folder:
-            folder.put("a.csv", content, changed=1709294400)
+            folder.put("a.csv", "n\n1\n2\n3\n")
             found = folder.load("a.csv", "--batch", "2")
         tags = [tag_of(tag) for _, tag, _, _ in found.batches]
         asked = [tag_of(asked) for _, _, asked, _ in found.batches]
         self.assertEqual(tags, [f"ingest-by:{name}" for name in asked])
-        self.assertEqual(asked, [f"a.csv {len(content)} 2024-03-01T12:00:00.000000000Z {i} of 2" for i in (1, 2)])
+        digests = [hashlib.blake2b(body, digest_size=16).hexdigest() for body in (b"1\n2", b"3")]
+        self.assertEqual(asked, [f"a.csv {i} of 2 {digest}" for i, digest in enumerate(digests, 1)])
 
-    def test_tags_tell_files_apart_and_not_calls(self):
+    def test_tags_tell_rows_and_names_apart_and_not_calls(self):
         with Folder() as folder:
             folder.put("a.csv", "n\n1\n")
             first = folder.load("a.csv").script
-            self.assertEqual(folder.load("a.csv").script, first)
             folder.put("a.csv", "n\n1\n", changed=1709294401)
-            self.assertNotEqual(folder.load("a.csv").script, first)
-            folder.put("a.csv", "n\n1\n\n")
-            self.assertNotEqual(folder.load("a.csv").script, first)
+            self.assertEqual(folder.load("a.csv").script, first)
             folder.put("b.csv", "n\n1\n")
             self.assertNotEqual(folder.load("b.csv").script, first)
+            folder.put("a.csv", "n\n2\n")
+            self.assertNotEqual(folder.load("a.csv").batches[0][1], tag_of_first(first))
+
+    def test_two_files_of_one_name_size_and_time_are_two(self):
+        with Folder() as folder:
+            for name in ("east", "west", "north"):
+                os.mkdir(os.path.join(folder.path, name))
+            folder.put("east/a.csv", "n\n1\n")
+            folder.put("west/a.csv", "n\n2\n")
+            folder.put("north/a.csv", "n\n1\n")
+            paths = ["east/a.csv", "west/a.csv", "north/a.csv"]
+            tags = [tag for _, tag, _, _ in folder.load(*paths).batches]
+            # Loaded again, by other paths, each has the tag that it had.
+            again = [tag for _, tag, _, _ in folder.load("./east/a.csv", "east/../west/a.csv", "north/a.csv", "east/a.csv").batches]
+        self.assertEqual(len(set(tags)), 3)
+        self.assertEqual(again, [*tags, tags[0]])
+
+    def test_a_file_name_that_isnt_utf8_has_a_tag_of_what_can_be(self):
+        with Folder() as folder:
+            name = os.fsdecode(b"a\xff.csv")
+            folder.put(name, "n\n1\n")
+            found = folder.load(name)
+        self.assertEqual((found.status, found.rows), (0, [["1"]]))
+        self.assertIn("a\ufffd.csv 1 of 10000 ", found.script.decode().encode().decode("unicode_escape").encode().decode("unicode_escape"))
 
     def test_a_name_with_quotes_and_backslashes_stays_one_string(self):
         with Folder() as folder:
@@ -121,6 +148,18 @@ class Rows(unittest.TestCase):
             with self.subTest(cell=cell):
                 self.assertEqual(loaded(f"a,b\n{cell},1\ny,2\n").rows[0], [cell, "1"])
 
+    def test_a_first_cell_of_a_batch_with_blanks_and_quotes_stays(self):
+        for cell in (' rack 19"', '\t"', '\ufeff "a" b', ' ""', "  \'"):
+            with self.subTest(cell=cell):
+                found = loaded(f"a,b\n{cell},1\ny,2\nz,3\n", "--header")
+                self.assertEqual(found.rows, [[cell, "1"], ["y", "2"], ["z", "3"]])
+                alone = loaded(f"a\n{cell}\ny\n", "--header", "--type", "a:string", "--batch", "1")
+                self.assertEqual(alone.rows, [[cell], ["y"]])
+
+    def test_a_blank_line_with_a_cr_of_one_column_stays_as_it_is(self):
+        found = loaded('a\r\nx\r\n \r\ny\r\n', "--header")
+        self.assertEqual(found.rows, [["x"], [" "], ["y"]])
+
     def test_a_byte_order_mark_of_a_file_is_dropped(self):
         self.assertEqual(loaded("\ufeffa,b\n1,x\n").columns, "a:long, b:string")
 
@@ -128,6 +167,11 @@ class Rows(unittest.TestCase):
         found = loaded('s\nx\n""\n"  "\n \ny\n', "--header", "--type", "s:string")
         self.assertEqual(found.rows, [["x"], [""], ["  "], [" "], ["y"]])
         self.assertEqual(len(found.batches), 1)
+
+    def test_quoted_blanks_and_line_ends_are_records(self):
+        found = loaded('a,b\n1,2\n" "\n"\n"\n   \n"\r\n"\n3,4\n', "--header")
+        self.assertEqual(found.rows, [["1", "2"], [" ", ""], ["\n", ""], ["\r\n", ""], ["3", "4"]])
+        self.assertIn("short: 3 filled up with nulls", found.told)
 
     def test_empty_lines_are_no_records(self):
         self.assertEqual(loaded("a,b\n\n1,2\n\r\n   \n3,4\n\n").rows, [["1", "2"], ["3", "4"]])
