@@ -50,9 +50,13 @@ class Chunk:
     def raw(self, first, behind):
         return b"".join(line + b"\n" for line in self.lines[first:behind])
 
-    def is_full(self, start):
-        """Whether the lines from here on are too many for one record."""
-        return sum(map(len, self.lines[start:])) + len(self.lines) - start > LONGEST
+    def as_last(self):
+        """The same lines, behind which no others come."""
+        return Chunk(self.name, self.number, self.lines, True)
+
+    def first(self, count):
+        """The first lines."""
+        return Chunk(self.name, self.number, self.lines[:count])
 
     def without(self, count):
         """What follows the first lines."""

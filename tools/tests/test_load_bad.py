@@ -49,6 +49,13 @@ class Files(unittest.TestCase):
         self.assertIn("a.csv: is empty: it has no records", found.told)
         self.assertIn("no columns to find", found.told)
 
+    def test_an_empty_file_whose_first_record_would_have_names(self):
+        for content in (b"", b"\n\n", b"\xef\xbb\xbf"):
+            found = loaded(content, "--header")
+            self.assertEqual((found.status, found.script), (1, b""))
+            self.assertIn("no columns to find", found.told)
+        self.assertEqual(loaded(b"", "--header", "--names", "a,b").columns, "a:string, b:string")
+
     def test_an_empty_file_beside_others(self):
         with Folder() as folder:
             folder.put("a.csv", "")

@@ -45,6 +45,19 @@ class Headers(unittest.TestCase):
         found = loaded("1,x\n2,y\n")
         self.assertEqual((found.columns, len(found.rows)), ("Column1:long, Column2:string", 2))
 
+    def test_names_of_which_some_are_equal_or_empty_are_no_row(self):
+        for content, columns in [("a,b,a\n1,2,x\n", "a:long, b:long, a_2:string"), (",n,s\n0,1,x\n1,2,y\n", "Column1:long, n:long, s:string"), ("n,,\n2024-03-01,x,\n", "n:datetime, Column2:string, Column3:string")]:
+            with self.subTest(content=content):
+                found = loaded(content)
+                self.assertEqual((found.columns, len(found.rows)), (columns, content.count("\n") - 1))
+
+    def test_a_first_record_with_equal_or_empty_cells_that_may_be_data_is_told(self):
+        for content in ("bo,paris,bo\nann,rome,cy\n", "bo,,x\nann,rome,y\n"):
+            found = loaded(content)
+            self.assertEqual(len(found.rows), 2)
+            self.assertIn("a.csv: the first record has equal or empty cells, and is taken as data; --header", found.told)
+        self.assertEqual(len(loaded("1,,2\n3,4,5\n").rows), 2)
+
     def test_what_is_asked_for_decides(self):
         self.assertEqual(len(loaded("a,b\nc,d\n", "--no-header").rows), 2)
         self.assertEqual(loaded("1,2\n3,4\n", "--header").columns, "['1']:long, ['2']:long")
