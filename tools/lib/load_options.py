@@ -1,50 +1,15 @@
 """The words of tools/load, which ./kq-log takes too."""
 import argparse
 import datetime
-import os
 import re
 
 from cells import TYPES
 from problems import KINDS, choices_of
+from rejects import Beside, rejects_of
 from sources import FORMATS
 from times import Moments, offset
 
 KINDS_TOLD = "\n".join(f"  {kind:<10} {what}: {', '.join(choices)}" for kind, (what, choices) in KINDS.items())
-
-
-class Rejects:
-    """The file of rejected records. Before those of a file with names of columns these stand, so that it can be loaded itself."""
-
-    def __init__(self, path):
-        self.path = path
-        self.file = open(path, "wb")
-        self.heading = self.written = b""
-
-    def begin(self, heading):
-        """Records of another file follow."""
-        self.heading = heading
-
-    def write(self, raw):
-        if self.heading != self.written:
-            self.file.write(self.heading)
-            self.written = self.heading
-        self.file.write(raw)
-
-    def close(self):
-        self.file.close()
-
-
-def rejects_of(options):
-    """The file of rejected records, where one is asked for. It is none of those that are loaded."""
-    path = options.rejects
-    if path is None:
-        return None
-    if any(name != "-" and os.path.exists(path) and os.path.exists(name) and os.path.samefile(name, path) for name in options.files):
-        raise ValueError(f"--rejects {path}: this file is to be loaded")
-    try:
-        return Rejects(path)
-    except OSError as fault:
-        raise ValueError(f"--rejects {path}: {fault.strerror}") from None
 
 
 def add_load_options(parser):
@@ -70,8 +35,8 @@ def add_load_options(parser):
     script.add_argument("--no-table", dest="table", action="store_false", help="leaves .create table out")
     script.add_argument("--print-schema", action="store_true", help="prints the columns that were found, and loads nothing")
     bad = parser.add_argument_group("records that can't be given as they stand")
-    bad.add_argument("--on", metavar="KIND=CHOICE", action="append", default=[], help="what becomes of a kind; the kinds stand below")
-    bad.add_argument("--rejects", metavar="FILE", help="records that would stop the loading go into this file, as they are")
+    bad.add_argument("--on", metavar="KIND=CHOICE", action="append", default=[], help="what becomes of a kind; the kinds stand below. `stop` or `reject` alone is for all kinds")
+    bad.add_argument("--rejects", metavar="FILE", help="records that would stop the loading go into this file, as they are; it is made, and never over another one")
 
 
 def words(text):
@@ -89,8 +54,8 @@ def pairs(groups, what):
     return found
 
 
-def settled(options):
-    """Makes the words what the loading takes; a ValueError says what is wrong."""
+def settled(options, going_on=False):
+    """Makes the words what the loading takes; a ValueError says what is wrong. `going_on` says that no spoiled record ends a loading."""
     options.types = pairs(options.types, "--type")
     for name, kind in options.types.items():
         if kind not in TYPES:
@@ -110,8 +75,9 @@ def settled(options):
     zone = offset(options.zone) if re.fullmatch("|Z|z|UTC|GMT|[+-][0-9]{2}(:?[0-9]{2})?", options.zone) else None
     if zone is None:
         raise ValueError(f"--zone {options.zone}: it is written as +01:00")
+    options.going_on = going_on
+    options.rejects = rejects_of(options) or (Beside() if going_on else None)
     options.choices = choices_of(options.on, options.rejects)
-    options.rejects = rejects_of(options)
     options.format = None if options.format == "auto" else options.format
     latest = datetime.datetime(options.year, 12, 31, 23, 59, 59) - datetime.timedelta(days=1) if options.year else None
     options.moments = Moments("" if zone == "Z" else zone, latest)

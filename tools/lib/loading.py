@@ -20,7 +20,7 @@ class Loading:
         self.out = outlet(out)
         self.say = say
         self.progress = progress
-        self.problems = Problems(options.choices, options.rejects)
+        self.problems = Problems(options.choices, options.rejects, options.going_on)
         self.rows = 0
 
     @property
@@ -42,6 +42,7 @@ class Loading:
 
     def run_on(self, sources):
         for path in self.options.files:
+            self.begin_rejects(path, b"")
             sources.append(Source(path, self.options, self.problems))
         columns = self.columns(sources)
         if columns is None:
@@ -50,7 +51,7 @@ class Loading:
         if self.options.print_schema:
             self.out.write(schema(self.options.into, columns).encode())
             return
-        self.plan = plans.Plan(columns, self.options.only, self.options.rest, self.options.nulls)
+        self.plan = plans.Plan(columns, self.options)
         self.script = scripts.Script(self.out, self.options.into, columns, self.options.batch)
         if self.options.table:
             self.script.create()
@@ -99,8 +100,7 @@ class Loading:
         began = time.monotonic()
         source.open()
         self.script.begin(source.path, source.input.name, source.input.owner)
-        if self.options.rejects is not None:
-            self.options.rejects.begin(source.heading_text)
+        self.begin_rejects(source.path, source.heading_text)
         self.progress.begin(source.input)
         for table, places in source.tables(self.problems, source.chunks()):
             if table.count:
@@ -110,6 +110,11 @@ class Loading:
         source.input.close()
         self.progress.end()
         self.tell(source, time.monotonic() - began)
+
+    def begin_rejects(self, path, heading):
+        """Whatever is rejected from here on is of this file."""
+        if self.options.rejects is not None:
+            self.options.rejects.begin(path, heading)
 
     def give(self, table, places):
         """Gives the records of a table as rows."""
@@ -138,14 +143,24 @@ class Loading:
 
     def extra(self, table, places):
         """The records that are rejected since they have fields that no column has."""
-        rejected = set()
         others = [name for name in table.columns if name not in self.plan.known] if self.plan.open else ()
+        if others and table.native and self.plan.may_grow:
+            if any(value is not None and value != "" for name in others for value in table.columns[name]):
+                self.grow(places)
+            return set()
+        rejected = set()
         for name in others:
             for place, value in enumerate(table.columns[name]):
                 if value is not None and value != "" and place not in rejected:
                     if self.problems.meet("extra", places.at(place), f"no column has the field {name!r}") == "reject":
                         rejected.add(place)
         return rejected
+
+    def grow(self, places):
+        """Adds a dynamic column for fields that no column has."""
+        column = self.plan.add_rest()
+        self.script.widen(column)
+        self.say(f"{places.chunk.name}: behind line {places.chunk.number:,} come fields that the first records lack; they go into {column.name}. To choose: --rest NAME or --on extra=drop")
 
     def tell(self, source, seconds):
         given, batches = self.script.given, self.script.batches
@@ -170,6 +185,8 @@ class Loading:
                 self.say(f"{column.name}: {names.counted(column.judge.rewritten, 'cell')} rewritten as a {column.kind}")
         for line in self.problems.told():
             self.say(line)
+        for path, count in self.options.rejects.close() if self.options.rejects is not None else ():
+            self.say(f"{names.counted(count, 'record')} that didn't go in: {path}, as {'it was' if count == 1 else 'they were'}")
 
 
 def schema(table, columns):

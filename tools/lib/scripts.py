@@ -37,6 +37,12 @@ class Script:
         self.out.write(f".create table {self.table} ({schema_text(self.columns)})\n\n".encode())
         self.sent.append(Sent("table", self.table))
 
+    def widen(self, column):
+        """Adds a column to the table, behind the others. Rows that have no cell for it have none there."""
+        self.out.write(f".alter-merge table {self.table} ({schema_text([column])})\n\n".encode())
+        self.sent.append(Sent("column", column.name))
+        self.alone = False
+
     def begin(self, path, name, owner):
         """Rows of another file follow, which `owner` tells from all others. A batch is of one file."""
         self.path, self.name, self.owner, self.number = path, LONE.sub("\ufffd", name), owner, 10**9

@@ -80,7 +80,11 @@ class Folder:
         os.utime(path, (changed, changed))
         return path
 
-    def load(self, *words):
+    def read(self, name):
+        with open(os.path.join(self.path, name), "rb") as file:
+            return file.read()
+
+    def load(self, *words, going_on=False):
         """One call with these words, in this folder."""
         parser = argparse.ArgumentParser()
         parser.add_argument("files", nargs="+")
@@ -89,7 +93,7 @@ class Folder:
         out, told, before = io.BytesIO(), [], os.getcwd()
         os.chdir(self.path)
         try:
-            options = load_options.settled(parser.parse_args(words))
+            options = load_options.settled(parser.parse_args(words), going_on)
             call = loading.Loading(options, out, told.append, progress.Quiet())
             try:
                 call.run()
@@ -104,9 +108,8 @@ class Folder:
 
     @staticmethod
     def rejected(options):
-        if options.rejects is None:
+        if not hasattr(options.rejects, "path"):
             return None
-        options.rejects.close()
         with open(options.rejects.path, "rb") as file:
             return file.read()
 

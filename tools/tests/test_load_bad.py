@@ -235,7 +235,54 @@ class Records(unittest.TestCase):
             folder.put("c.csv", "n,s,t\n4,x,y,z\n")
             found = folder.load("a.csv", "b.csv", "c.csv", "--rejects", "bad")
             self.assertEqual(found.rejects, b"n,s\n2,x,y\n3,x,y\nn,s,t\n4,x,y,z\n")
-            self.assertEqual(folder.load("a.csv", "--rejects", "bad", "--on", "wide=cut").rejects, b"")
+            self.assertEqual(folder.load("a.csv", "--rejects", "other", "--on", "wide=cut").rejects, b"")
+
+    def test_rejects_never_go_over_another_file(self):
+        with Folder() as folder:
+            folder.put("a.csv", "n,s\n2,x,y\n")
+            folder.put("bad", "mine\n")
+            with self.assertRaisesRegex(ValueError, "bad: this file is there already"):
+                folder.load("a.csv", "--rejects", "bad")
+            self.assertEqual(folder.read("bad"), b"mine\n")
+            self.assertEqual(folder.load("a.csv", "--rejects", "/dev/null").status, 0)
+
+    def test_a_load_that_goes_on_keeps_spoiled_records_beside_their_files(self):
+        with Folder() as folder:
+            os.mkdir(os.path.join(folder.path, "b"))
+            folder.put("a.csv", "n,s\n1,x\n2,y,z\nq,w\n")
+            folder.put("a.csv.rejects", "mine\n")
+            folder.put("b/b.csv", 'n,s\n3,"open\n4,y\n')
+            found = folder.load("a.csv", "b/b.csv", "--type", "n:long", going_on=True)
+            texts = {name: folder.read(name) for name in ("a.csv.rejects", "a.csv.2.rejects", "b/b.csv.rejects")}
+            self.assertEqual(sorted(os.listdir(folder.path)), ["a.csv", "a.csv.2.rejects", "a.csv.rejects", "b"])
+        self.assertEqual((found.status, found.rows), (0, [["1", "x"], ["4", "y"]]))
+        self.assertEqual(texts, {"a.csv.rejects": b"mine\n", "a.csv.2.rejects": b"n,s\n2,y,z\nq,w\n", "b/b.csv.rejects": b'n,s\n3,"open\n'})
+        self.assertIn("wide: 1 rejected; the first: a.csv:3: the record has 3 cells, and there are 2 columns; to take them: --on wide=cut", found.told)
+        self.assertIn("cell: 1 rejected; the first: a.csv:4: n: 'q' is no long; to take them: --on cell=null", found.told)
+        self.assertIn("quote: 1 rejected", found.told)
+        self.assertIn("2 records that didn't go in: a.csv.2.rejects, as they were", found.told)
+        self.assertIn("1 record that didn't go in: b/b.csv.rejects, as it was", found.told)
+
+    def test_what_is_said_decides_where_a_load_goes_on(self):
+        with Folder() as folder:
+            folder.put("a.csv", "n,s\n1,x\n2,y,z\n")
+            self.assertEqual(folder.load("a.csv", "--on", "wide=stop", going_on=True).status, 1)
+            self.assertEqual(folder.load("a.csv", "--on", "stop", going_on=True).status, 1)
+            self.assertEqual(folder.load("a.csv", "--on", "stop", "--on", "wide=cut", going_on=True).rows, [["1", "x"], ["2", "y"]])
+            self.assertEqual(folder.load("a.csv").status, 1)
+            with self.assertRaisesRegex(ValueError, "--on reject needs --rejects FILE"):
+                folder.load("a.csv", "--on", "reject")
+            self.assertEqual(os.listdir(folder.path), ["a.csv"])
+
+    def test_hints_lead_to_the_end(self):
+        large = loaded("n\n99999999999999999999\n")
+        self.assertIn("n has whole numbers that are too large for a long, and are kept as strings", large.told)
+        self.assertNotIn("--scale", large.told)
+        self.assertIn("a: '99999999999999999999' is too large for a long. To go on: --on cell=null", loaded("a\n99999999999999999999\n", "--type", "a:long").told)
+        self.assertNotIn("--scale", loaded("n\n1.12345678901234567890\n").told)
+        self.assertNotIn("--scale", loaded("n\n1e-30\n").told)
+        self.assertIn("--scale n:3", loaded("n\n1.5\n2.125\n").told)
+        self.assertEqual(loaded("n\n1.5\n2.125\n1.5e-1\n", "--scale", "n:3").rows, [["1500"], ["2125"], ["150"]])
 
     def test_a_file_that_is_loaded_takes_no_rejects(self):
         with Folder() as folder:

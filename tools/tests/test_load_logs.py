@@ -161,7 +161,13 @@ class Json(unittest.TestCase):
 
     def test_late_members_stop_or_go_where_it_is_said(self):
         lines = ['{"a":1}'] * 10000 + ['{"a":2,"b":"x","c":null}']
-        self.assertIn("a.json:10001: no column has the field 'b'", self.load(lines).told)
+        found = self.load(lines + ['{"a":3}'])
+        self.assertIn(".alter-merge table T (Rest:dynamic)", found.blocks)
+        self.assertEqual((found.columns, found.rows[9999:]), ("a:long", [["1", ""], ["2", '{"b":"x"}'], ["3", ""]]))
+        self.assertIn("they go into Rest. To choose: --rest NAME or --on extra=drop", found.told)
+        self.assertEqual([one.what for one in found.sent], ["table", "column", "batch", "batch"])
+        self.assertIn("a.json:10001: no column has the field 'b'", self.load(lines, "--on", "extra=stop").told)
+        self.assertIn("a.json:10001: no column has the field 'b'", self.load(lines, "--no-table").told)
         self.assertEqual(self.load(lines, "--on", "extra=drop").rows[-1], ["2"])
         rest = self.load(lines, "--rest", "Rest")
         self.assertEqual((rest.columns, rest.rows[-1]), ("a:long, Rest:dynamic", ["2", '{"b":"x"}']))
