@@ -3,10 +3,11 @@ import argparse
 import datetime
 import re
 
+import logs
 from cells import TYPES
 from problems import KINDS, choices_of
 from rejects import Beside, rejects_of
-from sources import FORMATS
+from sources import FORMATS, NAMED
 from times import Moments, offset
 
 KINDS_TOLD = "\n".join(f"  {kind:<10} {what}: {', '.join(choices)}" for kind, (what, choices) in KINDS.items())
@@ -15,7 +16,7 @@ KINDS_TOLD = "\n".join(f"  {kind:<10} {what}: {', '.join(choices)}" for kind, (w
 def add_load_options(parser):
     """Adds the options that say how files are read."""
     shape = parser.add_argument_group("what the files are")
-    shape.add_argument("--format", choices=["auto", *FORMATS], default="auto", help="found from the first lines where it isn't said")
+    shape.add_argument("--format", metavar="FORMAT", type=format_of, default="auto", help=f"found from the first lines where it isn't said: {', '.join(FORMATS)}, or nginx:FORMAT or apache:FORMAT, as log_format and LogFormat have it")
     shape.add_argument("--delimiter", metavar="C", help="what stands between the cells of CSV, as ';'")
     shape.add_argument("--no-quotes", dest="quotes", action="store_false", help="a quote is a sign like others")
     header = shape.add_mutually_exclusive_group()
@@ -37,6 +38,18 @@ def add_load_options(parser):
     bad = parser.add_argument_group("records that can't be given as they stand")
     bad.add_argument("--on", metavar="KIND=CHOICE", action="append", default=[], help="what becomes of a kind; the kinds stand below. `stop` or `reject` alone is for all kinds")
     bad.add_argument("--rejects", metavar="FILE", help="records that would stop the loading go into this file, as they are; it is made, and never over another one")
+
+
+def format_of(text):
+    """A format that --format names."""
+    if text.startswith(NAMED):
+        try:
+            logs.named(text)
+        except ValueError as fault:
+            raise argparse.ArgumentTypeError(str(fault)) from None
+    elif text not in ("auto", *FORMATS):
+        raise argparse.ArgumentTypeError(f"there is no format {text!r}; there are {', '.join(FORMATS)}, and nginx:.. and apache:..")
+    return text
 
 
 def words(text):

@@ -166,6 +166,8 @@ class Loading:
         given, batches = self.script.given, self.script.batches
         self.rows += given
         rate = f", {given / seconds:,.0f} rows/s" if seconds > 0 and given else ""
+        for told in getattr(source.reader, "told", tuple)():
+            self.say(f"{source.path}: {told}")
         self.say(f"{source.path}: {names.counted(given, 'row')} in {names.counted(batches, 'batch')}, {seconds:.1f} s{rate}")
 
     def stop(self, fault):

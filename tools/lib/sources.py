@@ -20,6 +20,8 @@ SAMPLE_BYTES = 2**26
 FOLLOWING = 20
 NAME_LIKE = re.compile(r"[^\W\d].{0,63}")
 FORMATS = ["csv", "tsv", "json", *logs.FORMATS]
+# What stands before a format that is given itself.
+NAMED = ("nginx:", "apache:")
 
 
 class Lenient:
@@ -75,6 +77,8 @@ class Source:
         """Opens a file to load it: many may be looked at before the first is loaded."""
         if self.input.is_regular:
             self.input = Input(self.path, self.problems)
+        if isinstance(self.reader, logs.Lines):
+            self.reader.begin()
         if not self.options.year:
             self.options.moments.latest = self.input.changed
 
@@ -96,7 +100,9 @@ class Source:
 
     def reader_of(self, name, lines):
         if name in logs.FORMATS:
-            return logs.FORMATS[name]()
+            return logs.FORMATS[name]([line.decode("utf-8", "surrogateescape").rstrip("\r") for line in lines])
+        if name.startswith(NAMED):
+            return logs.named(name)
         if name == "json":
             return objects.Objects()
         delimiter = self.options.delimiter or ("\t" if name == "tsv" else delimiter_of(lines))
@@ -213,13 +219,16 @@ class Source:
         """Adds what the first records show of each field to what is known."""
         if isinstance(self.reader, logs.Lines):
             self.fields = list(self.reader.fields)
-            return
+            if set(self.fields) <= set(self.reader.types):
+                return
         seen, nulls = 0, self.options.nulls
         native = isinstance(self.reader, objects.Objects)
         for table, _ in self.tables(self.lenient, self.behind_heading(self.sample)):
             room = SAMPLE - seen
             names = dict.fromkeys(itertools.chain.from_iterable(table.records[:room])) if native else table.columns
             for name in names:
+                if name in getattr(self.reader, "types", ()):
+                    continue
                 if name not in known:
                     known[name] = (ObjectEvidence if native else Evidence)(self.options.moments)
                 known[name].add([value for value in table.columns[name][:room] if not nulls or value not in nulls])
@@ -314,8 +323,8 @@ def sniffed(path, lines):
         return "json"
     if first == "[" or first.startswith("[{"):
         raise Stopped(f"{path}: is one JSON array and no JSON lines; try jq -c '.[]' {path} | tools/load - ..")
-    for name in ("combined", "common", "syslog5424", "syslog"):
-        pattern = logs.FORMATS[name]().one
+    for name, reader in logs.FORMATS.items():
+        pattern = reader().one
         if texts and sum(1 for text in texts if pattern.fullmatch(text)) * 2 >= len(texts):
             return name
     return "tsv" if path.split(".gz")[0].endswith((".tsv", ".tab")) else "csv"
