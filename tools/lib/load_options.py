@@ -1,5 +1,6 @@
 """The words of tools/load, which ./kq-log takes too."""
 import argparse
+import copy
 import datetime
 import re
 
@@ -34,6 +35,7 @@ def add_load_options(parser):
     script = parser.add_argument_group("what is written")
     script.add_argument("--batch", metavar="N", type=int, default=10_000, help="rows of a batch, which also ends at a megabyte (10000)")
     script.add_argument("--no-table", dest="table", action="store_false", help="leaves .create table out")
+    script.add_argument("--table", metavar="NAME=FILE", dest="others", action="append", default=[], help="loads another file into another table; may be given several times")
     script.add_argument("--print-schema", action="store_true", help="prints the columns that were found, and loads nothing")
     bad = parser.add_argument_group("records that can't be given as they stand")
     bad.add_argument("--on", metavar="KIND=CHOICE", action="append", default=[], help="what becomes of a kind; the kinds stand below. `stop` or `reject` alone is for all kinds")
@@ -81,6 +83,8 @@ def settled(options, going_on=False):
         if options.types.get(name, "long") != "long":
             raise ValueError(f"--scale {name}:{digits}: the column is a long, and --type says {options.types[name]}")
         options.scales[name] = int(digits)
+    options.others = list(others_of(options.others))
+    options.is_other = False
     if not 1 <= options.batch <= 2**20:
         raise ValueError("--batch N: N is 1 to 1048576")
     if options.delimiter is not None and (len(options.delimiter) != 1 or options.delimiter in "\"\r\n"):
@@ -95,6 +99,25 @@ def settled(options, going_on=False):
     latest = datetime.datetime(options.year, 12, 31, 23, 59, 59) - datetime.timedelta(days=1) if options.year else None
     options.moments = Moments("" if zone == "Z" else zone, latest)
     return options
+
+
+def parts(options):
+    """The options of each table: first those of --into, then those of each --table. What says how columns are read is for all that have them."""
+    yield options
+    for table, path in options.others:
+        part = copy.copy(options)
+        part.into, part.files, part.is_other = table, [path], True
+        part.format = part.names = part.header = part.only = part.rest = None
+        yield part
+
+
+def others_of(words):
+    """The tables and files of --table NAME=FILE."""
+    for word in words:
+        name, equal, path = word.partition("=")
+        if not (name and equal and path):
+            raise ValueError(f"--table {word}: it is NAME=FILE")
+        yield name, path
 
 
 def formatter(prog):

@@ -187,8 +187,13 @@ class Loading:
                 self.say(f"{column.name}: {names.counted(column.judge.rewritten, 'cell')} rewritten as a {column.kind}")
         for line in self.problems.told():
             self.say(line)
-        for path, count in self.options.rejects.close() if self.options.rejects is not None else ():
-            self.say(f"{names.counted(count, 'record')} that didn't go in: {path}, as {'it was' if count == 1 else 'they were'}")
+        tell_rejects(self.options, self.say)
+
+
+def tell_rejects(options, say):
+    """Says in which files rejected records are, and how many."""
+    for path, count in options.rejects.told() if options.rejects is not None else ():
+        say(f"{names.counted(count, 'record')} that didn't go in: {path}, as {'it was' if count == 1 else 'they were'}")
 
 
 def schema(table, columns):

@@ -30,6 +30,7 @@ class Table:
         self.count = count
         self.native = native
         self.clean = clean
+        self.is_text = False  # whether the values of records with fields of their own are all texts
         self.lines = None
         self.records = None  # the objects, where they are such
 
@@ -143,9 +144,9 @@ class Plan:
         return [bag or None for bag in bags]
 
     def dynamics(self, column, values, table, problems, at):
-        if table.native or column.name == self.rest:
+        if table.native and not table.is_text or column.name == self.rest:
             return objects.dynamics_of(values, table.clean, problems, at)
-        return self.reader.read(values, problems, at)
+        return self.reader.read(objects.texts_of(values) if table.is_text else values, problems, at)
 
     @staticmethod
     def text_cells(column, texts, problems, at, rejected):
@@ -198,7 +199,7 @@ def planned(fields, evidence, fixed, options):
     """The columns for the fields that were found, in order, and what is to be said of them."""
     notes, columns = [], []
     unknown = [name for name in (*options.types, *options.scales, *(options.only or ())) if name not in fields and name != options.rest]
-    if unknown:
+    if unknown and not options.others:
         raise Stopped(f"there is no column {unknown[0]}; the columns are {', '.join(fields)}")
     chosen = list(options.only or fields)
     room = MOST_COLUMNS - (1 if options.rest else 0)

@@ -1,8 +1,11 @@
 """Progress on standard error, by `rich` where it is a terminal."""
 import sys
 
+from widths import visible
+
 try:
     from rich.console import Console
+    from rich.markup import escape
     from rich.progress import BarColumn, Progress, TextColumn, TimeRemainingColumn, TransferSpeedColumn
 except ImportError:
     Progress = None
@@ -41,7 +44,7 @@ class Bar:
 
     def begin(self, source):
         self.bar.start()
-        self.task = self.bar.add_task(source.name, total=source.size, rows=0, rate=0.0)
+        self.task = self.bar.add_task(escape(visible(source.name)), total=source.size, rows=0, rate=0.0)
 
     def advance(self, taken, rows):
         seconds = self.bar.tasks[self.task].elapsed or 0

@@ -11,7 +11,7 @@ class Rejects:
         self.path = path
         self.file = open(path, mode)
         self.heading = self.written = b""
-        self.count = 0
+        self.count, self.fresh = 0, False
 
     def begin(self, source, heading):
         """Records of another file follow."""
@@ -23,11 +23,16 @@ class Rejects:
             self.written = self.heading
         self.file.write(raw)
         self.count += 1
+        self.fresh = True
+
+    def told(self):
+        """The files that have got records since this was asked last, each with how many it has."""
+        self.file.flush()
+        fresh, self.fresh = self.fresh, False
+        return [(self.path, self.count)] if fresh else []
 
     def close(self):
-        """Closes the file, and gives the files that have records, each with how many."""
         self.file.close()
-        return [(self.path, self.count)] if self.count else []
 
 
 class Beside:
@@ -46,8 +51,12 @@ class Beside:
         file.begin(self.source, self.heading)
         file.write(raw)
 
+    def told(self):
+        return [told for file in self.files.values() for told in file.told()]
+
     def close(self):
-        return [told for file in self.files.values() for told in file.close()]
+        for file in self.files.values():
+            file.close()
 
 
 def made_beside(source):

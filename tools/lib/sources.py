@@ -5,8 +5,10 @@ import re
 
 import csvs
 import jsons
+import logfmt
 import logs
 import objects
+import text_lines
 from cells import Evidence
 from inputs import Input
 from names import distinct_names, is_word
@@ -18,8 +20,13 @@ SAMPLE = 10_000
 SAMPLE_BYTES = 2**26
 # How many records behind the first tell whether it has names.
 FOLLOWING = 20
+# What stands behind a datetime in front of a line of text, and what no cell alone has.
+TEXT_BEHIND = re.compile(r"[:-]? +(?:[^ \t,;|0-9]|[0-9]+ +[A-Za-z\[])")
+WORDS = re.compile(r"[A-Za-z]{2,} +[A-Za-z]{2,}")
 NAME_LIKE = re.compile(r"[^\W\d].{0,63}")
-FORMATS = ["csv", "tsv", "json", *logs.FORMATS]
+FORMATS = ["csv", "tsv", "json", "journald", "logfmt", "lines", *logs.FORMATS]
+# Formats whose records have fields of their own.
+FREE = {"json": objects.Objects, "journald": objects.Journal, "logfmt": logfmt.Logfmt}
 # What stands before a format that is given itself.
 NAMED = ("nginx:", "apache:")
 
@@ -99,12 +106,15 @@ class Source:
             yield chunk
 
     def reader_of(self, name, lines):
+        texts = [line.decode("utf-8", "surrogateescape").rstrip("\r") for line in lines]
         if name in logs.FORMATS:
-            return logs.FORMATS[name]([line.decode("utf-8", "surrogateescape").rstrip("\r") for line in lines])
+            return logs.FORMATS[name](texts)
+        if name == "lines":
+            return text_lines.Text(texts)
+        if name in FREE:
+            return FREE[name]()
         if name.startswith(NAMED):
             return logs.named(name)
-        if name == "json":
-            return objects.Objects()
         delimiter = self.options.delimiter or ("\t" if name == "tsv" else delimiter_of(lines))
         return csvs.Csv(delimiter, self.options.quotes)
 
@@ -162,17 +172,18 @@ class Source:
             for run in cutter.runs(chunks):
                 yield self.csv_table(run, problems)
             return
-        for chunk in chunks:
+        for chunk in self.reader.cut(chunks) if isinstance(self.reader, text_lines.Text) else chunks:
             yield self.table(chunk, problems)
 
     def table(self, chunk, problems):
         """The records of a chunk as a table, and what tells their lines."""
         found, lines = self.reader.read(chunk, problems)
         places = Places(chunk, lines)
-        if isinstance(self.reader, objects.Objects):
+        if self.reader.name in FREE:
             fields = dict.fromkeys(itertools.chain.from_iterable(found))
             columns = {name: [record.get(name) for record in found] for name in fields}
             table = Table(columns, len(found), native=True, clean=self.reader.clean)
+            table.is_text = isinstance(self.reader, logfmt.Logfmt)
             table.records = found
             return table, places
         return Table(dict(zip(self.reader.fields, found)), len(found[0])), places
@@ -217,12 +228,12 @@ class Source:
 
     def evidence(self, known):
         """Adds what the first records show of each field to what is known."""
-        if isinstance(self.reader, logs.Lines):
+        if hasattr(self.reader, "fields"):
             self.fields = list(self.reader.fields)
             if set(self.fields) <= set(self.reader.types):
                 return
         seen, nulls = 0, self.options.nulls
-        native = isinstance(self.reader, objects.Objects)
+        native = self.reader.name in FREE
         for table, _ in self.tables(self.lenient, self.behind_heading(self.sample)):
             room = SAMPLE - seen
             names = dict.fromkeys(itertools.chain.from_iterable(table.records[:room])) if native else table.columns
@@ -230,8 +241,8 @@ class Source:
                 if name in getattr(self.reader, "types", ()):
                     continue
                 if name not in known:
-                    known[name] = (ObjectEvidence if native else Evidence)(self.options.moments)
-                known[name].add([value for value in table.columns[name][:room] if not nulls or value not in nulls])
+                    known[name] = (ObjectEvidence if native and not table.is_text else Evidence)(self.options.moments)
+                known[name].add([value for value in table.columns[name][:room] if (not nulls or value not in nulls) and (value is not None or not table.is_text)])
             seen += table.count
             if seen >= SAMPLE:
                 break
@@ -248,7 +259,7 @@ class Places:
 
     def span(self, place):
         line = self.lines[place] if self.lines is not None else place
-        return line, line + 1
+        return line if isinstance(line, tuple) else (line, line + 1)
 
     def at(self, place):
         return self.chunk.place(self.span(place)[0])
@@ -320,14 +331,28 @@ def sniffed(path, lines):
     if first.startswith("{"):
         if first == "{" or (len(texts) > 1 and not any(text.strip().endswith("}") for text in texts[:1])):
             raise_if_spread(path, first)
-        return "json"
+        return "journald" if '"__REALTIME_TIMESTAMP"' in first and '"__CURSOR"' in first else "json"
     if first == "[" or first.startswith("[{"):
         raise Stopped(f"{path}: is one JSON array and no JSON lines; try jq -c '.[]' {path} | tools/load - ..")
     for name, reader in logs.FORMATS.items():
         pattern = reader().one
         if texts and sum(1 for text in texts if pattern.fullmatch(text)) * 2 >= len(texts):
             return name
-    return "tsv" if path.split(".gz")[0].endswith((".tsv", ".tab")) else "csv"
+    if texts and sum(map(logfmt.is_logfmt, texts)) * 2 >= len(texts):
+        return "logfmt"
+    if are_text(texts):
+        return "lines"
+    return "tsv" if re.sub("\\.(?:gz|bz2|xz|zst)$", "", path).endswith((".tsv", ".tab")) else "csv"
+
+
+def are_text(texts):
+    """Whether lines are text, and no cells with delimiters: the first begins with a datetime and a word, or none has a delimiter and some has words."""
+    if not texts:
+        return False
+    begun = text_lines.START.match(texts[0])
+    if begun is not None and TEXT_BEHIND.match(texts[0], begun.end()):
+        return True
+    return not is_word(texts[0].strip()) and not any(sign in text for text in texts for sign in ",\t;|\"") and any(WORDS.search(text.strip()) for text in texts)
 
 
 def raise_if_spread(path, first):

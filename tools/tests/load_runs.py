@@ -94,20 +94,24 @@ class Folder:
         os.chdir(self.path)
         try:
             options = load_options.settled(parser.parse_args(words), going_on)
-            call = loading.Loading(options, out, told.append, progress.Quiet())
-            try:
-                call.run()
-                status = 0
-            except problems.Stopped as fault:
-                call.stop(fault)
-                status = 1
-            call.summary()
-            return Loaded(status, out.getvalue(), "\n".join(told), self.rejected(options), call.sent)
+            status, sent = 0, []
+            for part in load_options.parts(options):
+                call = loading.Loading(part, out, told.append, progress.Quiet())
+                try:
+                    call.run()
+                except problems.Stopped as fault:
+                    call.stop(fault)
+                    status = 1
+                call.summary()
+                sent += call.sent
+            return Loaded(status, out.getvalue(), "\n".join(told), self.rejected(options), sent)
         finally:
             os.chdir(before)
 
     @staticmethod
     def rejected(options):
+        if options.rejects is not None:
+            options.rejects.close()
         if not hasattr(options.rejects, "path"):
             return None
         with open(options.rejects.path, "rb") as file:

@@ -1,6 +1,9 @@
 """Bad input: each kind is loaded right, or ends with a sentence that says where and why; nothing is lost in silence."""
+import bz2
 import gzip
+import lzma
 import os
+import shutil
 import subprocess
 import sys
 import tempfile
@@ -15,6 +18,22 @@ class Files(unittest.TestCase):
     def test_compressed_files_of_one_and_of_several_members(self):
         whole = gzip.compress(b"n,s\n1,x\n") + gzip.compress(b"2,y\n")
         self.assertEqual(loaded(whole, name="a.csv.gz").rows, [["1", "x"], ["2", "y"]])
+
+    def test_files_of_bzip2_xz_and_zstd(self):
+        lines = b"n,s\n" + b"".join(b"%d,x%d\n" % (i, i * 7919 % 1000003) for i in range(40_000))
+        kinds = {"bz2": lambda data: bz2.compress(data, 1), "xz": lzma.compress, "zst": lambda data: subprocess.run(["zstd", "-cq"], input=data, stdout=subprocess.PIPE, check=True).stdout}
+        for kind, compress in kinds.items():
+            if kind == "zst" and shutil.which("zstd") is None:
+                continue
+            with self.subTest(kind=kind):
+                whole = compress(lines)
+                self.assertEqual(len(loaded(whole, name=f"a.csv.{kind}").rows), 40_000)
+                self.assertEqual(loaded(compress(b"n,s\n1,x\n") + compress(b"2,y\n"), name="a.csv").rows, [["1", "x"], ["2", "y"]])
+                cut = loaded(whole[: len(whole) * 2 // 3], name=f"a.csv.{kind}")
+                self.assertEqual(cut.status, 1)
+                self.assertIn(f"a.csv.{kind}: the compressed data ends early or is damaged", cut.told)
+                kept = loaded(whole[: len(whole) * 2 // 3], "--on", "truncated=keep", name=f"a.csv.{kind}")
+                self.assertEqual((kept.status, kept.rows), (0, [line.decode().split(",") for line in lines.split(b"\n")[1 : len(kept.rows) + 1]]))
 
     def test_a_truncated_compressed_file(self):
         lines = "".join(f"{i},{i * 7919 % 1000003}\n" for i in range(30000))
@@ -93,9 +112,9 @@ class Files(unittest.TestCase):
 
     def test_files_that_arent_there_or_are_no_text(self):
         with Folder() as folder:
-            folder.put("a.csv", b"BZh91AY")
+            folder.put("a.csv", b"PK\3\4 and so on")
             folder.put("b.csv", "a,b\n1,2\n".encode("utf-16"))
-            for name, why in [("a.csv", "compressed by bzip2"), ("b.csv", "UTF-16"), ("c.csv", "No such file"), (".", "directory")]:
+            for name, why in [("a.csv", "a zip archive"), ("b.csv", "UTF-16"), ("c.csv", "No such file"), (".", "directory")]:
                 with self.subTest(name=name):
                     with self.assertRaises(Exception) as stopped:
                         found = folder.load(name)
