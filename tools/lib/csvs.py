@@ -31,7 +31,7 @@ class Csv:
         if "\r" in text:
             text = text[:-1] if text.endswith("\r") else text
             text = text.replace("\r\n", "\n")
-        if "\r" in text or width == 1 and b"" in chunk.lines:
+        if "\r" in text or width == 1 and (b"" in chunk.lines or b"\r" in chunk.lines):
             return None
         sign, count = self.delimiter, len(chunk.lines)
         cells = text.replace("\n", f"{sign}\n{sign}").split(sign)

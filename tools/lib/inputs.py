@@ -123,7 +123,9 @@ class Input:
             if first.startswith(mark):
                 raise Stopped(f"{self.path}: is {what}; try {command} {'FILE' if self.path == '-' else self.path} | tools/load - ..")
         pieces = self.inflated(first) or self.plain(first)
-        first = next(pieces, b"")
+        first = b""
+        while len(first) < 3 and (piece := next(pieces, b"")):
+            first += piece
         yield first[3:] if first.startswith(b"\xef\xbb\xbf") else first
         yield from pieces
 

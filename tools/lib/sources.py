@@ -210,7 +210,7 @@ class Source:
             return None
         keep, fitting = [], []
         for place, record in enumerate(records):
-            if len(record) == 1 and not record[0].strip() and not spans.raw(place).strip():
+            if len(record) == 1 < width and not record[0].strip() and not spans.raw(place).strip():
                 continue
             if len(record) < width:
                 choice = problems.meet("short", spans.at(place), f"the record has {len(record)} cells, and there are {width} columns")

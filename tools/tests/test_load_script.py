@@ -173,6 +173,11 @@ class Rows(unittest.TestCase):
         found = loaded('a\r\nx\r\n \r\ny\r\n', "--header")
         self.assertEqual(found.rows, [["x"], [" "], ["y"]])
 
+    def test_blank_lines_of_one_column_are_records_beside_wide_ones_too_and_empty_ones_never(self):
+        found = loaded("a\nx\n \n1,2\n\t\ny\n", "--header", "--rejects", "bad")
+        self.assertEqual((found.rows, found.rejects), ([["x"], [" "], ["\t"], ["y"]], b"a\n1,2\n"))
+        self.assertEqual(loaded("a\nx\n\r", "--header").rows, [["x"]])
+
     def test_a_byte_order_mark_of_a_file_is_dropped(self):
         self.assertEqual(loaded("\ufeffa,b\n1,x\n").columns, "a:long, b:string")
 
