@@ -99,15 +99,18 @@ class Judge:
                 continue
             text = self.exact(cell.strip(BLANKS))
             if text is None:
-                bad.append((place, f"{cell[:60]!r} is no {self.kind}{self.said_scale()}"))
+                bad.append((place, f"{cell[:60]!r} {self.wrong(cell.strip(BLANKS))}"))
                 text = ""
             elif text != cell:
                 self.rewritten += 1
             found[place] = text
         return found, bad
 
-    def said_scale(self):
-        return "" if self.scale is None else f" with at most {self.scale} decimals"
+    def wrong(self, text):
+        """What keeps a text from being of the type."""
+        if self.scale is not None:
+            return f"is no {self.kind} with at most {self.scale} decimals"
+        return f"is too large for {'an' if self.kind == 'int' else 'a'} {self.kind}" if self.kind in RANGES and WHOLE.fullmatch(text) else f"is no {self.kind}"
 
     def exact(self, text):
         """What is written for a cell without blanks at its ends, or none."""
@@ -189,7 +192,7 @@ class Evidence:
         self.moments = moments
         self.may = ["long", "bool", "timespan", "datetime", "dynamic", "decimal", "epoch"]
         self.any = False
-        self.decimals = 0
+        self.decimals = self.wholes = 0  # the most digits behind the point, and before it
         self.padded = False
 
     def add(self, cells):
@@ -228,10 +231,16 @@ class Evidence:
         return times.EPOCH.fullmatch(text) is not None
 
     def may_be_decimal(self, text):
-        if not DECIMAL.fullmatch(text):
+        if not DECIMAL.fullmatch(text) or len(text) > 60:
             return False
-        self.decimals = max(self.decimals, len(text.partition(".")[2]))
+        self.measure(text)
         return True
+
+    def measure(self, text):
+        """Takes into account how many digits a decimal number has."""
+        number = Decimal(text)
+        self.decimals = max(self.decimals, -number.as_tuple().exponent)
+        self.wholes = max(self.wholes, number.adjusted() + 1)
 
     def kind(self):
         """The type of the column."""
@@ -251,6 +260,10 @@ class Evidence:
         if "long" in self.may:
             return f"{name} may count since 1970; --type {name}:datetime reads it as datetimes" if "epoch" in self.may else None
         if "decimal" in self.may:
-            scale = max(1, self.decimals)
+            if self.decimals <= 0:
+                return f"{name} has whole numbers that are too large for a long, and are kept as strings"
+            scale = self.decimals
+            if scale + self.wholes > 18:
+                return f"{name} has numbers with a fraction, which have no type here and are kept as strings"
             return f"{name} has numbers with a fraction, which have no type here and are kept as strings; --scale {name}:{scale} reads them as longs, {10**scale:,} for each 1"
         return None

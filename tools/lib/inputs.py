@@ -4,8 +4,8 @@ import io
 import os
 import stat
 import sys
-import zlib
 
+import compression
 from problems import Stopped
 
 PIECE = 2**17
@@ -14,9 +14,6 @@ LONGEST = 2**24
 OTHERS = [
     (b"\xff\xfe", "UTF-16", "iconv -f UTF-16 -t UTF-8"),
     (b"\xfe\xff", "UTF-16", "iconv -f UTF-16 -t UTF-8"),
-    (b"BZh", "compressed by bzip2", "bzip2 -dc"),
-    (b"\xfd7zXZ\0", "compressed by xz", "xz -dc"),
-    (b"\x28\xb5\x2f\xfd", "compressed by zstd", "zstd -dc"),
     (b"PK\3\4", "a zip archive", "unzip -p"),
 ]
 
@@ -50,9 +47,13 @@ class Chunk:
     def raw(self, first, behind):
         return b"".join(line + b"\n" for line in self.lines[first:behind])
 
-    def is_full(self, start):
-        """Whether the lines from here on are too many for one record."""
-        return sum(map(len, self.lines[start:])) + len(self.lines) - start > LONGEST
+    def as_last(self):
+        """The same lines, behind which no others come."""
+        return Chunk(self.name, self.number, self.lines, True)
+
+    def first(self, count):
+        """The first lines."""
+        return Chunk(self.name, self.number, self.lines[:count])
 
     def without(self, count):
         """What follows the first lines."""
@@ -98,11 +99,9 @@ class Input:
         return datetime.datetime.now()
 
     @property
-    def identity(self):
-        """File name, size and time of change; none of what is no file."""
-        if not self.is_regular:
-            return None
-        return f"{self.name} {self.size} {self.changed.isoformat()}.{self.state.st_mtime_ns % 10**9:09}Z"
+    def owner(self):
+        """What tells the file from others, whatever its name."""
+        return (self.state.st_dev, self.state.st_ino) if self.is_regular else self.path
 
     def read(self):
         """The next bytes; none at the end. As many as there can be, so that chunks don't hang on who writes."""
@@ -123,8 +122,10 @@ class Input:
         for mark, what, command in OTHERS:
             if first.startswith(mark):
                 raise Stopped(f"{self.path}: is {what}; try {command} {'FILE' if self.path == '-' else self.path} | tools/load - ..")
-        pieces = self.inflated(first) if first.startswith(b"\x1f\x8b") else self.plain(first)
-        first = next(pieces, b"")
+        pieces = self.inflated(first) or self.plain(first)
+        first = b""
+        while len(first) < 3 and (piece := next(pieces, b"")):
+            first += piece
         yield first[3:] if first.startswith(b"\xef\xbb\xbf") else first
         yield from pieces
 
@@ -133,26 +134,19 @@ class Input:
             yield piece
             piece = self.read()
 
-    def inflated(self, piece):
-        """The members of a compressed file, one after the other."""
-        inflater = None
+    def inflated(self, first):
+        """What compressed data holds, or none where the file isn't compressed."""
         try:
-            while piece:
-                inflater = inflater or zlib.decompressobj(31)
-                yield inflater.decompress(piece, PIECE)
-                piece = inflater.unused_data if inflater.eof else inflater.unconsumed_tail
-                inflater = None if inflater.eof else inflater
-                if inflater is None:
-                    piece = piece.lstrip(b"\0")
-                piece = piece or self.read()
-            while inflater and not inflater.eof:
-                rest = inflater.decompress(b"", PIECE)
-                if not rest:
-                    raise zlib.error("the end is missing")
-                yield rest
-        except zlib.error as fault:
-            why = str(fault).split(": ")[-1]
-            self.problems.meet("truncated", self.path, f"the compressed data ends early or is damaged ({why})")
+            pieces = compression.pieces(first, self.read, PIECE)
+        except compression.Missing as fault:
+            raise Stopped(f"{self.path}: {fault}") from None
+        return pieces and self.up_to_damage(pieces)
+
+    def up_to_damage(self, pieces):
+        try:
+            yield from pieces
+        except compression.Damaged as fault:
+            self.problems.meet("truncated", self.path, f"the compressed data ends early or is damaged ({fault})")
             self.is_cut = True
 
     def chunks(self):

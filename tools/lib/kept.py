@@ -3,6 +3,8 @@ import os
 import shutil
 import tempfile
 
+from outlets import outlet
+
 # What of replies says that a command changed what a later question finds.
 CHANGES = ("done", "ingested", "exporting")
 
@@ -33,8 +35,8 @@ class Kept:
         return self.file is not None
 
     def beside(self, stream):
-        """A stream that hands on what is written to another, and keeps it."""
-        self.stream = stream
+        """A stream that hands on what is written to another, each command in one piece, and keeps it."""
+        self.stream = outlet(stream)
         return self
 
     def write(self, text):

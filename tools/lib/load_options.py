@@ -1,56 +1,23 @@
 """The words of tools/load, which ./kq-log takes too."""
 import argparse
+import copy
 import datetime
-import os
 import re
 
+import logs
 from cells import TYPES
 from problems import KINDS, choices_of
-from sources import FORMATS
+from rejects import Beside, rejects_of
+from sources import FORMATS, NAMED
 from times import Moments, offset
 
 KINDS_TOLD = "\n".join(f"  {kind:<10} {what}: {', '.join(choices)}" for kind, (what, choices) in KINDS.items())
 
 
-class Rejects:
-    """The file of rejected records. Before those of a file with names of columns these stand, so that it can be loaded itself."""
-
-    def __init__(self, path):
-        self.path = path
-        self.file = open(path, "wb")
-        self.heading = self.written = b""
-
-    def begin(self, heading):
-        """Records of another file follow."""
-        self.heading = heading
-
-    def write(self, raw):
-        if self.heading != self.written:
-            self.file.write(self.heading)
-            self.written = self.heading
-        self.file.write(raw)
-
-    def close(self):
-        self.file.close()
-
-
-def rejects_of(options):
-    """The file of rejected records, where one is asked for. It is none of those that are loaded."""
-    path = options.rejects
-    if path is None:
-        return None
-    if any(name != "-" and os.path.exists(path) and os.path.exists(name) and os.path.samefile(name, path) for name in options.files):
-        raise ValueError(f"--rejects {path}: this file is to be loaded")
-    try:
-        return Rejects(path)
-    except OSError as fault:
-        raise ValueError(f"--rejects {path}: {fault.strerror}") from None
-
-
 def add_load_options(parser):
     """Adds the options that say how files are read."""
     shape = parser.add_argument_group("what the files are")
-    shape.add_argument("--format", choices=["auto", *FORMATS], default="auto", help="found from the first lines where it isn't said")
+    shape.add_argument("--format", metavar="FORMAT", type=format_of, default="auto", help=f"found from the first lines where it isn't said: {', '.join(FORMATS)}, or nginx:FORMAT or apache:FORMAT, as log_format and LogFormat have it")
     shape.add_argument("--delimiter", metavar="C", help="what stands between the cells of CSV, as ';'")
     shape.add_argument("--no-quotes", dest="quotes", action="store_false", help="a quote is a sign like others")
     header = shape.add_mutually_exclusive_group()
@@ -66,12 +33,25 @@ def add_load_options(parser):
     columns.add_argument("--only", metavar="NAME,..", type=words, help="takes these columns alone, in this order")
     columns.add_argument("--rest", metavar="NAME", help="a dynamic column for all fields that have none of their own")
     script = parser.add_argument_group("what is written")
-    script.add_argument("--batch", metavar="N", type=int, default=10_000, help="rows of a batch (10000)")
+    script.add_argument("--batch", metavar="N", type=int, default=10_000, help="rows of a batch, which also ends at a megabyte (10000)")
     script.add_argument("--no-table", dest="table", action="store_false", help="leaves .create table out")
+    script.add_argument("--table", metavar="NAME=FILE", dest="others", action="append", default=[], help="loads another file into another table; may be given several times")
     script.add_argument("--print-schema", action="store_true", help="prints the columns that were found, and loads nothing")
     bad = parser.add_argument_group("records that can't be given as they stand")
-    bad.add_argument("--on", metavar="KIND=CHOICE", action="append", default=[], help="what becomes of a kind; the kinds stand below")
-    bad.add_argument("--rejects", metavar="FILE", help="records that would stop the loading go into this file, as they are")
+    bad.add_argument("--on", metavar="KIND=CHOICE", action="append", default=[], help="what becomes of a kind; the kinds stand below. `stop` or `reject` alone is for all kinds")
+    bad.add_argument("--rejects", metavar="FILE", help="records that would stop the loading go into this file, as they are; it is made, and never over another one")
+
+
+def format_of(text):
+    """A format that --format names."""
+    if text.startswith(NAMED):
+        try:
+            logs.named(text)
+        except ValueError as fault:
+            raise argparse.ArgumentTypeError(str(fault)) from None
+    elif text not in ("auto", *FORMATS):
+        raise argparse.ArgumentTypeError(f"there is no format {text!r}; there are {', '.join(FORMATS)}, and nginx:.. and apache:..")
+    return text
 
 
 def words(text):
@@ -89,8 +69,8 @@ def pairs(groups, what):
     return found
 
 
-def settled(options):
-    """Makes the words what the loading takes; a ValueError says what is wrong."""
+def settled(options, going_on=False):
+    """Makes the words what the loading takes; a ValueError says what is wrong. `going_on` says that no spoiled record ends a loading."""
     options.types = pairs(options.types, "--type")
     for name, kind in options.types.items():
         if kind not in TYPES:
@@ -103,6 +83,8 @@ def settled(options):
         if options.types.get(name, "long") != "long":
             raise ValueError(f"--scale {name}:{digits}: the column is a long, and --type says {options.types[name]}")
         options.scales[name] = int(digits)
+    options.others = list(others_of(options.others))
+    options.is_other = False
     if not 1 <= options.batch <= 2**20:
         raise ValueError("--batch N: N is 1 to 1048576")
     if options.delimiter is not None and (len(options.delimiter) != 1 or options.delimiter in "\"\r\n"):
@@ -110,12 +92,32 @@ def settled(options):
     zone = offset(options.zone) if re.fullmatch("|Z|z|UTC|GMT|[+-][0-9]{2}(:?[0-9]{2})?", options.zone) else None
     if zone is None:
         raise ValueError(f"--zone {options.zone}: it is written as +01:00")
+    options.going_on = going_on
+    options.rejects = rejects_of(options) or (Beside() if going_on else None)
     options.choices = choices_of(options.on, options.rejects)
-    options.rejects = rejects_of(options)
     options.format = None if options.format == "auto" else options.format
     latest = datetime.datetime(options.year, 12, 31, 23, 59, 59) - datetime.timedelta(days=1) if options.year else None
     options.moments = Moments("" if zone == "Z" else zone, latest)
     return options
+
+
+def parts(options):
+    """The options of each table: first those of --into, then those of each --table. What says how columns are read is for all that have them."""
+    yield options
+    for table, path in options.others:
+        part = copy.copy(options)
+        part.into, part.files, part.is_other = table, [path], True
+        part.format = part.names = part.header = part.only = part.rest = None
+        yield part
+
+
+def others_of(words):
+    """The tables and files of --table NAME=FILE."""
+    for word in words:
+        name, equal, path = word.partition("=")
+        if not (name and equal and path):
+            raise ValueError(f"--table {word}: it is NAME=FILE")
+        yield name, path
 
 
 def formatter(prog):

@@ -7,6 +7,7 @@ import names
 import plans
 import scripts
 from inputs import LONGEST
+from outlets import outlet
 from problems import Problems, Stopped
 from sources import Source
 
@@ -16,12 +17,16 @@ class Loading:
 
     def __init__(self, options, out, say, progress):
         self.options = options
-        self.out = out
+        self.out = outlet(out)
         self.say = say
         self.progress = progress
-        self.problems = Problems(options.choices, options.rejects)
+        self.problems = Problems(options.choices, options.rejects, options.going_on)
         self.rows = 0
-        self.sent = 0  # batches
+
+    @property
+    def sent(self):
+        """What was written so far of commands that have a reply."""
+        return self.script.sent if hasattr(self, "script") else []
 
     def run(self):
         """Reads the files, and writes the script."""
@@ -37,6 +42,7 @@ class Loading:
 
     def run_on(self, sources):
         for path in self.options.files:
+            self.begin_rejects(path, b"")
             sources.append(Source(path, self.options, self.problems))
         columns = self.columns(sources)
         if columns is None:
@@ -45,7 +51,7 @@ class Loading:
         if self.options.print_schema:
             self.out.write(schema(self.options.into, columns).encode())
             return
-        self.plan = plans.Plan(columns, self.options.only, self.options.rest, self.options.nulls)
+        self.plan = plans.Plan(columns, self.options)
         self.script = scripts.Script(self.out, self.options.into, columns, self.options.batch)
         if self.options.table:
             self.script.create()
@@ -93,9 +99,8 @@ class Loading:
         """Writes the rows of one file."""
         began = time.monotonic()
         source.open()
-        self.script.begin(source.input.identity)
-        if self.options.rejects is not None:
-            self.options.rejects.begin(source.heading_text)
+        self.script.begin(source.path, source.input.name, source.input.owner)
+        self.begin_rejects(source.path, source.heading_text)
         self.progress.begin(source.input)
         for table, places in source.tables(self.problems, source.chunks()):
             if table.count:
@@ -106,6 +111,11 @@ class Loading:
         self.progress.end()
         self.tell(source, time.monotonic() - began)
 
+    def begin_rejects(self, path, heading):
+        """Whatever is rejected from here on is of this file."""
+        if self.options.rejects is not None:
+            self.options.rejects.begin(path, heading)
+
     def give(self, table, places):
         """Gives the records of a table as rows."""
         refused = self.extra(table, places)
@@ -114,7 +124,7 @@ class Loading:
             kept = (place for place in range(table.count) if place not in rejected)
             rows = [row for place, row in zip(kept, rows) if place not in refused]
             rejected |= refused
-        if rows and max(map(len, rows)) >= self.script.room:
+        if rows and max(map(len, rows)) >= self.script.longest:
             rows = self.short_enough(rows, rejected, table, places)
         for place in sorted(rejected):
             self.problems.reject(places.raw(place))
@@ -124,7 +134,7 @@ class Loading:
         """The rows, those aside that are too long for a command."""
         kept, found = [place for place in range(table.count) if place not in rejected], []
         for place, row in zip(kept, rows):
-            if len(row) < self.script.room:
+            if len(row) < self.script.longest:
                 found.append(row)
                 continue
             self.problems.meet("long", places.at(place), f"the record makes a row of {len(row):,} bytes, and a command has at most {LONGEST:,}")
@@ -133,8 +143,12 @@ class Loading:
 
     def extra(self, table, places):
         """The records that are rejected since they have fields that no column has."""
-        rejected = set()
         others = [name for name in table.columns if name not in self.plan.known] if self.plan.open else ()
+        if others and table.native and self.plan.may_grow:
+            if any(value is not None and value != "" for name in others for value in table.columns[name]):
+                self.grow(places)
+            return set()
+        rejected = set()
         for name in others:
             for place, value in enumerate(table.columns[name]):
                 if value is not None and value != "" and place not in rejected:
@@ -142,11 +156,18 @@ class Loading:
                         rejected.add(place)
         return rejected
 
+    def grow(self, places):
+        """Adds a dynamic column for fields that no column has."""
+        column = self.plan.add_rest()
+        self.script.widen(column)
+        self.say(f"{places.chunk.name}: behind line {places.chunk.number:,} come fields that the first records lack; they go into {column.name}. To choose: --rest NAME or --on extra=drop")
+
     def tell(self, source, seconds):
         given, batches = self.script.given, self.script.batches
         self.rows += given
-        self.sent += batches
         rate = f", {given / seconds:,.0f} rows/s" if seconds > 0 and given else ""
+        for told in getattr(source.reader, "told", tuple)():
+            self.say(f"{source.path}: {told}")
         self.say(f"{source.path}: {names.counted(given, 'row')} in {names.counted(batches, 'batch')}, {seconds:.1f} s{rate}")
 
     def stop(self, fault):
@@ -166,6 +187,13 @@ class Loading:
                 self.say(f"{column.name}: {names.counted(column.judge.rewritten, 'cell')} rewritten as a {column.kind}")
         for line in self.problems.told():
             self.say(line)
+        tell_rejects(self.options, self.say)
+
+
+def tell_rejects(options, say):
+    """Says in which files rejected records are, and how many."""
+    for path, count in options.rejects.told() if options.rejects is not None else ():
+        say(f"{names.counted(count, 'record')} that didn't go in: {path}, as {'it was' if count == 1 else 'they were'}")
 
 
 def schema(table, columns):

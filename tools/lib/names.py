@@ -9,17 +9,21 @@ RESERVED = frozenset(
 LITERALS = frozenset("long int64 int bool boolean datetime date timespan time dynamic real double decimal guid".split())
 WORD = re.compile(r"[A-Za-z_][A-Za-z0-9_]*")
 ESCAPES = {"\\": "\\\\", "'": "\\'", "\n": "\\n", "\r": "\\r", "\t": "\\t"}
-SPECIAL = re.compile(r"[\\'\n\r\t]")
+# Signs that would steer a terminal. A string may have each as \uXXXX.
+CONTROLS = "\x00-\x1f\x7f-\x9f\u061c\u200b-\u200f\u2028-\u202e\u2060-\u206f\ufeff\ufff9-\ufffb"
+SPECIAL = re.compile(f"[\\\\'{CONTROLS}]")
 
 
 def quoted(text):
     """A text as a string between single quotes."""
-    return "'" + SPECIAL.sub(lambda found: ESCAPES[found[0]], text) + "'"
+    return "'" + SPECIAL.sub(lambda found: ESCAPES.get(found[0]) or f"\\u{ord(found[0]):04x}", text) + "'"
 
 
 def counted(number, what):
     """A number and what it counts."""
-    return f"{number:,} {what}{'' if number == 1 else 'es' if what.endswith('ch') else 's'}"
+    if number == 1:
+        return f"1 {what}"
+    return f"{number:,} {what[:-1]}ies" if what.endswith(("ply", "ry")) else f"{number:,} {what}{'es' if what.endswith('ch') else 's'}"
 
 
 def is_word(text):

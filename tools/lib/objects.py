@@ -97,3 +97,38 @@ def dynamic_of(value, problems, at):
         return jsons.written(jsons.source(value)) if choice == "text" else jsons.written(value), choice
     except RecursionError:
         raise Stopped(f"{at()}: a member nests too deep to be kept as text") from None
+
+
+class Journal(Objects):
+    """What `journalctl -o json` writes. Its fields of most use are columns, and all others are members of one."""
+
+    name = "journald"
+    columns = {
+        "__REALTIME_TIMESTAMP": "Timestamp",
+        "_HOSTNAME": "Host",
+        "_SYSTEMD_UNIT": "Unit",
+        "SYSLOG_IDENTIFIER": "Application",
+        "_PID": "Process",
+        "PRIORITY": "Severity",
+        "MESSAGE": "Message",
+    }
+    others = "Fields"
+    fields = [*columns.values(), others]
+    types = {**dict.fromkeys(columns.values(), "string"), "Timestamp": "datetime", "Severity": "long", others: "dynamic"}
+
+    def read(self, chunk, problems):
+        found, places = super().read(chunk, problems)
+        return list(map(self.record, found)), places
+
+    def record(self, entry):
+        """An entry as a record of columns. Of a field that came several times, journalctl makes an array."""
+        values = {name: entry.get(field) for field, name in self.columns.items()}
+        if is_bytes(values["Message"]):
+            values["Message"] = bytes(values["Message"]).decode("utf-8", "surrogateescape")
+        rest = {field: value for field, value in entry.items() if field not in self.columns}
+        return {**values, self.others: rest or None}
+
+
+def is_bytes(value):
+    """Whether a value is text that journalctl writes as the numbers of its bytes."""
+    return isinstance(value, list) and bool(value) and all(type(one) is int and 0 <= one < 256 for one in value)

@@ -4,6 +4,7 @@ import re
 import cells
 import jsons
 import objects
+from names import distinct_names
 from problems import Stopped
 
 MOST_COLUMNS = 256
@@ -29,6 +30,7 @@ class Table:
         self.count = count
         self.native = native
         self.clean = clean
+        self.is_text = False  # whether the values of records with fields of their own are all texts
         self.lines = None
         self.records = None  # the objects, where they are such
 
@@ -48,7 +50,8 @@ class ObjectEvidence(cells.Evidence):
         if found & {int, jsons.Inexact}:
             numbers = [str(value) for value in values if type(value) in (int, jsons.Inexact)]
             self.counts = self.counts and all(map(self.may_be_epoch, numbers))
-            self.decimals = max([self.decimals, *(len(number.partition(".")[2]) for number in numbers)])
+            for number in {number for number in numbers if len(number) <= 60}:
+                self.measure(number)
         if self.kinds == {str}:
             super().add([value for value in values if type(value) is str])
 
@@ -73,15 +76,26 @@ class ObjectEvidence(cells.Evidence):
 class Plan:
     """The columns of a table, and what becomes of the fields that have none."""
 
-    def __init__(self, columns, only, rest, nulls):
+    def __init__(self, columns, options):
         self.columns = columns
-        self.rest = rest
-        self.nulls = frozenset(nulls)
+        self.rest = options.rest
+        self.moments = options.moments
+        self.nulls = frozenset(options.nulls)
         self.reader = cells.Dynamics()
         self.names = [column.name for column in columns]
-        self.known = {column.name for column in columns if column.name != rest}
+        self.known = {column.name for column in columns if column.name != self.rest}
         # With --only or --rest the other fields are left out, or kept together, by will.
-        self.open = not only and not rest
+        self.open = not options.only and not self.rest
+        # Where nothing is said of them, and the table is made here, they get a column when the first one comes.
+        self.may_grow = options.table and "extra" not in options.choices and len(columns) < MOST_COLUMNS
+
+    def add_rest(self):
+        """Adds a dynamic column for the fields that have none of their own."""
+        self.rest = distinct_names([*self.names, "Rest"])[-1]
+        self.columns.append(Column(self.rest, "dynamic", self.moments))
+        self.names.append(self.rest)
+        self.open = False
+        return self.columns[-1]
 
     def rows(self, table, problems, at):
         """The records of a table as rows of CSV in UTF-8, and the places of those that are rejected, which have no row."""
@@ -130,9 +144,9 @@ class Plan:
         return [bag or None for bag in bags]
 
     def dynamics(self, column, values, table, problems, at):
-        if table.native or column.name == self.rest:
+        if table.native and not table.is_text or column.name == self.rest:
             return objects.dynamics_of(values, table.clean, problems, at)
-        return self.reader.read(values, problems, at)
+        return self.reader.read(objects.texts_of(values) if table.is_text else values, problems, at)
 
     @staticmethod
     def text_cells(column, texts, problems, at, rejected):
@@ -185,7 +199,7 @@ def planned(fields, evidence, fixed, options):
     """The columns for the fields that were found, in order, and what is to be said of them."""
     notes, columns = [], []
     unknown = [name for name in (*options.types, *options.scales, *(options.only or ())) if name not in fields and name != options.rest]
-    if unknown:
+    if unknown and not options.others:
         raise Stopped(f"there is no column {unknown[0]}; the columns are {', '.join(fields)}")
     chosen = list(options.only or fields)
     room = MOST_COLUMNS - (1 if options.rest else 0)

@@ -40,22 +40,27 @@ class Stopped(Exception):
 class Problems:
     """Counts what is met, and says what becomes of it."""
 
-    def __init__(self, choices=None, rejects=None):
+    def __init__(self, choices=None, rejects=None, going_on=False):
         self.choices = {kind: offered[0] for kind, (_, offered) in KINDS.items()}
-        if rejects is not None:
+        if rejects is not None or going_on:
             self.choices.update((kind, "reject") for kind, (_, offered) in KINDS.items() if offered[0] == "stop" and "reject" in offered)
+        if going_on:
+            self.choices.update(truncated="keep")
         self.choices.update(choices or {})
         self.rejects = rejects
         self.counts = collections.Counter()
         self.first = {}
+        self.hints = {}
 
-    def meet(self, kind, place, why):
-        """What becomes of something of this kind at a place."""
+    def meet(self, kind, place, why, others=None):
+        """What becomes of something of this kind at a place. `others` are the choices that lead on, where these aren't all of the kind."""
         choice = self.choices[kind]
         if choice == "stop":
-            raise Stopped(f"{place}: {why}. {hint(kind)}")
+            raise Stopped(" ".join(filter(None, (f"{place}: {why}.", hint(kind, others)))))
         self.counts[kind, choice] += 1
-        self.first.setdefault((kind, choice), f"{place}: {why}")
+        if (kind, choice) not in self.first:
+            self.first[kind, choice] = f"{place}: {why}"
+            self.hints[kind, choice] = otherwise(kind, choice, others)
         return choice
 
     def reject(self, raw):
@@ -64,27 +69,38 @@ class Problems:
     def told(self):
         """A line for each kind that was met."""
         for (kind, choice), count in sorted(self.counts.items()):
-            yield f"{kind}: {count:,} {MEANINGS[choice]}; the first: {self.first[kind, choice]}"
+            yield f"{kind}: {count:,} {MEANINGS[choice]}; the first: {self.first[kind, choice]}{self.hints[kind, choice]}"
 
 
-def hint(kind):
-    others = [choice for choice in KINDS[kind][1] if choice not in ("stop", "reject")]
-    ways = [f"--on {kind}={choice}" for choice in others]
+def hint(kind, others=None):
+    """The words by which a loading goes on that stopped."""
+    ways = [f"--on {kind}={choice}" for choice in (KINDS[kind][1] if others is None else others) if choice not in ("stop", "reject")]
     if "reject" in KINDS[kind][1]:
         ways.append("--rejects FILE")
     return "To go on: " + " or ".join(ways) if ways else ""
 
 
+def otherwise(kind, choice, others=None):
+    """The words by which rejected records would go in, where there are any."""
+    ways = [f"--on {kind}={other}" for other in (KINDS[kind][1] if others is None else others) if other not in ("stop", "reject", choice)]
+    return f"; to take them: {' or '.join(ways)}" if choice == "reject" and ways else ""
+
+
 def choices_of(words, rejects):
-    """The choices that words such as `utf8=replace` make; a ValueError says what is wrong with one."""
+    """The choices that words such as `utf8=replace` make; a ValueError says what is wrong with one.
+
+    `stop` and `reject` alone stand for all kinds that have the choice."""
     choices = {}
     for word in words:
         kind, _, choice = word.partition("=")
-        if kind not in KINDS:
+        if word in ("stop", "reject"):
+            choices.update((each, word) for each, (_, offered) in KINDS.items() if offered[0] == "stop" and word in offered)
+            kind, choice = "", word
+        elif kind not in KINDS:
             raise ValueError(f"there is no kind {kind}; the kinds are {', '.join(KINDS)}")
-        if choice not in KINDS[kind][1]:
+        elif choice not in KINDS[kind][1]:
             raise ValueError(f"{kind} may become {', '.join(KINDS[kind][1])}, and not {choice or 'nothing'}")
         if choice == "reject" and rejects is None:
-            raise ValueError(f"{word} needs --rejects FILE")
-        choices[kind] = choice
+            raise ValueError(f"--on {word} needs --rejects FILE")
+        choices.update({kind: choice} if kind else {})
     return choices

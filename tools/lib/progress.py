@@ -5,6 +5,7 @@ from widths import visible
 
 try:
     from rich.console import Console
+    from rich.markup import escape
     from rich.progress import BarColumn, Progress, TextColumn, TimeRemainingColumn, TransferSpeedColumn
 except ImportError:
     Progress = None
@@ -43,7 +44,7 @@ class Bar:
 
     def begin(self, source):
         self.bar.start()
-        self.task = self.bar.add_task(visible(source.name), total=source.size, rows=0, rate=0.0)
+        self.task = self.bar.add_task(escape(visible(source.name)), total=source.size, rows=0, rate=0.0)
 
     def advance(self, taken, rows):
         seconds = self.bar.tasks[self.task].elapsed or 0

@@ -28,11 +28,12 @@ HEAD = re.compile(r"\.ingest inline into table (.+?) with \(tags='\[(.*)\]', ing
 class Loaded:
     """What became of one call."""
 
-    def __init__(self, status, script, told, rejects):
+    def __init__(self, status, script, told, rejects, sent):
         self.status = status
         self.script = script
         self.told = told
         self.rejects = rejects
+        self.sent = sent
 
     @property
     def blocks(self):
@@ -80,7 +81,11 @@ class Folder:
         os.utime(path, (changed, changed))
         return path
 
-    def load(self, *words):
+    def read(self, name):
+        with open(os.path.join(self.path, name), "rb") as file:
+            return file.read()
+
+    def load(self, *words, going_on=False):
         """One call with these words, in this folder."""
         parser = argparse.ArgumentParser()
         parser.add_argument("files", nargs="+")
@@ -89,24 +94,27 @@ class Folder:
         out, told, before = io.BytesIO(), [], os.getcwd()
         os.chdir(self.path)
         try:
-            options = load_options.settled(parser.parse_args(words))
-            call = loading.Loading(options, out, told.append, progress.Quiet())
-            try:
-                call.run()
-                status = 0
-            except problems.Stopped as fault:
-                call.stop(fault)
-                status = 1
-            call.summary()
-            return Loaded(status, out.getvalue(), "\n".join(told), self.rejected(options))
+            options = load_options.settled(parser.parse_args(words), going_on)
+            status, sent = 0, []
+            for part in load_options.parts(options):
+                call = loading.Loading(part, out, told.append, progress.Quiet())
+                try:
+                    call.run()
+                except problems.Stopped as fault:
+                    call.stop(fault)
+                    status = 1
+                call.summary()
+                sent += call.sent
+            return Loaded(status, out.getvalue(), "\n".join(told), self.rejected(options), sent)
         finally:
             os.chdir(before)
 
     @staticmethod
     def rejected(options):
-        if options.rejects is None:
+        if options.rejects is not None:
+            options.rejects.close()
+        if not hasattr(options.rejects, "path"):
             return None
-        options.rejects.close()
         with open(options.rejects.path, "rb") as file:
             return file.read()
 

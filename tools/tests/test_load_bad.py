@@ -1,6 +1,9 @@
 """Bad input: each kind is loaded right, or ends with a sentence that says where and why; nothing is lost in silence."""
+import bz2
 import gzip
+import lzma
 import os
+import shutil
 import subprocess
 import sys
 import tempfile
@@ -15,6 +18,22 @@ class Files(unittest.TestCase):
     def test_compressed_files_of_one_and_of_several_members(self):
         whole = gzip.compress(b"n,s\n1,x\n") + gzip.compress(b"2,y\n")
         self.assertEqual(loaded(whole, name="a.csv.gz").rows, [["1", "x"], ["2", "y"]])
+
+    def test_files_of_bzip2_xz_and_zstd(self):
+        lines = b"n,s\n" + b"".join(b"%d,x%d\n" % (i, i * 7919 % 1000003) for i in range(40_000))
+        kinds = {"bz2": lambda data: bz2.compress(data, 1), "xz": lzma.compress, "zst": lambda data: subprocess.run(["zstd", "-cq"], input=data, stdout=subprocess.PIPE, check=True).stdout}
+        for kind, compress in kinds.items():
+            if kind == "zst" and shutil.which("zstd") is None:
+                continue
+            with self.subTest(kind=kind):
+                whole = compress(lines)
+                self.assertEqual(len(loaded(whole, name=f"a.csv.{kind}").rows), 40_000)
+                self.assertEqual(loaded(compress(b"n,s\n1,x\n") + compress(b"2,y\n"), name="a.csv").rows, [["1", "x"], ["2", "y"]])
+                cut = loaded(whole[: len(whole) * 2 // 3], name=f"a.csv.{kind}")
+                self.assertEqual(cut.status, 1)
+                self.assertIn(f"a.csv.{kind}: the compressed data ends early or is damaged", cut.told)
+                kept = loaded(whole[: len(whole) * 2 // 3], "--on", "truncated=keep", name=f"a.csv.{kind}")
+                self.assertEqual((kept.status, kept.rows), (0, [line.decode().split(",") for line in lines.split(b"\n")[1 : len(kept.rows) + 1]]))
 
     def test_a_truncated_compressed_file(self):
         lines = "".join(f"{i},{i * 7919 % 1000003}\n" for i in range(30000))
@@ -48,6 +67,13 @@ class Files(unittest.TestCase):
         self.assertEqual((found.status, found.script), (1, b""))
         self.assertIn("a.csv: is empty: it has no records", found.told)
         self.assertIn("no columns to find", found.told)
+
+    def test_an_empty_file_whose_first_record_would_have_names(self):
+        for content in (b"", b"\n\n", b"\xef\xbb\xbf"):
+            found = loaded(content, "--header")
+            self.assertEqual((found.status, found.script), (1, b""))
+            self.assertIn("no columns to find", found.told)
+        self.assertEqual(loaded(b"", "--header", "--names", "a,b").columns, "a:string, b:string")
 
     def test_an_empty_file_beside_others(self):
         with Folder() as folder:
@@ -86,9 +112,9 @@ class Files(unittest.TestCase):
 
     def test_files_that_arent_there_or_are_no_text(self):
         with Folder() as folder:
-            folder.put("a.csv", b"BZh91AY")
+            folder.put("a.csv", b"PK\3\4 and so on")
             folder.put("b.csv", "a,b\n1,2\n".encode("utf-16"))
-            for name, why in [("a.csv", "compressed by bzip2"), ("b.csv", "UTF-16"), ("c.csv", "No such file"), (".", "directory")]:
+            for name, why in [("a.csv", "a zip archive"), ("b.csv", "UTF-16"), ("c.csv", "No such file"), (".", "directory")]:
                 with self.subTest(name=name):
                     with self.assertRaises(Exception) as stopped:
                         found = folder.load(name)
@@ -228,7 +254,54 @@ class Records(unittest.TestCase):
             folder.put("c.csv", "n,s,t\n4,x,y,z\n")
             found = folder.load("a.csv", "b.csv", "c.csv", "--rejects", "bad")
             self.assertEqual(found.rejects, b"n,s\n2,x,y\n3,x,y\nn,s,t\n4,x,y,z\n")
-            self.assertEqual(folder.load("a.csv", "--rejects", "bad", "--on", "wide=cut").rejects, b"")
+            self.assertEqual(folder.load("a.csv", "--rejects", "other", "--on", "wide=cut").rejects, b"")
+
+    def test_rejects_never_go_over_another_file(self):
+        with Folder() as folder:
+            folder.put("a.csv", "n,s\n2,x,y\n")
+            folder.put("bad", "mine\n")
+            with self.assertRaisesRegex(ValueError, "bad: this file is there already"):
+                folder.load("a.csv", "--rejects", "bad")
+            self.assertEqual(folder.read("bad"), b"mine\n")
+            self.assertEqual(folder.load("a.csv", "--rejects", "/dev/null").status, 0)
+
+    def test_a_load_that_goes_on_keeps_spoiled_records_beside_their_files(self):
+        with Folder() as folder:
+            os.mkdir(os.path.join(folder.path, "b"))
+            folder.put("a.csv", "n,s\n1,x\n2,y,z\nq,w\n")
+            folder.put("a.csv.rejects", "mine\n")
+            folder.put("b/b.csv", 'n,s\n3,"open\n4,y\n')
+            found = folder.load("a.csv", "b/b.csv", "--type", "n:long", going_on=True)
+            texts = {name: folder.read(name) for name in ("a.csv.rejects", "a.csv.2.rejects", "b/b.csv.rejects")}
+            self.assertEqual(sorted(os.listdir(folder.path)), ["a.csv", "a.csv.2.rejects", "a.csv.rejects", "b"])
+        self.assertEqual((found.status, found.rows), (0, [["1", "x"], ["4", "y"]]))
+        self.assertEqual(texts, {"a.csv.rejects": b"mine\n", "a.csv.2.rejects": b"n,s\n2,y,z\nq,w\n", "b/b.csv.rejects": b'n,s\n3,"open\n'})
+        self.assertIn("wide: 1 rejected; the first: a.csv:3: the record has 3 cells, and there are 2 columns; to take them: --on wide=cut", found.told)
+        self.assertIn("cell: 1 rejected; the first: a.csv:4: n: 'q' is no long; to take them: --on cell=null", found.told)
+        self.assertIn("quote: 1 rejected", found.told)
+        self.assertIn("2 records that didn't go in: a.csv.2.rejects, as they were", found.told)
+        self.assertIn("1 record that didn't go in: b/b.csv.rejects, as it was", found.told)
+
+    def test_what_is_said_decides_where_a_load_goes_on(self):
+        with Folder() as folder:
+            folder.put("a.csv", "n,s\n1,x\n2,y,z\n")
+            self.assertEqual(folder.load("a.csv", "--on", "wide=stop", going_on=True).status, 1)
+            self.assertEqual(folder.load("a.csv", "--on", "stop", going_on=True).status, 1)
+            self.assertEqual(folder.load("a.csv", "--on", "stop", "--on", "wide=cut", going_on=True).rows, [["1", "x"], ["2", "y"]])
+            self.assertEqual(folder.load("a.csv").status, 1)
+            with self.assertRaisesRegex(ValueError, "--on reject needs --rejects FILE"):
+                folder.load("a.csv", "--on", "reject")
+            self.assertEqual(os.listdir(folder.path), ["a.csv"])
+
+    def test_hints_lead_to_the_end(self):
+        large = loaded("n\n99999999999999999999\n")
+        self.assertIn("n has whole numbers that are too large for a long, and are kept as strings", large.told)
+        self.assertNotIn("--scale", large.told)
+        self.assertIn("a: '99999999999999999999' is too large for a long. To go on: --on cell=null", loaded("a\n99999999999999999999\n", "--type", "a:long").told)
+        self.assertNotIn("--scale", loaded("n\n1.12345678901234567890\n").told)
+        self.assertNotIn("--scale", loaded("n\n1e-30\n").told)
+        self.assertIn("--scale n:3", loaded("n\n1.5\n2.125\n").told)
+        self.assertEqual(loaded("n\n1.5\n2.125\n1.5e-1\n", "--scale", "n:3").rows, [["1500"], ["2125"], ["150"]])
 
     def test_a_file_that_is_loaded_takes_no_rejects(self):
         with Folder() as folder:

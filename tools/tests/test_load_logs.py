@@ -1,9 +1,15 @@
 """Formats of log lines. The lines are those of RFC 3164, RFC 5424 and Apache's page on its logs."""
+import argparse
+import contextlib
 import datetime
+import io
 import json
+import time
 import unittest
 
 from load_runs import Folder, loaded
+
+import load_options
 
 COMMON = '127.0.0.1 - frank [10/Oct/2000:13:55:36 -0700] "GET /apache_pb.gif HTTP/1.0" 200 2326'
 COMBINED = COMMON + ' "http://www.example.com/start.html" "Mozilla/4.08 [en] (Win98; I ;Nav)"'
@@ -37,13 +43,38 @@ class Access(unittest.TestCase):
         for request, wanted in [
             ("GET /", ["GET", "/", ""]),
             (r"\x16\x03\x01", ["", r"\x16\x03\x01", ""]),
-            ("GET /a b HTTP/1.1", ["", "GET /a b HTTP/1.1", ""]),
+            ("GET /a b  HTTP/1.1", ["GET", "/a b ", "HTTP/1.1"]),
+            ("GET /a b", ["", "GET /a b", ""]),
             (r"GET /\"q\" HTTP/1.1", ["GET", r"/\"q\"", "HTTP/1.1"]),
         ]:
             with self.subTest(request=request):
                 # Beside a plain line, which is read another way where all are plain.
                 for lines in ([COMMON.replace("GET /apache_pb.gif HTTP/1.0", request)], [COMMON] * 3 + [COMMON.replace("GET /apache_pb.gif HTTP/1.0", request)]):
                     self.assertEqual(rows(lines)[-1][4:7], wanted)
+
+    def test_requests_of_another_form_are_counted(self):
+        found = loaded("".join(COMMON.replace("GET /apache_pb.gif HTTP/1.0", request) + "\n" for request in ("GET /a b HTTP/1.1", "GET / HTTP/1.1", "-", r"\x16", "GET /")), name="a.log")
+        self.assertIn("a.log: 1 request with a blank in the path", found.told)
+        self.assertIn("a.log: 1 request not of the form METHOD PATH HTTP/VERSION: Path has the whole of them", found.told)
+
+    def test_a_virtual_host_in_front_of_the_address(self):
+        wanted = ACCESS.replace("Host:string", "VirtualHost:string, Port:long, Host:string", 1)
+        found = loaded(f"www.example.com:443 {COMMON}\n", name="a.log")
+        self.assertEqual((found.columns, found.rows[0][1:6]), (wanted, ["www.example.com", "443", "127.0.0.1", "", "frank"]))
+        found = loaded(f"www.example.com {COMBINED}\nwww.example.com:80 2001:db8::1{COMBINED[9:]}\n", name="a.log")
+        self.assertEqual((found.columns, [row[1:6] for row in found.rows]), (wanted + ", Referer:string, UserAgent:string", [["www.example.com", "", "127.0.0.1", "", "frank"], ["www.example.com", "80", "2001:db8::1", "", "frank"]]))
+        for line in (f"::1{COMMON[9:]}", f"2001:db8::1:7{COMMON[9:]}", f"client.example.org{COMMON[9:]}".replace("frank", "frank n stein")):
+            self.assertEqual(loaded(line + "\n", name="a.log").columns, ACCESS)
+
+    def test_fields_behind_combined(self):
+        lines = [f'{COMBINED} 0.005 12 "id 7"', f"{COMBINED} 1.25 - x", COMBINED]
+        found = loaded("".join(line + "\n" for line in lines), name="a.log")
+        self.assertEqual(found.columns, ACCESS + ", Referer:string, UserAgent:string, Extra1:string, Extra2:long, Extra3:string")
+        self.assertEqual([row[-3:] for row in found.rows], [["0.005", "12", "id 7"], ["1.25", "", "x"], ["", "", ""]])
+        self.assertIn("--scale Extra1:3", found.told)
+        # A line with more fields than the first ones is not of the format.
+        late = loaded("".join(line + "\n" for line in [lines[0]] * 60 + [lines[0] + " 9"]), "--rejects", "bad", name="a.log")
+        self.assertEqual((len(late.rows), late.rejects.decode()), (60, lines[0] + " 9\n"))
 
     def test_a_user_with_a_blank_and_an_agent_with_quotes(self):
         line = COMBINED.replace("frank", "frank n stein").replace("Mozilla/4.08", r"a \"b\" \\")
@@ -65,6 +96,59 @@ class Access(unittest.TestCase):
     def test_a_day_that_isnt_there(self):
         found = loaded(COMMON.replace("10/Oct", "31/Sep") + "\n", name="a.log")
         self.assertIn("a.log:1: Timestamp: '31/Sep/2000:13:55:36 -0700' is no datetime", found.told)
+
+
+class Formats(unittest.TestCase):
+    """Formats as nginx and Apache have them: the examples are those of their manuals."""
+
+    COMBINED = '$remote_addr - $remote_user [$time_local] "$request" $status $body_bytes_sent "$http_referer" "$http_user_agent"'
+
+    def test_nginx_s_combined_is_combined(self):
+        found = loaded(COMBINED + "\n", "--format", "nginx:" + self.COMBINED, name="a.log")
+        plain = loaded(COMBINED + "\n", name="a.log")
+        self.assertEqual(found.columns, plain.columns.replace("Ident:string, ", ""))
+        self.assertEqual(found.rows[0], plain.rows[0][:2] + plain.rows[0][3:])
+
+    def test_times_of_requests_and_upstreams_are_timespans(self):
+        text = '$remote_addr [$time_iso8601] "$request" $status $request_time $upstream_response_time $upstream_addr ${request_id} "$http_x_forwarded_for"'
+        lines = ['10.0.0.1 [2024-03-01T10:00:00+01:00] "GET /a b HTTP/2.0" 200 0.005 0.004 10.0.1.1:80 4f "-"', '10.0.0.1 [2024-03-01T10:00:01+01:00] "-" 502 1.250 0.5, - : 0.75 10.0.1.1:80, 10.0.1.2:80 : unix:/tmp/s 50 "1.2.3.4, 5.6.7.8"']
+        found = loaded("".join(line + "\n" for line in lines), "--format", "nginx:" + text, name="a.log")
+        self.assertEqual(found.columns, "Timestamp:datetime, Host:string, Method:string, Path:string, Protocol:string, Status:long, RequestTime:timespan, UpstreamResponseTime:timespan, UpstreamAddr:string, RequestId:string, XForwardedFor:string")
+        self.assertEqual(found.rows[0], ["2024-03-01T10:00:00+01:00", "10.0.0.1", "GET", "/a b", "HTTP/2.0", "200", "0.005s", "0.004s", "10.0.1.1:80", "4f", ""])
+        self.assertEqual(found.rows[1][3:], ["", "", "502", "1.250s", "1.25s", "10.0.1.1:80, 10.0.1.2:80 : unix:/tmp/s", "50", "1.2.3.4, 5.6.7.8"])
+
+    def test_a_whole_directive_of_nginx(self):
+        text = "log_format compression '$remote_addr - $remote_user [$time_local] '\n '\"$request\" $status $bytes_sent '\n '\"$http_referer\" \"$http_user_agent\" \"$gzip_ratio\"';"
+        found = loaded(COMBINED + ' "2.51"\n', "--format", "nginx:" + text, name="a.log")
+        self.assertEqual((found.rows[0][-4:], found.columns.split(", ")[-4:]), (["2326", "http://www.example.com/start.html", "Mozilla/4.08 [en] (Win98; I ;Nav)", "2.51"], ["BytesSent:long", "Referer:string", "UserAgent:string", "GzipRatio:string"]))
+
+    def test_apache_s_formats(self):
+        combined = r'%h %l %u %t \"%r\" %>s %b \"%{Referer}i\" \"%{User-agent}i\"'
+        for text in (combined, f'LogFormat "{combined}" combined', combined.replace("\\", "")):
+            found = loaded(COMBINED + "\n", "--format", "apache:" + text, name="a.log")
+            plain = loaded(COMBINED + "\n", name="a.log")
+            self.assertEqual((found.columns, found.rows), (plain.columns, plain.rows))
+
+    def test_other_directives_of_apache(self):
+        text = '%v:%p %a %400,501{X-Request-Id}i %{sec}t %D %{ms}T %T %O %{%Y-%m-%dT%H:%M:%S}t 100%% "%U%q"'
+        with contextlib.redirect_stderr(io.StringIO()), self.assertRaises(SystemExit):
+            loaded("x\n", "--format", "apache:" + text)
+        found = loaded('example.com:80 10.0.0.1 r-7 1709294400 1234567 1234 1 512 2024-03-01T12:00:00 100% "/a" ?b\n', "--format", "apache:" + text.replace("%U%q", '%U" %q').rstrip('"'), name="a.log")
+        self.assertEqual(found.columns, "Timestamp:datetime, VirtualHost:string, Port:long, ClientAddress:string, XRequestId:string, Duration:timespan, Duration_2:timespan, Duration_3:timespan, BytesSent:long, Timestamp_2:datetime, Path:string, Query:string")
+        self.assertEqual(found.rows[0], ["2024-03-01T12:00:00Z", "example.com", "80", "10.0.0.1", "r-7", "1234567microsecond", "1234ms", "1s", "512", "2024-03-01T12:00:00", "/a", "?b"])
+
+    def test_formats_that_cut_no_lines_are_told(self):
+        for text, why in [("nginx:$a$b", "between two values"), ("nginx:abc", "no .VARIABLE"), ("apache:%h %Z", "no directive %Z"), ("apache:%i", "needs a name"), ("csv2", "no format 'csv2'")]:
+            with self.subTest(text=text), self.assertRaisesRegex(argparse.ArgumentTypeError, why):
+                load_options.format_of(text)
+
+    def test_lines_of_many_quotes_and_blanks_are_read_in_linear_time(self):
+        words = "nginx:" + self.COMBINED
+        began = time.monotonic()
+        for line in (' "' * 50_000, "- [" * 50_000, '"\\"' * 50_000, "a " * 100_000):
+            self.assertEqual(loaded(line + "\n", "--format", words, "--rejects", "bad", name="a.log").rows, [])
+            loaded(COMBINED + line + "\n", "--rejects", "bad", name="a.log")
+        self.assertLess(time.monotonic() - began, 60)
 
 
 class Syslog(unittest.TestCase):
@@ -161,7 +245,13 @@ class Json(unittest.TestCase):
 
     def test_late_members_stop_or_go_where_it_is_said(self):
         lines = ['{"a":1}'] * 10000 + ['{"a":2,"b":"x","c":null}']
-        self.assertIn("a.json:10001: no column has the field 'b'", self.load(lines).told)
+        found = self.load(lines + ['{"a":3}'])
+        self.assertIn(".alter-merge table T (Rest:dynamic)", found.blocks)
+        self.assertEqual((found.columns, found.rows[9999:]), ("a:long", [["1", ""], ["2", '{"b":"x"}'], ["3", ""]]))
+        self.assertIn("they go into Rest. To choose: --rest NAME or --on extra=drop", found.told)
+        self.assertEqual([one.what for one in found.sent], ["table", "column", "batch", "batch"])
+        self.assertIn("a.json:10001: no column has the field 'b'", self.load(lines, "--on", "extra=stop").told)
+        self.assertIn("a.json:10001: no column has the field 'b'", self.load(lines, "--no-table").told)
         self.assertEqual(self.load(lines, "--on", "extra=drop").rows[-1], ["2"])
         rest = self.load(lines, "--rest", "Rest")
         self.assertEqual((rest.columns, rest.rows[-1]), ("a:long, Rest:dynamic", ["2", '{"b":"x"}']))

@@ -1,7 +1,13 @@
 """The commands that tools/load writes."""
+import hashlib
+import os
 import unittest
 
 from load_runs import Folder, loaded, tag_of
+
+
+def tag_of_first(script):
+    return script.decode().split("tags='[")[1].split("]'")[0]
 
 
 class Names(unittest.TestCase):
@@ -39,6 +45,19 @@ class Headers(unittest.TestCase):
         found = loaded("1,x\n2,y\n")
         self.assertEqual((found.columns, len(found.rows)), ("Column1:long, Column2:string", 2))
 
+    def test_names_of_which_some_are_equal_or_empty_are_no_row(self):
+        for content, columns in [("a,b,a\n1,2,x\n", "a:long, b:long, a_2:string"), (",n,s\n0,1,x\n1,2,y\n", "Column1:long, n:long, s:string"), ("n,,\n2024-03-01,x,\n", "n:datetime, Column2:string, Column3:string")]:
+            with self.subTest(content=content):
+                found = loaded(content)
+                self.assertEqual((found.columns, len(found.rows)), (columns, content.count("\n") - 1))
+
+    def test_a_first_record_with_equal_or_empty_cells_that_may_be_data_is_told(self):
+        for content in ("bo,paris,bo\nann,rome,cy\n", "bo,,x\nann,rome,y\n"):
+            found = loaded(content)
+            self.assertEqual(len(found.rows), 2)
+            self.assertIn("a.csv: the first record has equal or empty cells, and is taken as data; --header", found.told)
+        self.assertEqual(len(loaded("1,,2\n3,4,5\n").rows), 2)
+
     def test_what_is_asked_for_decides(self):
         self.assertEqual(len(loaded("a,b\nc,d\n", "--no-header").rows), 2)
         self.assertEqual(loaded("1,2\n3,4\n", "--header").columns, "['1']:long, ['2']:long")
@@ -68,27 +87,48 @@ class Batches(unittest.TestCase):
         self.assertTrue(all(len(block.encode()) <= 2**24 for block in found.blocks))
         self.assertEqual([row[0] for row in found.rows], [f"{i:04}" for i in range(180)])
 
-    def test_a_tag_of_name_size_time_and_number_that_is_asked_about(self):
-        content = "n\n1\n2\n3\n"
+    def test_a_tag_of_the_name_the_number_and_a_digest_that_is_asked_about(self):
         with Folder() as folder:
-            folder.put("a.csv", content, changed=1709294400)
+            folder.put("a.csv", "n\n1\n2\n3\n")
             found = folder.load("a.csv", "--batch", "2")
         tags = [tag_of(tag) for _, tag, _, _ in found.batches]
         asked = [tag_of(asked) for _, _, asked, _ in found.batches]
         self.assertEqual(tags, [f"ingest-by:{name}" for name in asked])
-        self.assertEqual(asked, [f"a.csv {len(content)} 2024-03-01T12:00:00.000000000Z {i} of 2" for i in (1, 2)])
+        digests = [hashlib.blake2b(body, digest_size=16).hexdigest() for body in (b"1\n2", b"3")]
+        self.assertEqual(asked, [f"a.csv {i} of 2 {digest}" for i, digest in enumerate(digests, 1)])
 
-    def test_tags_tell_files_apart_and_not_calls(self):
+    def test_tags_tell_rows_and_names_apart_and_not_calls(self):
         with Folder() as folder:
             folder.put("a.csv", "n\n1\n")
             first = folder.load("a.csv").script
-            self.assertEqual(folder.load("a.csv").script, first)
             folder.put("a.csv", "n\n1\n", changed=1709294401)
-            self.assertNotEqual(folder.load("a.csv").script, first)
-            folder.put("a.csv", "n\n1\n\n")
-            self.assertNotEqual(folder.load("a.csv").script, first)
+            self.assertEqual(folder.load("a.csv").script, first)
             folder.put("b.csv", "n\n1\n")
             self.assertNotEqual(folder.load("b.csv").script, first)
+            folder.put("a.csv", "n\n2\n")
+            self.assertNotEqual(folder.load("a.csv").batches[0][1], tag_of_first(first))
+
+    def test_two_files_of_one_name_size_and_time_are_two(self):
+        with Folder() as folder:
+            for name in ("east", "west", "north"):
+                os.mkdir(os.path.join(folder.path, name))
+            folder.put("east/a.csv", "n\n1\n")
+            folder.put("west/a.csv", "n\n2\n")
+            folder.put("north/a.csv", "n\n1\n")
+            paths = ["east/a.csv", "west/a.csv", "north/a.csv"]
+            tags = [tag for _, tag, _, _ in folder.load(*paths).batches]
+            # Loaded again, by other paths, each has the tag that it had.
+            again = [tag for _, tag, _, _ in folder.load("./east/a.csv", "east/../west/a.csv", "north/a.csv", "east/a.csv").batches]
+        self.assertEqual(len(set(tags)), 3)
+        self.assertEqual(again, [*tags, tags[0]])
+
+    def test_a_file_name_that_isnt_utf8_has_a_tag_of_what_can_be(self):
+        with Folder() as folder:
+            name = os.fsdecode(b"a\xff.csv")
+            folder.put(name, "n\n1\n")
+            found = folder.load(name)
+        self.assertEqual((found.status, found.rows), (0, [["1"]]))
+        self.assertIn("a\ufffd.csv 1 of 10000 ", found.script.decode().encode().decode("unicode_escape").encode().decode("unicode_escape"))
 
     def test_a_name_with_quotes_and_backslashes_stays_one_string(self):
         with Folder() as folder:
@@ -121,6 +161,23 @@ class Rows(unittest.TestCase):
             with self.subTest(cell=cell):
                 self.assertEqual(loaded(f"a,b\n{cell},1\ny,2\n").rows[0], [cell, "1"])
 
+    def test_a_first_cell_of_a_batch_with_blanks_and_quotes_stays(self):
+        for cell in (' rack 19"', '\t"', '\ufeff "a" b', ' ""', "  \'"):
+            with self.subTest(cell=cell):
+                found = loaded(f"a,b\n{cell},1\ny,2\nz,3\n", "--header")
+                self.assertEqual(found.rows, [[cell, "1"], ["y", "2"], ["z", "3"]])
+                alone = loaded(f"a\n{cell}\ny\n", "--header", "--type", "a:string", "--batch", "1")
+                self.assertEqual(alone.rows, [[cell], ["y"]])
+
+    def test_a_blank_line_with_a_cr_of_one_column_stays_as_it_is(self):
+        found = loaded('a\r\nx\r\n \r\ny\r\n', "--header")
+        self.assertEqual(found.rows, [["x"], [" "], ["y"]])
+
+    def test_blank_lines_of_one_column_are_records_beside_wide_ones_too_and_empty_ones_never(self):
+        found = loaded("a\nx\n \n1,2\n\t\ny\n", "--header", "--rejects", "bad")
+        self.assertEqual((found.rows, found.rejects), ([["x"], [" "], ["\t"], ["y"]], b"a\n1,2\n"))
+        self.assertEqual(loaded("a\nx\n\r", "--header").rows, [["x"]])
+
     def test_a_byte_order_mark_of_a_file_is_dropped(self):
         self.assertEqual(loaded("\ufeffa,b\n1,x\n").columns, "a:long, b:string")
 
@@ -128,6 +185,11 @@ class Rows(unittest.TestCase):
         found = loaded('s\nx\n""\n"  "\n \ny\n', "--header", "--type", "s:string")
         self.assertEqual(found.rows, [["x"], [""], ["  "], [" "], ["y"]])
         self.assertEqual(len(found.batches), 1)
+
+    def test_quoted_blanks_and_line_ends_are_records(self):
+        found = loaded('a,b\n1,2\n" "\n"\n"\n   \n"\r\n"\n3,4\n', "--header")
+        self.assertEqual(found.rows, [["1", "2"], [" ", ""], ["\n", ""], ["\r\n", ""], ["3", "4"]])
+        self.assertIn("short: 3 filled up with nulls", found.told)
 
     def test_empty_lines_are_no_records(self):
         self.assertEqual(loaded("a,b\n\n1,2\n\r\n   \n3,4\n\n").rows, [["1", "2"], ["3", "4"]])
