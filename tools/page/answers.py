@@ -102,7 +102,7 @@ class Answer:
         if key is None:
             found = sorted(order, key=cells.__getitem__, reverse=descending)
         else:
-            keys = {place: key(cells[place]) for place in order}
+            keys = list(map(key, cells)) if len(order) == len(cells) else {place: key(cells[place]) for place in order}
             found = sorted(order, key=keys.__getitem__, reverse=descending)
         return found + nulls if descending else nulls + found
 

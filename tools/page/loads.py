@@ -105,7 +105,9 @@ class Loads:
     def take(self, kind, data):
         text = data.decode("utf-8", "surrogateescape")
         if kind == b"S":
-            self.sent.append(self.engine.ask(text, Turn.BATCH))
+            command = self.engine.ask(text, Turn.BATCH)
+            command.reply.add_done_callback(self.count)
+            self.sent.append(command)
             if len(self.sent) >= AHEAD:
                 self.answered()
         elif kind == b"T":
@@ -116,8 +118,14 @@ class Loads:
             self.changed()
 
     def answered(self):
-        """Takes the reply to the oldest batch that was sent."""
-        reply = self.sent.pop(0).reply.result()
+        """Waits for the reply to the oldest batch that was sent."""
+        self.sent.pop(0).reply.result()
+
+    def count(self, future):
+        """Takes the reply to a batch as soon as it has come."""
+        if future.cancelled() or future.exception():
+            return
+        reply = future.result()
         words = reply.split()
         if words[0] == "ingested":
             self.rows += int(words[3])

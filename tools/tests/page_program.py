@@ -91,7 +91,7 @@ def numbers(text, last):
 
 
 def slow(text):
-    time.sleep(1.5)
+    time.sleep(float(os.environ.get("KQ_STAND_IN_SECONDS", "1.5")))
     return rows("Count:long", ["9000000"])
 
 
@@ -111,8 +111,9 @@ FORMS = [
 
 
 def answer(text):
+    command = re.sub(r"\A(?:\s|//[^\n]*\n)*", "", text)
     for form, function in FORMS:
-        found = re.fullmatch(form, text, re.S)
+        found = re.fullmatch(form, command, re.S)
         if found:
             return function(text, *found.groups())
     return f"refused Syntax at {len(text.encode())}\n"
