@@ -344,7 +344,7 @@ class Questions(PageTest):
     def test_a_million_rows_are_scrolled_to_their_end(self):
         browser = self.browser
         browser.ask(MILLION, "1,000,000 rows")
-        self.assertEqual(browser.wait(lambda: browser.rows())[0][1], ["1", "2", "row 1"])
+        browser.wait(lambda: browser.rows()[0] == [1, ["1", "2", "row 1"]])
         body = browser.one(".grid-rows")
         body.click()
         browser.keys(Keys.END, held=[Keys.CONTROL])
