@@ -104,7 +104,10 @@ class Browser:
         self.driver.get("about:blank")
         self.driver.get(running.address)
         self.wait(lambda: self.all(".CodeMirror"))
-        self.script("sessionStorage.clear()")
+        if len(self.all("[role=tab]")) > 1:
+            self.script("sessionStorage.clear()")
+            self.driver.refresh()
+            self.wait(lambda: len(self.all("[role=tab]")) == 1)
 
     def script(self, text, *given):
         return self.driver.execute_script(text, *given)
@@ -123,7 +126,9 @@ class Browser:
         return found[0]
 
     def text(self, selector):
-        found = self.script("return [...document.querySelectorAll(arguments[0])].filter((it) => it.getClientRects().length || it.textContent === '').map((it) => it.innerText)", selector)
+        if selector.startswith("#"):
+            return self.script("return document.querySelector(arguments[0]).innerText", selector)
+        found = self.script("return [...document.querySelectorAll(arguments[0])].filter((it) => it.getClientRects().length).map((it) => it.innerText)", selector)
         assert len(found) == 1, f"{len(found)} elements of {selector}"
         return found[0]
 
@@ -280,9 +285,9 @@ class Questions(PageTest):
 
     def test_an_answer_is_saved_and_copied_as_it_is_shown(self):
         browser = self.browser
-        browser.ask(QUARTERS, "28 rows")
+        browser.ask(QUARTERS, "24 rows")
         browser.one("input[aria-label='Filter Requests']").send_keys("> 130")
-        browser.wait(lambda: " of 28 rows" in browser.text(".count"))
+        browser.wait(lambda: " of 24 rows" in browser.text(".count"))
         shown = [cells for _, cells in browser.rows()]
         self.assertTrue(shown and all(int(cells[1]) > 130 for cells in shown))
         browser.press("Save CSV")
@@ -312,11 +317,11 @@ class Questions(PageTest):
 
     def test_a_chart_stands_beside_the_table(self):
         browser = self.browser
-        browser.ask(QUARTERS, "28 rows")
+        browser.ask(QUARTERS, "24 rows")
         browser.press("Chart")
         canvas = browser.wait(lambda: browser.one("canvas"))
         self.assertEqual(canvas.get_attribute("role"), "img")
-        self.assertEqual(canvas.get_attribute("aria-label"), "Time chart of Requests by Quarter: 1 series (Requests), 28 points")
+        self.assertEqual(canvas.get_attribute("aria-label"), "Time chart of Requests by Quarter: 1 series (Requests), 24 points")
         self.assertTrue(self.drawn())
         browser.script("const box = document.querySelector('.choices select'); box.value = 'bar'; box.dispatchEvent(new Event('change'))")
         browser.wait(lambda: (browser.one("canvas").get_attribute("aria-label") or "").startswith("Bar chart of Requests by Quarter"))
@@ -361,10 +366,10 @@ class Questions(PageTest):
         self.assertLess(len(browser.all(".grid-row")), 100)
         heap = browser.driver.execute_cdp_cmd("Runtime.getHeapUsage", {})["usedSize"]
         self.assertLess(heap, 60_000_000)
-        browser.script("document.querySelector('.results:not([hidden]) .sorter').click()")
-        browser.wait(lambda: browser.column("x").get_attribute("aria-sort") == "ascending")
-        browser.script("document.querySelector('.results:not([hidden]) .sorter').click()")
-        browser.wait(lambda: browser.rows()[0][1][0] == "1000000")
+        # The second click comes while the rows of the first are on their way.
+        for _ in range(2):
+            browser.script("document.querySelector('.results:not([hidden]) .sorter').click()")
+        browser.wait(lambda: browser.column("x").get_attribute("aria-sort") == "descending" and browser.rows()[0][1][0] == "1000000")
 
     def test_tabs_keep_their_questions_and_answers(self):
         browser = self.browser
@@ -446,7 +451,7 @@ class Questions(PageTest):
 
     def test_all_that_takes_the_focus_has_a_name(self):
         browser = self.browser
-        browser.ask(QUARTERS, "28 rows")
+        browser.ask(QUARTERS, "24 rows")
         if not browser.button("Chart").get_attribute("aria-pressed") == "true":
             browser.press("Chart")
         browser.wait(lambda: browser.one("canvas"))
@@ -591,7 +596,8 @@ class Files(PageTest):
         os.kill(page.program_of(), signal.SIGKILL)
         browser.wait(lambda: "SIGKILL" in browser.text("#alert"))
         browser.press("Load anew")
-        browser.wait(lambda: "2,359 rows in" in browser.text("#loading") and browser.text("#alert") == "")
+        browser.wait(lambda: browser.text("#alert") == "")
+        browser.wait(lambda: "2,359 rows in" in browser.text("#loading"))
         browser.ask("Log | take 4", "4 rows")
 
     def test_the_servers_end_is_told(self):
@@ -604,7 +610,7 @@ class Files(PageTest):
         browser.driver.execute_cdp_cmd("Emulation.setDeviceMetricsOverride", {"width": 400, "height": 800, "deviceScaleFactor": 1, "mobile": False})
         try:
             self.serve()
-            browser.ask(QUARTERS, "28 rows")
+            browser.ask(QUARTERS, "24 rows")
             browser.press("Chart")
             browser.wait(lambda: browser.one("canvas"))
             self.assertLessEqual(browser.script("return document.documentElement.scrollWidth"), 400)

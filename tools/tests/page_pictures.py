@@ -24,7 +24,7 @@ def main(folder):
         with Running() as page:
             browser.open(page)
             browser.wait(lambda: "2,359 rows in" in browser.text("#loading") and "2,359 rows" in browser.text("#catalogue"))
-            browser.ask(QUARTERS.replace(" | ", "\n| "), "28 rows")
+            browser.ask(QUARTERS.replace(" | ", "\n| "), "24 rows")
             browser.press("Chart")
             for width in SIZES:
                 for scheme in ("light", "dark"):

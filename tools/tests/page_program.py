@@ -42,7 +42,8 @@ def printed(cell, kind):
     if cell == "":
         return "null"
     if kind == "datetime":
-        return datetime.datetime.fromisoformat(cell.replace("Z", "")).strftime("%Y-%m-%dT%H:%M:%S.%f0Z")
+        at = datetime.datetime.fromisoformat(cell.replace("Z", "+00:00"))
+        return (at - at.utcoffset()).strftime("%Y-%m-%dT%H:%M:%S.%f0Z")
     if kind == "dynamic":
         return json.dumps(json.loads(cell), sort_keys=True, separators=(",", ":"), ensure_ascii=False)
     return cell

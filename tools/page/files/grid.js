@@ -33,8 +33,11 @@ export class Grid {
 
   show(columns, total) {
     this.columns = columns;
+    this.turn = (this.turn ?? 0) + 1;
+    this.box.removeAttribute("aria-busy");
     this.all = this.total = total;
-    this.arrangement = { sort: null, descending: false, filters: {} };
+    // What is shown, and what was asked for last, which may still be on its way.
+    this.arrangement = this.wanted = { sort: null, descending: false, filters: {} };
     this.active = this.anchor = { row: 0, column: 0 };
     this.pool = [];
     this.body.replaceChildren();
@@ -72,28 +75,30 @@ export class Grid {
   }
 
   sortBy(column) {
-    const { sort, descending } = this.arrangement;
+    const { sort, descending } = this.wanted;
     const next = sort !== column ? { sort: column, descending: false } : descending ? { sort: null, descending: false } : { sort: column, descending: true };
-    this.heads.forEach((head, at) => head.setAttribute("aria-sort", at !== next.sort ? "none" : next.descending ? "descending" : "ascending"));
-    this.arrange({ ...this.arrangement, ...next });
+    this.arrange({ ...this.wanted, ...next });
   }
 
   filterBy(column, field) {
-    const filters = { ...this.arrangement.filters };
+    const filters = { ...this.wanted.filters };
     if (field.value.trim()) filters[column] = field.value;
     else delete filters[column];
-    this.arrange({ ...this.arrangement, filters }, field);
+    this.arrange({ ...this.wanted, filters }, field);
   }
 
   // Shows the rows in another order, or others, where the server takes what was typed.
   async arrange(arrangement, field = null) {
     this.box.setAttribute("aria-busy", "true");
     const turn = (this.turn = (this.turn ?? 0) + 1);
+    this.wanted = arrangement;
     try {
       const found = await this.rows(arrangement, 0, BLOCK);
       if (turn !== this.turn) return;
       field?.removeAttribute("aria-invalid");
       this.arrangement = arrangement;
+      const { sort, descending } = arrangement;
+      this.heads.forEach((head, at) => head.setAttribute("aria-sort", at !== sort ? "none" : descending ? "descending" : "ascending"));
       this.total = found.total;
       this.forget();
       this.blocks.set(0, found.rows);
@@ -102,6 +107,7 @@ export class Grid {
       this.arranged();
     } catch (fault) {
       if (turn !== this.turn) return;
+      this.wanted = this.arrangement;
       field?.setAttribute("aria-invalid", "true");
       this.told(fault.message);
     } finally {
