@@ -10,14 +10,14 @@ import tempfile
 from aiohttp import web
 
 import guard
-import history
 import language
 import packages
+import page_history
 import pages
 import tables
-from catalogue import Catalogue
 from engine import Engine
 from loads import Loads
+from page_catalogue import Catalogue
 from sessions import Ended
 
 STATE_EACH = 0.15
@@ -33,7 +33,7 @@ class Service:
         self.options, self.words, self.program, self.guard = options, words, program, door
         self.pages = set()
         self.tickets = {}
-        self.history = history.History(history.place())
+        self.history = page_history.History(page_history.place())
         self.loop = asyncio.get_running_loop()
         self.news, self.stale = asyncio.Event(), asyncio.Event()
         self.language = language.words()

@@ -9,11 +9,11 @@ import page_runs  # noqa: F401, which puts the folders of the tools on the path
 
 import answers
 import asks
-import catalogue
+import page_catalogue
 import ends
 import engine
 import filters
-import history
+import page_history
 import language
 import replies
 from answers import Answer, Arrangement, read
@@ -163,10 +163,10 @@ class Beside(unittest.TestCase):
 
     def test_members_that_were_seen_are_a_tree(self):
         sample = read('rows 3\nD:dynamic\tn:long\n{"a":{"b":1}}\t1\n{"a":{"c":[{"d":1}]}}\t2\nnull\t3\n')
-        self.assertEqual(catalogue.columns_of(sample)[0]["members"], {"a": {"b": {}, "c": {"d": {}}}})
+        self.assertEqual(page_catalogue.columns_of(sample)[0]["members"], {"a": {"b": {}, "c": {"d": {}}}})
 
     def test_the_text_of_a_policy_is_kept_when_it_was_set(self):
-        found = catalogue.Catalogue(None)
+        found = page_catalogue.Catalogue(None)
         found.note(".alter table T policy update '[]'", "done 3")
         found.note(".alter table ['a b'] policy update '[1]'", "done 4")
         found.note(".alter table U policy update '[]'", "refused Unknown at 13")
@@ -175,12 +175,12 @@ class Beside(unittest.TestCase):
     def test_the_history_outlives_the_page_and_no_one_else_reads_it(self):
         with tempfile.TemporaryDirectory() as folder:
             path = os.path.join(folder, "kq-page", "history.jsonl")
-            first = history.History(path)
+            first = page_history.History(path)
             for text in ("Log", "Log | count", "Log | count", "Log"):
                 first.add(text, "rows 1")
             with open(path, "a") as file:
                 file.write("no entry\n{}\n")
-            again = history.History(path)
+            again = page_history.History(path)
             self.assertEqual([one["text"] for one in again.latest()], ["Log", "Log | count"])
             self.assertEqual(os.stat(path).st_mode & 0o777, 0o600)
 
