@@ -72,6 +72,8 @@ class AtATerminal(unittest.TestCase):
         terminal.type(CONTROL_P + CONTROL_P)
         terminal.type("\n\n")
         self.assertIn(b"print 1,\\n2", terminal.until(b"(1 row)"))
+        # Before the prompt, Ctrl-D is no key for readline.
+        terminal.until(b"kq> ")
         terminal.type(CONTROL_D)
         self.assertEqual(terminal.ended(), 0)
         kept = self.file(terminal, "kq-log/questions.kql")
