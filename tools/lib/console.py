@@ -8,6 +8,7 @@ import memory
 import tables
 import words
 from history import History, place
+from interrupts import Interrupts
 from names import column_name, counted, table_name
 from replies import read, unescape
 from sessions import Ended, is_comment
@@ -17,12 +18,13 @@ from words import Word
 EXPORT = re.compile(r"\s*(//[^\n]*\n\s*)*#\s*export\b")
 
 
-def typed(history, take):
+def typed(history, take, interrupts):
     """The questions that are typed, as lists of lines. Words are given to `take`, which says whether to go on."""
     open_lines = []
     while True:
         try:
-            lines = input(" .. " if open_lines else "kq> ").split("\n")
+            with interrupts.allowed():
+                lines = input(" .. " if open_lines else "kq> ").split("\n")
         except KeyboardInterrupt:
             print()
             open_lines = []
@@ -77,10 +79,12 @@ class Console:
         self.say = say
         self.formulas = formulas
         self.history = History(place())
+        self.interrupts = Interrupts()
 
     def questions(self):
-        """The questions as they are typed."""
-        return typed(self.history, self.taken)
+        """The questions as they are typed. Until they end, an interrupt ends nothing but what guarded() calls."""
+        with self.interrupts:
+            yield from typed(self.history, self.taken, self.interrupts)
 
     def run(self):
         for block in self.questions():
@@ -90,7 +94,8 @@ class Console:
     def guarded(self, call, *given):
         """An interrupt ends what is shown, and nothing else."""
         try:
-            call(*given)
+            with self.interrupts.allowed():
+                call(*given)
         except KeyboardInterrupt:
             print()
             self.say("the rest isn't shown")
@@ -225,10 +230,16 @@ class Console:
             return
         path = os.path.expanduser(files[0])
         try:
-            with open(path, "x", encoding="utf-8", errors="surrogateescape", newline="") as file:
-                tables.write(form, self.report.last, file, self.formulas)
+            file = open(path, "x", encoding="utf-8", errors="surrogateescape", newline="")
         except FileExistsError:
             raise words.Unknown(f"{path} is there already, and isn't written over") from None
+        try:
+            with file:
+                tables.write(form, self.report.last, file, self.formulas)
+        except (KeyboardInterrupt, OSError):
+            # Nobody is to take a part for the whole.
+            os.unlink(path)
+            raise
         self.say(f"{counted(len(self.report.last.lines), 'row')} written into {path}")
 
     def running(self):

@@ -59,19 +59,19 @@ class Ended(Exception):
 
 
 @contextlib.contextmanager
-def undisturbed():
-    """An interrupt that comes within waits for the end. Only the main thread is interrupted."""
+def undisturbed(tell=None):
+    """An interrupt that comes within waits for the end, or is only told where there is a call for that. Only the main thread is interrupted."""
     if threading.current_thread() is not threading.main_thread():
         yield
         return
     held = []
-    before = signal.signal(signal.SIGINT, lambda *found: held.append(found))
+    before = signal.signal(signal.SIGINT, (lambda *_: tell()) if tell else (lambda *found: held.append(found)))
     try:
         yield
     finally:
         signal.signal(signal.SIGINT, before)
-    if held:
-        raise KeyboardInterrupt
+    if held and callable(before):
+        before(signal.SIGINT, None)
 
 
 class Session:

@@ -1,8 +1,8 @@
 #!/usr/bin/env python3
 """Stands for the program in tests, with its feeds: sessions over the same tables, of which each answers a block as soon as its blank line has come.
 
-`T | count` counts rows, `slow S` makes the file asked-1 or a later one and is answered after S seconds, `long N` has N rows,
-`hoard` asks for more memory than there is, and `loud` tells a status."""
+`T | count` counts rows, `long N` has N rows, `hoard` asks for more memory than there is, and `loud` tells a status.
+`slow NAME` makes the file asked-1 or a later one, and is answered once there is a file NAME; so is `change NAME`, as what changes a table is."""
 import itertools
 import os
 import re
@@ -44,6 +44,14 @@ def changed(text):
     return f"ingested {event('Ingest', ingest[1], rows)} rows {rows}\n"
 
 
+def awaited(name):
+    """Waits for a file, and says by another one that it does."""
+    with open(f"asked-{next(asked)}", "w"):
+        pass
+    while not os.path.exists(name):
+        time.sleep(0.01)
+
+
 def hoarded():
     """Asks for memory until none is given."""
     held = []
@@ -57,10 +65,11 @@ def hoarded():
 
 def answer(text):
     words = text.split()
+    if words[0] == "change":
+        awaited(words[1])
+        return f"done {event('Change', words[1])}\n"
     if words[0] == "slow":
-        with open(f"asked-{next(asked)}", "w"):
-            pass
-        time.sleep(float(words[1]))
+        awaited(words[1])
         return "rows 1\nslept:string\nlate answer\n"
     if words[0] == "long":
         return f"rows {words[1]}\nn:long\n" + "7\n" * int(words[1])

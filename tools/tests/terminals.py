@@ -14,6 +14,8 @@ from load_runs import TOP
 
 KQ_LOG = os.path.join(TOP, "kq-log")
 FEEDS = os.path.join(TOP, "tools", "tests", "feeds_program.py")
+# The seconds for which a test waits for what it is to see, on a machine that may be busy.
+PATIENCE = 120
 CONTROL_C, CONTROL_D, CONTROL_P = b"\x03", b"\x04", b"\x10"
 
 
@@ -45,7 +47,7 @@ def used(process):
         return sum(map(int, file.read().rpartition(")")[2].split()[11:13])) / os.sysconf("SC_CLK_TCK")
 
 
-def soon(holds, seconds=120):
+def soon(holds, seconds=PATIENCE):
     """Whether something holds within some seconds."""
     until = time.monotonic() + seconds
     while time.monotonic() < until:
@@ -89,7 +91,7 @@ class Terminal:
         test.addCleanup(self.close)
         os.close(side)
 
-    def until(self, wanted, seconds=120):
+    def until(self, wanted, seconds=PATIENCE):
         """What comes up to a text, and the text. What was read behind it is kept for the next call."""
         end = time.monotonic() + seconds
         while wanted not in self.seen:
@@ -107,6 +109,26 @@ class Terminal:
         """Asks a question, and gives what is shown up to a text and the next prompt."""
         self.type(text + "\n\n")
         return self.until(wanted) + self.until(b"kq> ")
+
+    def drop(self):
+        """Drops an open question. Python's readline takes an interrupt that comes before it waits for a key only with the next key,
+        so Ctrl-C is typed again where nothing comes."""
+        for _ in range(PATIENCE):
+            self.type(CONTROL_C)
+            try:
+                return self.until(b"kq> ", 1)
+            except AssertionError:
+                continue
+        raise AssertionError("Ctrl-C doesn't drop the question")
+
+    def put(self, name):
+        """Makes an empty file."""
+        with open(os.path.join(self.path, name), "w"):
+            pass
+
+    def ended(self):
+        """The status, once it has ended."""
+        return self.process.wait(PATIENCE)
 
     def word(self, text):
         self.type(text + "\n")

@@ -51,7 +51,7 @@ class AtATerminal(unittest.TestCase):
         self.assertIn(b"1 question running", terminal.word("\\running"))
         self.assertIn(b"Log (n:long, s:string)  3 rows", terminal.word("\\tables"))
         terminal.type(CONTROL_D)
-        self.assertEqual(terminal.process.wait(120), 0)
+        self.assertEqual(terminal.ended(), 0)
         self.assertNotIn(b"kq_console", terminal.rest())
         self.gone(terminal, processes)
 

@@ -7,7 +7,7 @@ import sys
 import unittest
 
 from load_runs import Folder
-from terminals import CONTROL_C, CONTROL_D, CONTROL_P, FEEDS, KQ_LOG, Terminal
+from terminals import CONTROL_D, CONTROL_P, FEEDS, KQ_LOG, Terminal
 
 import sessions
 import words
@@ -63,7 +63,7 @@ class AtATerminal(unittest.TestCase):
         self.assertIn(b"Log (n:long, s:string)  3 rows", terminal.word("\\tables"))
         self.assertIn(b"\\chart", terminal.word("help"))
         terminal.type("quit\n")
-        self.assertEqual(terminal.process.wait(60), 0)
+        self.assertEqual(terminal.ended(), 0)
 
     def test_a_question_comes_back_as_a_whole(self):
         terminal = self.start()
@@ -72,8 +72,10 @@ class AtATerminal(unittest.TestCase):
         terminal.type(CONTROL_P + CONTROL_P)
         terminal.type("\n\n")
         self.assertIn(b"print 1,\\n2", terminal.until(b"(1 row)"))
+        # Before the prompt, Ctrl-D is no key for readline.
+        terminal.until(b"kq> ")
         terminal.type(CONTROL_D)
-        self.assertEqual(terminal.process.wait(60), 0)
+        self.assertEqual(terminal.ended(), 0)
         kept = self.file(terminal, "kq-log/questions.kql")
         self.assertEqual(kept, "print 1,\n2\n\nprint 3\n\nprint 1,\n2\n\n")
 
@@ -81,8 +83,7 @@ class AtATerminal(unittest.TestCase):
         terminal = self.start()
         terminal.type("print 1\n")
         terminal.until(b" .. ")
-        terminal.type(CONTROL_C)
-        terminal.until(b"kq> ")
+        terminal.drop()
         self.assertIn(b"print 2", terminal.ask("print 2", b"(1 row)"))
 
     def test_what_a_file_is_called_does_not_steer_the_terminal(self):
