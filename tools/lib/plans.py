@@ -207,7 +207,9 @@ def planned(fields, evidence, fixed, options):
         notes.append(f"{len(chosen):,} fields were found; those behind the first {room} go into {options.rest}")
         chosen = chosen[:room]
     if len(chosen) > room:
-        raise Stopped(f"{len(chosen):,} columns were found, and a table has at most {MOST_COLUMNS}: --only NAME,.. takes some, and --rest NAME puts all others into one dynamic column")
+        raise Stopped(
+            f"{len(chosen):,} columns were found, and a table has at most {MOST_COLUMNS}: --only NAME,.. takes some, and --rest NAME puts all others into one dynamic column"
+        )
     for name in chosen:
         kind = options.types.get(name) or ("long" if name in options.scales else fixed.get(name)) or evidence[name].kind()
         asked = name in options.types or name in options.scales or name in fixed

@@ -72,7 +72,13 @@ def wrong_in_program(program, file, found, table):
     if not all(reply.startswith(("done", "ingested", "kept")) for reply in told):
         return f"answered with {told}"
     answer = next(iter(replies.read(program.ask(table))))
-    keys = [json.dumps([(json.loads(cell) if cell not in ("", "null") else None) if place in file.dynamics else cell for place, cell in enumerate(row)], sort_keys=True) for row in plain_rows(answer)]
+    keys = [
+        json.dumps(
+            [(json.loads(cell) if cell not in ("", "null") else None) if place in file.dynamics else cell for place, cell in enumerate(row)],
+            sort_keys=True,
+        )
+        for row in plain_rows(answer)
+    ]
     wanted = [json.dumps(row, sort_keys=True) for row in file.rows]
     return None if collections.Counter(keys) == collections.Counter(wanted) else f"the table has {sorted(keys)}, not {sorted(wanted)}"
 
@@ -81,7 +87,10 @@ def plain_rows(answer):
     """The cells of an answer as the files have them. A null is an empty cell."""
     kinds = [kind for _, kind in answer.columns]
     for row in answer.rows():
-        yield [replies.unescape(cell) if kind == "string" else cell if kind == "dynamic" else "" if cell == "null" else cell for cell, kind in zip(row, kinds)]
+        yield [
+            replies.unescape(cell) if kind == "string" else cell if kind == "dynamic" else "" if cell == "null" else cell
+            for cell, kind in zip(row, kinds)
+        ]
 
 
 def differences(seeds, program=None):
