@@ -116,7 +116,7 @@ def settled(options, going_on=False):
             raise ValueError(f"--scale {name}:{digits}: the column is a long, and --type says {options.types[name]}")
         options.scales[name] = int(digits)
     options.others = list(others_of(options.others))
-    options.is_other = False
+    options.is_last, options.seen = not options.others, set()
     if not 1 <= options.batch <= 2**20:
         raise ValueError("--batch N: N is 1 to 1048576")
     if options.delimiter is not None and (len(options.delimiter) != 1 or options.delimiter in '"\r\n'):
@@ -136,9 +136,9 @@ def settled(options, going_on=False):
 def parts(options):
     """The options of each table: first those of --into, then those of each --table. What says how columns are read is for all that have them."""
     yield options
-    for table, path in options.others:
+    for number, (table, path) in enumerate(options.others, 1):
         part = copy.copy(options)
-        part.into, part.files, part.is_other = table, [path], True
+        part.into, part.files, part.is_last = table, [path], number == len(options.others)
         part.format = part.names = part.header = part.only = part.rest = None
         yield part
 

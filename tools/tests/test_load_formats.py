@@ -147,6 +147,19 @@ class SeveralTables(unittest.TestCase):
         with self.assertRaisesRegex(ValueError, "it is NAME=FILE"):
             loaded("n\n1\n", "--table", "Owners")
 
+    def test_columns_that_no_table_has_are_told(self):
+        with Folder() as folder:
+            folder.put("a.csv", "n,s\n1,x\n")
+            folder.put("b.csv", "m,t\n2,y\n")
+            found = folder.load("a.csv", "--table", "B=b.csv", "--type", "n:string,m:int,q:int")
+            self.assertEqual(folder.load("a.csv", "--table", "B=b.csv", "--only", "q").status, 1)
+        self.assertEqual(
+            [block for block in found.blocks if block.startswith(".create")],
+            [".create table T (n:string, s:string)", ".create table B (m:int, t:string)"],
+        )
+        self.assertIn("no table has a column q", found.told)
+        self.assertNotIn("a column n", found.told)
+
     def test_rejects_of_several_tables(self):
         with Folder() as folder:
             folder.put("a.csv", "n,s\n1,x,y\n2,z\n")
