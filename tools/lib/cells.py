@@ -110,7 +110,11 @@ class Judge:
         """What keeps a text from being of the type."""
         if self.scale is not None:
             return f"is no {self.kind} with at most {self.scale} decimals"
-        return f"is too large for {'an' if self.kind == 'int' else 'a'} {self.kind}" if self.kind in RANGES and WHOLE.fullmatch(text) else f"is no {self.kind}"
+        return (
+            f"is too large for {'an' if self.kind == 'int' else 'a'} {self.kind}"
+            if self.kind in RANGES and WHOLE.fullmatch(text)
+            else f"is no {self.kind}"
+        )
 
     def exact(self, text):
         """What is written for a cell without blanks at its ends, or none."""

@@ -160,7 +160,8 @@ class Loading:
         """Adds a dynamic column for fields that no column has."""
         column = self.plan.add_rest()
         self.script.widen(column)
-        self.say(f"{places.chunk.name}: behind line {places.chunk.number:,} come fields that the first records lack; they go into {column.name}. To choose: --rest NAME or --on extra=drop")
+        place = f"{places.chunk.name}: behind line {places.chunk.number:,}"
+        self.say(f"{place} come fields that the first records lack; they go into {column.name}. To choose: --rest NAME or --on extra=drop")
 
     def tell(self, source, seconds):
         given, batches = self.script.given, self.script.batches

@@ -126,7 +126,13 @@ class Access(Lines):
         self.extra = [f"Extra{place}" for place in range(1, 1 + max((len(VALUES.findall(match[match.re.groups])) for match in matches), default=0))]
         known = [ACCESS[0], *(["VirtualHost", "Port"] if virtual else []), *ACCESS[1:], *(["Referer", "UserAgent"] if combined else [])]
         self.fields = known + self.extra
-        self.types = {**dict.fromkeys(known, "string"), "Timestamp": "datetime", "Status": "long", "Bytes": "long", **({"Port": "long"} if virtual else {})}
+        self.types = {
+            **dict.fromkeys(known, "string"),
+            "Timestamp": "datetime",
+            "Status": "long",
+            "Bytes": "long",
+            **({"Port": "long"} if virtual else {}),
+        }
 
     def are_of_form(self, found):
         return all(not groups[-1] or len(VALUES.findall(groups[-1])) <= len(self.extra) for groups in found)
@@ -143,7 +149,15 @@ class Access(Lines):
             with_port, port, alone, *groups = groups
             hosts = [[host or other for host, other in zip(with_port, alone)], port]
         host, ident, user, moment, request, status, size, *others, tails = groups
-        return [moment, *hosts, host, *map(dashed, (ident, user)), *self.requests.columns(request), *map(dashed, (status, size, *others)), *self.behind(tails, count)]
+        return [
+            moment,
+            *hosts,
+            host,
+            *map(dashed, (ident, user)),
+            *self.requests.columns(request),
+            *map(dashed, (status, size, *others)),
+            *self.behind(tails, count),
+        ]
 
     def behind(self, tails, count):
         """The fields behind those of the format."""
@@ -159,7 +173,9 @@ class Named(Lines):
     def __init__(self, name, parts):
         self.name = name
         self.values = parts[1::2]
-        super().__init__("".join(re.escape(part) if place % 2 == 0 else f"({pattern_of(part, parts[place + 1])})" for place, part in enumerate(parts)))
+        super().__init__(
+            "".join(re.escape(part) if place % 2 == 0 else f"({pattern_of(part, parts[place + 1])})" for place, part in enumerate(parts))
+        )
         wanted = [name for field in self.values for name in (("Method", "Path", "Protocol") if field.kind == "request" else (field.name,))]
         self.given = distinct_names(wanted)
         # The moment comes first, as in the other formats of logs.

@@ -2,9 +2,7 @@
 import re
 
 # Words that are no names unless they stand in brackets.
-RESERVED = frozenset(
-    "and or by true false let in between has has_cs contains contains_cs startswith startswith_cs endswith endswith_cs".split()
-)
+RESERVED = frozenset("and or by true false let in between has has_cs contains contains_cs startswith startswith_cs endswith endswith_cs".split())
 # Words that begin a typed literal where a bracket follows, as it does behind the name of a table that is made.
 LITERALS = frozenset("long int64 int bool boolean datetime date timespan time dynamic real double decimal guid".split())
 WORD = re.compile(r"[A-Za-z_][A-Za-z0-9_]*")

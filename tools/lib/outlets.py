@@ -6,6 +6,7 @@ import select
 import signal
 import stat
 import struct
+import sys
 import termios
 import threading
 
@@ -14,6 +15,8 @@ ROOM = 2**20
 PAGE = 2**12
 # No command begins with this sign, and none goes on behind it.
 UNDONE = b"!"
+# Linux's F_SETPIPE_SZ and F_GETPIPE_SZ, which Python names from 3.10 on.
+SET_SIZE, GET_SIZE = 1031, 1032
 SIGNALS = (signal.SIGINT, signal.SIGTERM, signal.SIGHUP)
 
 
@@ -87,16 +90,13 @@ class File(Stream):
 
 
 def widened(descriptor):
-    """Makes a pipe as wide as a command, where the system lets us, and gives how wide it is."""
-    try:
-        if fcntl.fcntl(descriptor, fcntl.F_GETPIPE_SZ) < ROOM:
-            fcntl.fcntl(descriptor, fcntl.F_SETPIPE_SZ, ROOM)
-    except (OSError, AttributeError):
-        pass
-    try:
-        return fcntl.fcntl(descriptor, fcntl.F_GETPIPE_SZ)
-    except (OSError, AttributeError):
+    """Makes a pipe as wide as a command, where the system lets us, and gives how wide it is; 0 where the system doesn't say."""
+    if not sys.platform.startswith("linux"):
         return 0
+    with contextlib.suppress(OSError):
+        if fcntl.fcntl(descriptor, GET_SIZE) < ROOM:
+            fcntl.fcntl(descriptor, SET_SIZE, ROOM)
+    return fcntl.fcntl(descriptor, GET_SIZE)
 
 
 def unread(descriptor):

@@ -199,7 +199,11 @@ def planned(fields, evidence, fixed, options):
     """The columns for the fields that were found, in order, and what is to be said of them."""
     notes, columns = [], []
     unknown = [name for name in (*options.types, *options.scales, *(options.only or ())) if name not in fields and name != options.rest]
-    if unknown and not options.others:
+    # What is said of columns is for those of all tables, so that only the last one shows what none has.
+    options.seen.update(fields)
+    if unknown and options.others and not [name for name in unknown if name in (options.only or ())]:
+        notes += [f"no table has a column {name}" for name in unknown if options.is_last and name not in options.seen]
+    elif unknown:
         raise Stopped(f"there is no column {unknown[0]}; the columns are {', '.join(fields)}")
     chosen = list(options.only or fields)
     room = MOST_COLUMNS - (1 if options.rest else 0)
@@ -207,7 +211,9 @@ def planned(fields, evidence, fixed, options):
         notes.append(f"{len(chosen):,} fields were found; those behind the first {room} go into {options.rest}")
         chosen = chosen[:room]
     if len(chosen) > room:
-        raise Stopped(f"{len(chosen):,} columns were found, and a table has at most {MOST_COLUMNS}: --only NAME,.. takes some, and --rest NAME puts all others into one dynamic column")
+        raise Stopped(
+            f"{len(chosen):,} columns were found, and a table has at most {MOST_COLUMNS}: --only NAME,.. takes some, and --rest NAME puts all others into one dynamic column"
+        )
     for name in chosen:
         kind = options.types.get(name) or ("long" if name in options.scales else fixed.get(name)) or evidence[name].kind()
         asked = name in options.types or name in options.scales or name in fixed

@@ -37,7 +37,9 @@ def compared(sent, replies):
     for command, reply in zip(sent, replies):
         if reply.startswith("refused"):
             tally.refused.append(reply)
-            tally.differences.append(f"{command} was refused: none of its {counted(command.rows, 'row')} went in" if command.rows else f"{command} was refused")
+            tally.differences.append(
+                f"{command} was refused: none of its {counted(command.rows, 'row')} went in" if command.rows else f"{command} was refused"
+            )
         elif command.what != "batch":
             if not reply.startswith(("done", "kept")):
                 tally.differences.append(f"{command} was answered with {reply.split(chr(10))[0]!r}")

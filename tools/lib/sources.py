@@ -161,7 +161,9 @@ class Source:
             self.fields = list(self.options.names)
         elif heading:
             self.fields = distinct_names(names)
-            self.notes += [f"the column {now!r} is called {before!r} in the file" for before, now in zip(record, self.fields) if before.strip() != now]
+            self.notes += [
+                f"the column {now!r} is called {before!r} in the file" for before, now in zip(record, self.fields) if before.strip() != now
+            ]
         else:
             self.fields = [f"Column{place}" for place in range(1, len(names) + 1)]
 
@@ -242,7 +244,9 @@ class Source:
                     continue
                 if name not in known:
                     known[name] = (ObjectEvidence if native and not table.is_text else Evidence)(self.options.moments)
-                known[name].add([value for value in table.columns[name][:room] if (not nulls or value not in nulls) and (value is not None or not table.is_text)])
+                known[name].add(
+                    [value for value in table.columns[name][:room] if (not nulls or value not in nulls) and (value is not None or not table.is_text)]
+                )
             seen += table.count
             if seen >= SAMPLE:
                 break
@@ -346,13 +350,17 @@ def sniffed(path, lines):
 
 
 def are_text(texts):
-    """Whether lines are text, and no cells with delimiters: the first begins with a datetime and a word, or none has a delimiter and some has words."""
+    """Whether lines are text and no cells: the first begins with a datetime and a word, or none has a delimiter and some has words."""
     if not texts:
         return False
     begun = text_lines.START.match(texts[0])
     if begun is not None and TEXT_BEHIND.match(texts[0], begun.end()):
         return True
-    return not is_word(texts[0].strip()) and not any(sign in text for text in texts for sign in ",\t;|\"") and any(WORDS.search(text.strip()) for text in texts)
+    return (
+        not is_word(texts[0].strip())
+        and not any(sign in text for text in texts for sign in ',\t;|"')
+        and any(WORDS.search(text.strip()) for text in texts)
+    )
 
 
 def raise_if_spread(path, first):

@@ -11,7 +11,34 @@ import lzma
 import random
 import re
 
-SIGNS = ["a", "b", "7", "é", "😀", " ", " ", "\t", '"', '"', ",", ";", "'", "\\", "\n", "\r", "\r\n", "\0", "\ufeff", "|", "<|", "//", "{", "[", ".", "="]
+SIGNS = [
+    "a",
+    "b",
+    "7",
+    "é",
+    "😀",
+    " ",
+    " ",
+    "\t",
+    '"',
+    '"',
+    ",",
+    ";",
+    "'",
+    "\\",
+    "\n",
+    "\r",
+    "\r\n",
+    "\0",
+    "\ufeff",
+    "|",
+    "<|",
+    "//",
+    "{",
+    "[",
+    ".",
+    "=",
+]
 BLANK_LINES = re.compile("\n(?:[ \t\r]*\n)+")
 COMPRESSED = [None] * 5 + [("gz", gzip.compress), ("bz2", bz2.compress), ("xz", lambda data: lzma.compress(data, preset=0))]
 
@@ -110,7 +137,16 @@ def json_file(chance):
             rejected += 1
         if chance.random() < 0.1:
             lines.append(chance.choice(["", "  ", "\t\r"]))
-    wanted = [[kept(record.get("s", "")), str(record.get("n", "")), {True: "true", False: "false", None: ""}[record.get("ok")], record.get("d"), late or None] for record, late in rows]
+    wanted = [
+        [
+            kept(record.get("s", "")),
+            str(record.get("n", "")),
+            {True: "true", False: "false", None: ""}[record.get("ok")],
+            record.get("d"),
+            late or None,
+        ]
+        for record, late in rows
+    ]
     words = ["--type", "s:string,n:long,ok:bool,d:dynamic", "--only", "s,n,ok,d", "--rest", "Rest", "--format", "json"]
     return File("a.json", "\n".join(lines).encode(), words, wanted, rejected, dynamics=(3, 4))
 
@@ -142,7 +178,7 @@ def access_file(chance):
         dashes = ["" if end == "-" else end for end in ends]
         rows.append(["2000-10-10T13:55:36-07:00", *virtual, "10.0.0.1", *ident, user, "GET", path, "HTTP/1.1", "200", "17", *dashes])
         if chance.random() < 0.1:
-            lines.append(chance.choice(["x", '10.0.0.1 - - [', lines[-1][:-1], "\0"]))
+            lines.append(chance.choice(["x", "10.0.0.1 - - [", lines[-1][:-1], "\0"]))
             rejected += 1
     named = 'nginx:$remote_addr - $remote_user [$time_local] "$request" $status $body_bytes_sent "$http_referer" "$http_user_agent"'
     return File("a.log", "\n".join(lines).encode(), ["--format", named if kind == "nginx" else kind], rows, rejected)

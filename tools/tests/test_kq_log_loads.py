@@ -25,10 +25,21 @@ class Loads(unittest.TestCase):
     def test_rows_that_the_program_counts_otherwise_are_told(self):
         # The stand-in takes each line for a row.
         self.put("a.csv", 'n,s\n1,x\n2,"y\nz"\n3,w\n')
-        found = subprocess.run([*KQ_LOG, "a.csv", "--batch", "1"], input="", stdout=subprocess.PIPE, stderr=subprocess.PIPE, text=True, cwd=self.folder)
+        found = subprocess.run(
+            [*KQ_LOG, "a.csv", "--batch", "1"], input="", stdout=subprocess.PIPE, stderr=subprocess.PIPE, text=True, cwd=self.folder
+        )
         self.assertEqual(found.returncode, 1)
         self.assertIn("kq-log: not as it was sent: a.csv: batch 2: 1 row went out, and 2 went in (tag a.csv 2 of 1 ", found.stderr)
         self.assertEqual(found.stderr.count("not as it was sent"), 1)
+
+    def test_files_of_several_tables(self):
+        self.put("a.csv", "n,s\n1,x\n2,y\n")
+        self.put("owners.csv", "path,owner\n/a,ann\n")
+        words = [*KQ_LOG, "a.csv", "--table", "Owners=owners.csv"]
+        found = subprocess.run(words, input="print 1\n", stdout=subprocess.PIPE, stderr=subprocess.PIPE, text=True, cwd=self.folder)
+        self.assertEqual(found.returncode, 0, found.stderr)
+        self.assertIn("Log: 2 rows went in", found.stderr)
+        self.assertIn("Owners: 1 row went in", found.stderr)
 
     def at_terminal(self, *words):
         """What is shown up to the first prompt."""

@@ -21,7 +21,11 @@ class Files(unittest.TestCase):
 
     def test_files_of_bzip2_xz_and_zstd(self):
         lines = b"n,s\n" + b"".join(b"%d,x%d\n" % (i, i * 7919 % 1000003) for i in range(40_000))
-        kinds = {"bz2": lambda data: bz2.compress(data, 1), "xz": lzma.compress, "zst": lambda data: subprocess.run(["zstd", "-cq"], input=data, stdout=subprocess.PIPE, check=True).stdout}
+        kinds = {
+            "bz2": lambda data: bz2.compress(data, 1),
+            "xz": lzma.compress,
+            "zst": lambda data: subprocess.run(["zstd", "-cq"], input=data, stdout=subprocess.PIPE, check=True).stdout,
+        }
         for kind, compress in kinds.items():
             if kind == "zst" and shutil.which("zstd") is None:
                 continue
@@ -128,7 +132,7 @@ class Files(unittest.TestCase):
 
 class Texts(unittest.TestCase):
     def test_nul_bytes_are_loaded_as_they_are(self):
-        found = loaded(b"n,s\n1,x\0y\n2,\0\n3,\"\0\"\n")
+        found = loaded(b'n,s\n1,x\0y\n2,\0\n3,"\0"\n')
         if sys.version_info >= (3, 11):
             self.assertEqual((found.status, found.rows), (0, [["1", "x\0y"], ["2", "\0"], ["3", "\0"]]))
         else:
@@ -150,7 +154,14 @@ class Texts(unittest.TestCase):
         self.assertEqual(loaded(lines, "--on", "utf8=replace", name="a.json").rows, [["😀"], ["\ufffd"]])
 
     def test_blank_lines_within_cells_become_one_space(self):
-        for cell, wanted in [("a\n\nb", "a b"), ("a\n \t\r\n\nb\nc", "a b\nc"), ("\n\n", " "), ("a\n\n", "a "), ("\na", "\na"), ("a\r\n\r\nb", "a\r b")]:
+        for cell, wanted in [
+            ("a\n\nb", "a b"),
+            ("a\n \t\r\n\nb\nc", "a b\nc"),
+            ("\n\n", " "),
+            ("a\n\n", "a "),
+            ("\na", "\na"),
+            ("a\r\n\r\nb", "a\r b"),
+        ]:
             with self.subTest(cell=cell):
                 found = loaded(f'n,s\n1,"{cell}"\n2,x\n')
                 self.assertEqual((found.status, found.rows), (0, [["1", wanted], ["2", "x"]]))
@@ -227,7 +238,12 @@ class Records(unittest.TestCase):
 
     def test_lines_of_json_that_would_be_whole_together(self):
         content = '{"a":[1\n2]}\n{"a":3}\n{"a":4}, {"a":5}\n'
-        rejected = loaded(content, "--rejects", "bad", name="a.json", )
+        rejected = loaded(
+            content,
+            "--rejects",
+            "bad",
+            name="a.json",
+        )
         self.assertEqual(rejected.rows, [["3"]])
 
     def test_a_column_named_and(self):
@@ -276,7 +292,9 @@ class Records(unittest.TestCase):
             self.assertEqual(sorted(os.listdir(folder.path)), ["a.csv", "a.csv.2.rejects", "a.csv.rejects", "b"])
         self.assertEqual((found.status, found.rows), (0, [["1", "x"], ["4", "y"]]))
         self.assertEqual(texts, {"a.csv.rejects": b"mine\n", "a.csv.2.rejects": b"n,s\n2,y,z\nq,w\n", "b/b.csv.rejects": b'n,s\n3,"open\n'})
-        self.assertIn("wide: 1 rejected; the first: a.csv:3: the record has 3 cells, and there are 2 columns; to take them: --on wide=cut", found.told)
+        self.assertIn(
+            "wide: 1 rejected; the first: a.csv:3: the record has 3 cells, and there are 2 columns; to take them: --on wide=cut", found.told
+        )
         self.assertIn("cell: 1 rejected; the first: a.csv:4: n: 'q' is no long; to take them: --on cell=null", found.told)
         self.assertIn("quote: 1 rejected", found.told)
         self.assertIn("2 records that didn't go in: a.csv.2.rejects, as they were", found.told)
@@ -297,7 +315,10 @@ class Records(unittest.TestCase):
         large = loaded("n\n99999999999999999999\n")
         self.assertIn("n has whole numbers that are too large for a long, and are kept as strings", large.told)
         self.assertNotIn("--scale", large.told)
-        self.assertIn("a: '99999999999999999999' is too large for a long. To go on: --on cell=null", loaded("a\n99999999999999999999\n", "--type", "a:long").told)
+        self.assertIn(
+            "a: '99999999999999999999' is too large for a long. To go on: --on cell=null",
+            loaded("a\n99999999999999999999\n", "--type", "a:long").told,
+        )
         self.assertNotIn("--scale", loaded("n\n1.12345678901234567890\n").told)
         self.assertNotIn("--scale", loaded("n\n1e-30\n").told)
         self.assertIn("--scale n:3", loaded("n\n1.5\n2.125\n").told)

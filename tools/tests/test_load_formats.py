@@ -48,7 +48,12 @@ class Lines(unittest.TestCase):
         self.assertEqual(found.rows, [["1", "Starting the server"], ["2", "Stopping the server\n  for the night"], ["5", "Starting again"]])
 
     def test_datetimes_of_several_forms_in_front(self):
-        for front, wanted in [("[2024-03-01T10:00:00Z] x", "2024-03-01T10:00:00Z"), ("2024/03/01 10:00:00 [error] x", "2024-03-01T10:00:00"), ("Mar  1 10:00:00 host x", f"{datetime.date.fromtimestamp(1709294400).year}-03-01T10:00:00"), ("2024-03-01 10:00:00.5 +0100: x", "2024-03-01T10:00:00.5+01:00")]:
+        for front, wanted in [
+            ("[2024-03-01T10:00:00Z] x", "2024-03-01T10:00:00Z"),
+            ("2024/03/01 10:00:00 [error] x", "2024-03-01T10:00:00"),
+            ("Mar  1 10:00:00 host x", f"{datetime.date.fromtimestamp(1709294400).year}-03-01T10:00:00"),
+            ("2024-03-01 10:00:00.5 +0100: x", "2024-03-01T10:00:00.5+01:00"),
+        ]:
             with self.subTest(front=front):
                 self.assertEqual(loaded(front + " y\n", "--format", "lines", name="a.log").rows[0][1], wanted)
 
@@ -57,7 +62,9 @@ class Lines(unittest.TestCase):
         self.assertEqual(found.rows, [["1", "", "-- begin --"], ["2", "2024-03-01 10:00:00", "INFO x"]])
 
     def test_cells_with_a_datetime_in_front_are_csv(self):
-        self.assertEqual(loaded("2024-03-01 10:00:00,web-1,GET\n2024-03-01 10:00:01,123,POST\n").columns, "Column1:datetime, Column2:string, Column3:string")
+        self.assertEqual(
+            loaded("2024-03-01 10:00:00,web-1,GET\n2024-03-01 10:00:01,123,POST\n").columns, "Column1:datetime, Column2:string, Column3:string"
+        )
         self.assertEqual(loaded("2024-03-01 10:00:00\tweb-1\n", name="a.tsv").columns, "Column1:datetime, Column2:string")
         self.assertEqual(loaded("2024-03-01 10:00:00\n2024-03-01 10:00:01\n").columns, "Column1:datetime")
 
@@ -71,7 +78,13 @@ class Logfmt(unittest.TestCase):
         lines = 'ts=2024-03-01T10:00:00Z level=info msg="user \\"ann\\" came\\tin" took=12ms n=3 ok\n\nts=2024-03-01T10:00:01Z level=warn msg=slow n=4 user= extra=x\r\n'
         found = loaded(lines, name="a.log")
         self.assertEqual(found.columns, "ts:datetime, level:string, msg:string, took:timespan, n:long, ok:bool, user:string, extra:string")
-        self.assertEqual(found.rows, [["2024-03-01T10:00:00Z", "info", 'user "ann" came\tin', "12ms", "3", "true", "", ""], ["2024-03-01T10:00:01Z", "warn", "slow", "", "4", "", "", "x"]])
+        self.assertEqual(
+            found.rows,
+            [
+                ["2024-03-01T10:00:00Z", "info", 'user "ann" came\tin', "12ms", "3", "true", "", ""],
+                ["2024-03-01T10:00:01Z", "warn", "slow", "", "4", "", "", "x"],
+            ],
+        )
 
     def test_keys_that_come_again_and_lines_of_another_form(self):
         found = loaded('a=1 b=2 a=3\nc=1 d="open\nb=5 a=4\n', "--rejects", "bad", "--format", "logfmt", name="a.log")
@@ -83,24 +96,38 @@ class Logfmt(unittest.TestCase):
         self.assertEqual((found.columns, found.rows[-1]), ("a:long, b:long", ["1", "2", '{"late":"x"}']))
 
     def test_a_line_with_many_quotes_takes_no_time(self):
-        found = loaded('a=1 b=2\n' * 3 + 'a="' + '\\"' * 100_000 + "\n" + 'a="b" ' * 50_000 + '"\n', "--rejects", "bad", name="a.log")
+        found = loaded("a=1 b=2\n" * 3 + 'a="' + '\\"' * 100_000 + "\n" + 'a="b" ' * 50_000 + '"\n', "--rejects", "bad", name="a.log")
         self.assertEqual(len(found.rows), 3)
 
 
 class Journald(unittest.TestCase):
-    ENTRY = {"__CURSOR": "s=1", "__REALTIME_TIMESTAMP": "1709294400123456", "_HOSTNAME": "web-1", "_SYSTEMD_UNIT": "ssh.service", "SYSLOG_IDENTIFIER": "sshd", "_PID": "42", "PRIORITY": "6", "MESSAGE": "Accepted key"}
+    ENTRY = {
+        "__CURSOR": "s=1",
+        "__REALTIME_TIMESTAMP": "1709294400123456",
+        "_HOSTNAME": "web-1",
+        "_SYSTEMD_UNIT": "ssh.service",
+        "SYSLOG_IDENTIFIER": "sshd",
+        "_PID": "42",
+        "PRIORITY": "6",
+        "MESSAGE": "Accepted key",
+    }
 
     def load(self, *entries):
         return loaded("".join(json.dumps(entry) + "\n" for entry in entries), name="a.json")
 
     def test_fields_are_columns_and_the_others_members(self):
         found = self.load({**self.ENTRY, "_UID": "0"}, {**self.ENTRY, "OBJECT": ["a", "b"], "_PID": None})
-        self.assertEqual(found.columns, "Timestamp:datetime, Host:string, Unit:string, Application:string, Process:string, Severity:long, Message:string, Fields:dynamic")
+        self.assertEqual(
+            found.columns,
+            "Timestamp:datetime, Host:string, Unit:string, Application:string, Process:string, Severity:long, Message:string, Fields:dynamic",
+        )
         self.assertEqual(found.rows[0][:7], ["2024-03-01T12:00:00.123456Z", "web-1", "ssh.service", "sshd", "42", "6", "Accepted key"])
         self.assertEqual([json.loads(row[7]) for row in found.rows], [{"__CURSOR": "s=1", "_UID": "0"}, {"__CURSOR": "s=1", "OBJECT": ["a", "b"]}])
 
     def test_messages_that_are_bytes_or_too_large(self):
-        found = self.load(self.ENTRY, {**self.ENTRY, "MESSAGE": list("\x1b[1mé".encode())}, {**self.ENTRY, "MESSAGE": None}, {**self.ENTRY, "MESSAGE": ["a", "b"]})
+        found = self.load(
+            self.ENTRY, {**self.ENTRY, "MESSAGE": list("\x1b[1mé".encode())}, {**self.ENTRY, "MESSAGE": None}, {**self.ENTRY, "MESSAGE": ["a", "b"]}
+        )
         self.assertEqual([row[6] for row in found.rows], ["Accepted key", "\x1b[1mé", "", '["a","b"]'])
         self.assertIn("a.json:2: the record has bytes that are no UTF-8", self.load(self.ENTRY, {**self.ENTRY, "MESSAGE": [255]}).told)
 
@@ -112,10 +139,26 @@ class SeveralTables(unittest.TestCase):
             folder.put("owners.csv", "path,owner\n/a,ann\n/b,bo\n")
             folder.put("hosts.json", '{"h":"x","d":{"n":1}}\n')
             found = folder.load("a.log", "--into", "App", "--table", "Owners=owners.csv", "--table", "Hosts=hosts.json", "--type", "owner:string")
-        self.assertEqual([block.split(" (")[0] for block in found.blocks if block.startswith(".create")], [".create table App", ".create table Owners", ".create table Hosts"])
+        self.assertEqual(
+            [block.split(" (")[0] for block in found.blocks if block.startswith(".create")],
+            [".create table App", ".create table Owners", ".create table Hosts"],
+        )
         self.assertEqual([(batch[0], batch[3].count("\n") + 1) for batch in found.batches if batch[0] != "App"], [("Owners", 2), ("Hosts", 1)])
         with self.assertRaisesRegex(ValueError, "it is NAME=FILE"):
             loaded("n\n1\n", "--table", "Owners")
+
+    def test_columns_that_no_table_has_are_told(self):
+        with Folder() as folder:
+            folder.put("a.csv", "n,s\n1,x\n")
+            folder.put("b.csv", "m,t\n2,y\n")
+            found = folder.load("a.csv", "--table", "B=b.csv", "--type", "n:string,m:int,q:int")
+            self.assertEqual(folder.load("a.csv", "--table", "B=b.csv", "--only", "q").status, 1)
+        self.assertEqual(
+            [block for block in found.blocks if block.startswith(".create")],
+            [".create table T (n:string, s:string)", ".create table B (m:int, t:string)"],
+        )
+        self.assertIn("no table has a column q", found.told)
+        self.assertNotIn("a column n", found.told)
 
     def test_rejects_of_several_tables(self):
         with Folder() as folder:

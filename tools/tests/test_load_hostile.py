@@ -25,7 +25,14 @@ class Names(unittest.TestCase):
     def test_names_of_files_columns_and_tables_are_escaped(self):
         name = f"a{BAD}.csv"
         files = {name: f"n{BAD},s\n1,{BAD}\nx,y\n", "b.csv": f"n,n{BAD}\nx,1\n"}
-        for words in ([*LOAD, name, "--into", "T" + BAD], [*LOAD, name, "--into", "T", "--type", f"n{BAD}:long"], [*LOAD, name, "b.csv", "--into", "T", "--type", f"{BAD}:longer"], [*LOAD, name, "--into", "T", "--print-schema"], [*KQ_LOG, name, "--into", "T" + BAD], [*LOAD, "no" + BAD, "--into", "T"]):
+        for words in (
+            [*LOAD, name, "--into", "T" + BAD],
+            [*LOAD, name, "--into", "T", "--type", f"n{BAD}:long"],
+            [*LOAD, name, "b.csv", "--into", "T", "--type", f"{BAD}:longer"],
+            [*LOAD, name, "--into", "T", "--print-schema"],
+            [*KQ_LOG, name, "--into", "T" + BAD],
+            [*LOAD, "no" + BAD, "--into", "T"],
+        ):
             with self.subTest(words=words[2:]):
                 found = self.run_in(words, files)
                 self.assertIsNone(STEERING.search(found.stderr.decode()), found.stderr)

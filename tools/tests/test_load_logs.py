@@ -49,11 +49,20 @@ class Access(unittest.TestCase):
         ]:
             with self.subTest(request=request):
                 # Beside a plain line, which is read another way where all are plain.
-                for lines in ([COMMON.replace("GET /apache_pb.gif HTTP/1.0", request)], [COMMON] * 3 + [COMMON.replace("GET /apache_pb.gif HTTP/1.0", request)]):
+                for lines in (
+                    [COMMON.replace("GET /apache_pb.gif HTTP/1.0", request)],
+                    [COMMON] * 3 + [COMMON.replace("GET /apache_pb.gif HTTP/1.0", request)],
+                ):
                     self.assertEqual(rows(lines)[-1][4:7], wanted)
 
     def test_requests_of_another_form_are_counted(self):
-        found = loaded("".join(COMMON.replace("GET /apache_pb.gif HTTP/1.0", request) + "\n" for request in ("GET /a b HTTP/1.1", "GET / HTTP/1.1", "-", r"\x16", "GET /")), name="a.log")
+        found = loaded(
+            "".join(
+                COMMON.replace("GET /apache_pb.gif HTTP/1.0", request) + "\n"
+                for request in ("GET /a b HTTP/1.1", "GET / HTTP/1.1", "-", r"\x16", "GET /")
+            ),
+            name="a.log",
+        )
         self.assertIn("a.log: 1 request with a blank in the path", found.told)
         self.assertIn("a.log: 1 request not of the form METHOD PATH HTTP/VERSION: Path has the whole of them", found.told)
 
@@ -62,7 +71,13 @@ class Access(unittest.TestCase):
         found = loaded(f"www.example.com:443 {COMMON}\n", name="a.log")
         self.assertEqual((found.columns, found.rows[0][1:6]), (wanted, ["www.example.com", "443", "127.0.0.1", "", "frank"]))
         found = loaded(f"www.example.com {COMBINED}\nwww.example.com:80 2001:db8::1{COMBINED[9:]}\n", name="a.log")
-        self.assertEqual((found.columns, [row[1:6] for row in found.rows]), (wanted + ", Referer:string, UserAgent:string", [["www.example.com", "", "127.0.0.1", "", "frank"], ["www.example.com", "80", "2001:db8::1", "", "frank"]]))
+        self.assertEqual(
+            (found.columns, [row[1:6] for row in found.rows]),
+            (
+                wanted + ", Referer:string, UserAgent:string",
+                [["www.example.com", "", "127.0.0.1", "", "frank"], ["www.example.com", "80", "2001:db8::1", "", "frank"]],
+            ),
+        )
         for line in (f"::1{COMMON[9:]}", f"2001:db8::1:7{COMMON[9:]}", f"client.example.org{COMMON[9:]}".replace("frank", "frank n stein")):
             self.assertEqual(loaded(line + "\n", name="a.log").columns, ACCESS)
 
@@ -111,19 +126,33 @@ class Formats(unittest.TestCase):
 
     def test_times_of_requests_and_upstreams_are_timespans(self):
         text = '$remote_addr [$time_iso8601] "$request" $status $request_time $upstream_response_time $upstream_addr ${request_id} "$http_x_forwarded_for"'
-        lines = ['10.0.0.1 [2024-03-01T10:00:00+01:00] "GET /a b HTTP/2.0" 200 0.005 0.004 10.0.1.1:80 4f "-"', '10.0.0.1 [2024-03-01T10:00:01+01:00] "-" 502 1.250 0.5, - : 0.75 10.0.1.1:80, 10.0.1.2:80 : unix:/tmp/s 50 "1.2.3.4, 5.6.7.8"']
+        lines = [
+            '10.0.0.1 [2024-03-01T10:00:00+01:00] "GET /a b HTTP/2.0" 200 0.005 0.004 10.0.1.1:80 4f "-"',
+            '10.0.0.1 [2024-03-01T10:00:01+01:00] "-" 502 1.250 0.5, - : 0.75 10.0.1.1:80, 10.0.1.2:80 : unix:/tmp/s 50 "1.2.3.4, 5.6.7.8"',
+        ]
         found = loaded("".join(line + "\n" for line in lines), "--format", "nginx:" + text, name="a.log")
-        self.assertEqual(found.columns, "Timestamp:datetime, Host:string, Method:string, Path:string, Protocol:string, Status:long, RequestTime:timespan, UpstreamResponseTime:timespan, UpstreamAddr:string, RequestId:string, XForwardedFor:string")
-        self.assertEqual(found.rows[0], ["2024-03-01T10:00:00+01:00", "10.0.0.1", "GET", "/a b", "HTTP/2.0", "200", "0.005s", "0.004s", "10.0.1.1:80", "4f", ""])
+        self.assertEqual(
+            found.columns,
+            "Timestamp:datetime, Host:string, Method:string, Path:string, Protocol:string, Status:long, RequestTime:timespan, UpstreamResponseTime:timespan, UpstreamAddr:string, RequestId:string, XForwardedFor:string",
+        )
+        self.assertEqual(
+            found.rows[0], ["2024-03-01T10:00:00+01:00", "10.0.0.1", "GET", "/a b", "HTTP/2.0", "200", "0.005s", "0.004s", "10.0.1.1:80", "4f", ""]
+        )
         self.assertEqual(found.rows[1][3:], ["", "", "502", "1.250s", "1.25s", "10.0.1.1:80, 10.0.1.2:80 : unix:/tmp/s", "50", "1.2.3.4, 5.6.7.8"])
 
     def test_a_whole_directive_of_nginx(self):
-        text = "log_format compression '$remote_addr - $remote_user [$time_local] '\n '\"$request\" $status $bytes_sent '\n '\"$http_referer\" \"$http_user_agent\" \"$gzip_ratio\"';"
+        text = 'log_format compression \'$remote_addr - $remote_user [$time_local] \'\n \'"$request" $status $bytes_sent \'\n \'"$http_referer" "$http_user_agent" "$gzip_ratio"\';'
         found = loaded(COMBINED + ' "2.51"\n', "--format", "nginx:" + text, name="a.log")
-        self.assertEqual((found.rows[0][-4:], found.columns.split(", ")[-4:]), (["2326", "http://www.example.com/start.html", "Mozilla/4.08 [en] (Win98; I ;Nav)", "2.51"], ["BytesSent:long", "Referer:string", "UserAgent:string", "GzipRatio:string"]))
+        self.assertEqual(
+            (found.rows[0][-4:], found.columns.split(", ")[-4:]),
+            (
+                ["2326", "http://www.example.com/start.html", "Mozilla/4.08 [en] (Win98; I ;Nav)", "2.51"],
+                ["BytesSent:long", "Referer:string", "UserAgent:string", "GzipRatio:string"],
+            ),
+        )
 
     def test_apache_s_formats(self):
-        combined = r'%h %l %u %t \"%r\" %>s %b \"%{Referer}i\" \"%{User-agent}i\"'
+        combined = r"%h %l %u %t \"%r\" %>s %b \"%{Referer}i\" \"%{User-agent}i\""
         for text in (combined, f'LogFormat "{combined}" combined', combined.replace("\\", "")):
             found = loaded(COMBINED + "\n", "--format", "apache:" + text, name="a.log")
             plain = loaded(COMBINED + "\n", name="a.log")
@@ -133,12 +162,42 @@ class Formats(unittest.TestCase):
         text = '%v:%p %a %400,501{X-Request-Id}i %{sec}t %D %{ms}T %T %O %{%Y-%m-%dT%H:%M:%S}t 100%% "%U%q"'
         with contextlib.redirect_stderr(io.StringIO()), self.assertRaises(SystemExit):
             loaded("x\n", "--format", "apache:" + text)
-        found = loaded('example.com:80 10.0.0.1 r-7 1709294400 1234567 1234 1 512 2024-03-01T12:00:00 100% "/a" ?b\n', "--format", "apache:" + text.replace("%U%q", '%U" %q').rstrip('"'), name="a.log")
-        self.assertEqual(found.columns, "Timestamp:datetime, VirtualHost:string, Port:long, ClientAddress:string, XRequestId:string, Duration:timespan, Duration_2:timespan, Duration_3:timespan, BytesSent:long, Timestamp_2:datetime, Path:string, Query:string")
-        self.assertEqual(found.rows[0], ["2024-03-01T12:00:00Z", "example.com", "80", "10.0.0.1", "r-7", "1234567microsecond", "1234ms", "1s", "512", "2024-03-01T12:00:00", "/a", "?b"])
+        found = loaded(
+            'example.com:80 10.0.0.1 r-7 1709294400 1234567 1234 1 512 2024-03-01T12:00:00 100% "/a" ?b\n',
+            "--format",
+            "apache:" + text.replace("%U%q", '%U" %q').rstrip('"'),
+            name="a.log",
+        )
+        self.assertEqual(
+            found.columns,
+            "Timestamp:datetime, VirtualHost:string, Port:long, ClientAddress:string, XRequestId:string, Duration:timespan, Duration_2:timespan, Duration_3:timespan, BytesSent:long, Timestamp_2:datetime, Path:string, Query:string",
+        )
+        self.assertEqual(
+            found.rows[0],
+            [
+                "2024-03-01T12:00:00Z",
+                "example.com",
+                "80",
+                "10.0.0.1",
+                "r-7",
+                "1234567microsecond",
+                "1234ms",
+                "1s",
+                "512",
+                "2024-03-01T12:00:00",
+                "/a",
+                "?b",
+            ],
+        )
 
     def test_formats_that_cut_no_lines_are_told(self):
-        for text, why in [("nginx:$a$b", "between two values"), ("nginx:abc", "no .VARIABLE"), ("apache:%h %Z", "no directive %Z"), ("apache:%i", "needs a name"), ("csv2", "no format 'csv2'")]:
+        for text, why in [
+            ("nginx:$a$b", "between two values"),
+            ("nginx:abc", "no .VARIABLE"),
+            ("apache:%h %Z", "no directive %Z"),
+            ("apache:%i", "needs a name"),
+            ("csv2", "no format 'csv2'"),
+        ]:
             with self.subTest(text=text), self.assertRaisesRegex(argparse.ArgumentTypeError, why):
                 load_options.format_of(text)
 
@@ -154,9 +213,15 @@ class Formats(unittest.TestCase):
 class Syslog(unittest.TestCase):
     def test_rfc_3164(self):
         with Folder() as folder:
-            folder.put("a.log", "<34>Oct 11 22:14:15 mymachine su: 'su root' failed for lonvick on /dev/pts/8\n<13>Feb  5 17:32:18 10.0.0.99 Use the BFG!\n", changed=datetime.datetime(2003, 12, 1, tzinfo=datetime.timezone.utc).timestamp())
+            folder.put(
+                "a.log",
+                "<34>Oct 11 22:14:15 mymachine su: 'su root' failed for lonvick on /dev/pts/8\n<13>Feb  5 17:32:18 10.0.0.99 Use the BFG!\n",
+                changed=datetime.datetime(2003, 12, 1, tzinfo=datetime.timezone.utc).timestamp(),
+            )
             found = folder.load("a.log")
-        self.assertEqual(found.columns, "Timestamp:datetime, Facility:long, Severity:long, Host:string, Application:string, Process:string, Message:string")
+        self.assertEqual(
+            found.columns, "Timestamp:datetime, Facility:long, Severity:long, Host:string, Application:string, Process:string, Message:string"
+        )
         self.assertEqual(
             found.rows,
             [
@@ -166,7 +231,12 @@ class Syslog(unittest.TestCase):
         )
 
     def test_lines_of_files_have_no_priority_and_often_a_process(self):
-        lines = ["Oct  1 22:14:15 host sshd[42]: Accepted key: ok", "Oct  1 22:14:15 host systemd-resolved[1]: x", "2024-03-01T10:00:00.123456+01:00 host app[7]: modern", "Oct  1 22:14:15 host CRON[9]:"]
+        lines = [
+            "Oct  1 22:14:15 host sshd[42]: Accepted key: ok",
+            "Oct  1 22:14:15 host systemd-resolved[1]: x",
+            "2024-03-01T10:00:00.123456+01:00 host app[7]: modern",
+            "Oct  1 22:14:15 host CRON[9]:",
+        ]
         found = rows(lines, "--year", "2024")
         self.assertEqual(found[0], ["2024-10-01T22:14:15", "", "", "host", "sshd", "42", "Accepted key: ok"])
         self.assertEqual(found[1][4:], ["systemd-resolved", "1", "x"])
@@ -181,8 +251,13 @@ class Syslog(unittest.TestCase):
             '<165>1 2003-10-11T22:14:15.003Z mymachine.example.com evntslog - ID47 [exampleSDID@32473 iut="3" eventSource="Application" eventID="1011"][examplePriority@32473 class="high"]',
         ]
         found = rows(lines)
-        self.assertEqual(found[0], ["2003-10-11T22:14:15.003Z", "4", "2", "mymachine.example.com", "su", "", "ID47", "", "'su root' failed for lonvick on /dev/pts/8"])
-        self.assertEqual(found[1], ["2003-08-24T05:14:15.000003-07:00", "20", "5", "192.0.2.1", "myproc", "8710", "", "", "%% It's time to make the do-nuts."])
+        self.assertEqual(
+            found[0],
+            ["2003-10-11T22:14:15.003Z", "4", "2", "mymachine.example.com", "su", "", "ID47", "", "'su root' failed for lonvick on /dev/pts/8"],
+        )
+        self.assertEqual(
+            found[1], ["2003-08-24T05:14:15.000003-07:00", "20", "5", "192.0.2.1", "myproc", "8710", "", "", "%% It's time to make the do-nuts."]
+        )
         self.assertEqual(json.loads(found[2][7]), {"exampleSDID@32473": {"iut": "3", "eventSource": "Application", "eventID": "1011"}})
         self.assertEqual(found[2][8], "An application event log entry...")
         self.assertEqual(json.loads(found[3][7])["examplePriority@32473"], {"class": "high"})
@@ -266,13 +341,31 @@ class Json(unittest.TestCase):
 
     def test_cells_of_csv_that_are_json(self):
         lines = 'n,d\n1,"{""a"":1}"\n'
-        for cell, kind in [('"{""a"":1.5}"', "number"), ('"{""a"":-0}"', "number"), ('"{""a"""', "json"), ('"[9223372036854775808]"', "number"), ('"{""a"":NaN}"', "json"), ('"[1],[2]"', "json")]:
+        for cell, kind in [
+            ('"{""a"":1.5}"', "number"),
+            ('"{""a"":-0}"', "number"),
+            ('"{""a"""', "json"),
+            ('"[9223372036854775808]"', "number"),
+            ('"{""a"":NaN}"', "json"),
+            ('"[1],[2]"', "json"),
+        ]:
             with self.subTest(cell=cell):
                 found = loaded(lines + f"2,{cell}\n", "--type", "d:dynamic")
                 self.assertEqual(found.status, 1)
                 self.assertIn(f"--on {kind}=", found.told)
-        kept = loaded(lines + '2,"{""a"""\n3,plain\n4,"[9223372036854775807]"\n5,"{""a"":1.5}"\n', "--type", "d:dynamic", "--on", "json=text", "--on", "number=string")
-        self.assertEqual([json.loads(row[1]) if row[1] != "plain" else "plain" for row in kept.rows], [{"a": 1}, '{"a"', "plain", [9223372036854775807], {"a": "1.5"}])
+        kept = loaded(
+            lines + '2,"{""a"""\n3,plain\n4,"[9223372036854775807]"\n5,"{""a"":1.5}"\n',
+            "--type",
+            "d:dynamic",
+            "--on",
+            "json=text",
+            "--on",
+            "number=string",
+        )
+        self.assertEqual(
+            [json.loads(row[1]) if row[1] != "plain" else "plain" for row in kept.rows],
+            [{"a": 1}, '{"a"', "plain", [9223372036854775807], {"a": "1.5"}],
+        )
 
 
 if __name__ == "__main__":

@@ -72,7 +72,13 @@ def wrong_in_program(program, file, found, table):
     if not all(reply.startswith(("done", "ingested", "kept")) for reply in told):
         return f"answered with {told}"
     answer = next(iter(replies.read(program.ask(table))))
-    keys = [json.dumps([(json.loads(cell) if cell not in ("", "null") else None) if place in file.dynamics else cell for place, cell in enumerate(row)], sort_keys=True) for row in plain_rows(answer)]
+    keys = [
+        json.dumps(
+            [(json.loads(cell) if cell not in ("", "null") else None) if place in file.dynamics else cell for place, cell in enumerate(row)],
+            sort_keys=True,
+        )
+        for row in plain_rows(answer)
+    ]
     wanted = [json.dumps(row, sort_keys=True) for row in file.rows]
     return None if collections.Counter(keys) == collections.Counter(wanted) else f"the table has {sorted(keys)}, not {sorted(wanted)}"
 
@@ -81,14 +87,19 @@ def plain_rows(answer):
     """The cells of an answer as the files have them. A null is an empty cell."""
     kinds = [kind for _, kind in answer.columns]
     for row in answer.rows():
-        yield [replies.unescape(cell) if kind == "string" else cell if kind == "dynamic" else "" if cell == "null" else cell for cell, kind in zip(row, kinds)]
+        yield [
+            replies.unescape(cell) if kind == "string" else cell if kind == "dynamic" else "" if cell == "null" else cell
+            for cell, kind in zip(row, kinds)
+        ]
 
 
 def differences(seeds, program=None):
-    """The seeds whose files differ, each with what does."""
-    found, run = [], None
+    """The seeds whose files differ, each with what does, and none for each thousand files."""
+    run = None
     with Folder() as folder:
         for count, seed in enumerate(seeds):
+            if count and count % 1000 == 0:
+                yield None
             file, table = random_file(seed), f"T{count}"
             result = loaded(folder, file, table)
             why = wrong(file, result)
@@ -98,27 +109,35 @@ def differences(seeds, program=None):
                     run = sessions.Program([program])
                 why = wrong_in_program(run, file, result, table)
             if why:
-                found.append((seed, why))
+                yield seed, why
     if run:
         run.end()
-    return found
+
+
+def main(count, first):
+    """Loads so many files, and tells each thousand, so that a run that is stopped has said what it found."""
+    faults, thousands = 0, 0
+    for found in differences(range(first, first + count), PROGRAM):
+        if found is None:
+            thousands += 1
+            print(f"{thousands * 1000} files, {faults} differ", flush=True)
+        else:
+            faults += 1
+            print(f"seed {found[0]}: {found[1]}", flush=True)
+    print(f"{count} files, {faults} differ")
+    return 1 if faults else 0
 
 
 class Random(unittest.TestCase):
     def test_500_files_have_each_cell_that_python_reads(self):
-        self.assertEqual(differences(range(500)), [])
+        self.assertEqual(list(differences(range(500))), [])
 
     @unittest.skipUnless(PROGRAM, "the proved program isn't built")
     def test_the_program_has_each_cell_too(self):
-        self.assertEqual(differences(range(500, 700), PROGRAM), [])
+        self.assertEqual(list(differences(range(500, 700), PROGRAM)), [])
 
 
 if __name__ == "__main__":
     if len(sys.argv) > 1 and sys.argv[1].isdigit():
-        first = int(sys.argv[2]) if len(sys.argv) > 2 else 0
-        faults = differences(range(first, first + int(sys.argv[1])), PROGRAM)
-        for seed, why in faults:
-            print(f"seed {seed}: {why}")
-        print(f"{sys.argv[1]} files, {len(faults)} differ")
-        sys.exit(1 if faults else 0)
+        sys.exit(main(int(sys.argv[1]), int(sys.argv[2]) if len(sys.argv) > 2 else 0))
     unittest.main()

@@ -46,7 +46,11 @@ class Headers(unittest.TestCase):
         self.assertEqual((found.columns, len(found.rows)), ("Column1:long, Column2:string", 2))
 
     def test_names_of_which_some_are_equal_or_empty_are_no_row(self):
-        for content, columns in [("a,b,a\n1,2,x\n", "a:long, b:long, a_2:string"), (",n,s\n0,1,x\n1,2,y\n", "Column1:long, n:long, s:string"), ("n,,\n2024-03-01,x,\n", "n:datetime, Column2:string, Column3:string")]:
+        for content, columns in [
+            ("a,b,a\n1,2,x\n", "a:long, b:long, a_2:string"),
+            (",n,s\n0,1,x\n1,2,y\n", "Column1:long, n:long, s:string"),
+            ("n,,\n2024-03-01,x,\n", "n:datetime, Column2:string, Column3:string"),
+        ]:
             with self.subTest(content=content):
                 found = loaded(content)
                 self.assertEqual((found.columns, len(found.rows)), (columns, content.count("\n") - 1))
@@ -132,12 +136,12 @@ class Batches(unittest.TestCase):
 
     def test_a_name_with_quotes_and_backslashes_stays_one_string(self):
         with Folder() as folder:
-            folder.put('a\'"\\é.csv', "n\n1\n")
-            found = folder.load('a\'"\\é.csv')
+            folder.put("a'\"\\é.csv", "n\n1\n")
+            found = folder.load("a'\"\\é.csv")
         # Within the command the backslashes of the JSON stand twice, and a single quote has one.
         text = found.script.decode().split("tags='")[1].split("', ingest")[0]
         plain = text.replace("\\'", "'").replace("\\\\", "\\")
-        self.assertTrue(tag_of(plain[1:-1]).startswith('ingest-by:a\'"\\é.csv '))
+        self.assertTrue(tag_of(plain[1:-1]).startswith("ingest-by:a'\"\\é.csv "))
 
     def test_no_batch_has_rows_of_two_files(self):
         with Folder() as folder:
@@ -162,7 +166,7 @@ class Rows(unittest.TestCase):
                 self.assertEqual(loaded(f"a,b\n{cell},1\ny,2\n").rows[0], [cell, "1"])
 
     def test_a_first_cell_of_a_batch_with_blanks_and_quotes_stays(self):
-        for cell in (' rack 19"', '\t"', '\ufeff "a" b', ' ""', "  \'"):
+        for cell in (' rack 19"', '\t"', '\ufeff "a" b', ' ""', "  '"):
             with self.subTest(cell=cell):
                 found = loaded(f"a,b\n{cell},1\ny,2\nz,3\n", "--header")
                 self.assertEqual(found.rows, [[cell, "1"], ["y", "2"], ["z", "3"]])
@@ -170,7 +174,7 @@ class Rows(unittest.TestCase):
                 self.assertEqual(alone.rows, [[cell], ["y"]])
 
     def test_a_blank_line_with_a_cr_of_one_column_stays_as_it_is(self):
-        found = loaded('a\r\nx\r\n \r\ny\r\n', "--header")
+        found = loaded("a\r\nx\r\n \r\ny\r\n", "--header")
         self.assertEqual(found.rows, [["x"], [" "], ["y"]])
 
     def test_blank_lines_of_one_column_are_records_beside_wide_ones_too_and_empty_ones_never(self):

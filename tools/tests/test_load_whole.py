@@ -1,4 +1,4 @@
-"""A load that is stopped at any moment leaves whole commands behind.
+"""A load that is stopped at any moment leaves whole commands behind. Where there is a program, it then has each record once.
 
 `python3 tools/tests/test_load_whole.py 200` stops as many loads and says how many left half of a command."""
 import os
@@ -10,11 +10,12 @@ import tempfile
 import time
 import unittest
 
-from load_runs import TOP
+from load_runs import PROGRAM, TOP
 
 from outlets import outlet
 
 LOAD = [sys.executable, os.path.join(TOP, "tools", "load"), "--into", "T"]
+ROWS = 60_000
 SIGNALS = (signal.SIGINT, signal.SIGTERM, signal.SIGKILL)
 # A reader that takes a little at a time, so that the pipe is full most of the time.
 SLOW = "import os, sys, time\nwhile True:\n    piece = os.read(0, 50_000)\n    if not piece: break\n    sys.stdout.buffer.write(piece); time.sleep(0.002)"
@@ -70,11 +71,18 @@ def is_whole(found, script):
     return before == wanted and (last == b"T | count" or last.startswith(b"!"))
 
 
+def is_once(found, script):
+    """Whether the program has each record once, where the rest of a load that was stopped is followed by the whole load."""
+    question = b"T | summarize c = count(), s = sum(n)\n\n"
+    told = subprocess.run([PROGRAM], input=found + script + question, stdout=subprocess.PIPE, check=True).stdout
+    return told.endswith(f"\n{ROWS}\t{ROWS * (ROWS - 1) // 2}\n\n".encode())
+
+
 def stopped(count, seed):
     """Stops loads at moments between the start and the end, and gives what was left wrong."""
     chance, faults = random.Random(seed), []
     with tempfile.TemporaryDirectory() as folder:
-        path = put_log(folder, 60_000)
+        path = put_log(folder, ROWS)
         began = time.monotonic()
         script = script_of(path)
         longest = time.monotonic() - began
@@ -82,7 +90,7 @@ def stopped(count, seed):
             number, where = SIGNALS[run % 3], (piped, piped, in_file)[run // 3 % 3]
             seconds = chance.uniform(0.05, longest * 1.2)
             found = where(path, number, seconds)
-            if not is_whole(found, script):
+            if not is_whole(found, script) or PROGRAM and not is_once(found, script):
                 faults.append((number.name, where.__name__, seconds))
     return faults
 

@@ -24,7 +24,11 @@ class Compared(unittest.TestCase):
         self.assertEqual(found.refused, ["refused Exists at 14\n", "refused WideRow row 3\n"])
         self.assertEqual(
             found.differences,
-            ["the command for the table T was refused", "a.csv: batch 1 was refused: none of its 10 rows went in", "a.csv: batch 1 was answered with 'rows 0'"],
+            [
+                "the command for the table T was refused",
+                "a.csv: batch 1 was refused: none of its 10 rows went in",
+                "a.csv: batch 1 was answered with 'rows 0'",
+            ],
         )
 
     def test_replies_that_are_missing_or_too_many_are_told(self):
@@ -35,7 +39,10 @@ class Compared(unittest.TestCase):
 class OfALoad(unittest.TestCase):
     def test_each_command_with_a_reply_is_kept_with_its_rows(self):
         found = loaded("n\n" + "".join(f"{i}\n" for i in range(25)), "--batch", "10")
-        self.assertEqual([(one.what, one.source, one.number, one.rows) for one in found.sent], [("table", "T", 0, 0), *(("batch", "a.csv", i, n) for i, n in ((1, 10), (2, 10), (3, 5)))])
+        self.assertEqual(
+            [(one.what, one.source, one.number, one.rows) for one in found.sent],
+            [("table", "T", 0, 0), *(("batch", "a.csv", i, n) for i, n in ((1, 10), (2, 10), (3, 5)))],
+        )
         self.assertEqual(len({one.tag for one in found.sent}), 4)
 
 
