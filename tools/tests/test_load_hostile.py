@@ -11,7 +11,7 @@ from load_runs import TOP, loaded
 LOAD = [sys.executable, os.path.join(TOP, "tools", "load")]
 KQ_LOG = [sys.executable, os.path.join(TOP, "kq-log"), "--program", os.path.join(TOP, "tools", "tests", "echo_program.py")]
 BAD = "\x1b]0;x\x07\x9b2J\u202e\u200f"
-STEERING = re.compile("[\x00-\x09\x0b-\x1f\x7f-\x9f\u200e\u200f\u202a-\u202e]")
+CONTROL_SIGNS = re.compile("[\x00-\x09\x0b-\x1f\x7f-\x9f\u200e\u200f\u202a-\u202e]")
 
 
 class Names(unittest.TestCase):
@@ -35,10 +35,10 @@ class Names(unittest.TestCase):
         ):
             with self.subTest(words=words[2:]):
                 found = self.run_in(words, files)
-                self.assertIsNone(STEERING.search(found.stderr.decode()), found.stderr)
+                self.assertIsNone(CONTROL_SIGNS.search(found.stderr.decode()), found.stderr)
                 self.assertIn(b"\\x1b", found.stderr)
                 if "--print-schema" in words:
-                    self.assertIsNone(STEERING.search(found.stdout.decode()))
+                    self.assertIsNone(CONTROL_SIGNS.search(found.stdout.decode()))
 
     def test_escaped_names_mean_the_same(self):
         self.assertEqual(loaded(f"a\x1bb,c\u202ed\n1,2\n", "--header").columns, r"['a\u001bb']:long, ['c\u202ed']:long")

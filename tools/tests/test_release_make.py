@@ -143,7 +143,7 @@ class Gate(Checkout):
 
 
 # The checks of the gate that these tests don't look into.
-PAGES = ("crates", "libraries", "edits", "memory", "theorem")
+PAGES = ("crates", "pages", "libraries", "edits", "memory", "theorem")
 CHECKS = [f".ci/{name}" for name in (*PAGES, "tools", "budget", "scripts", "pipe", "console")] + ["tools/processors"]
 
 
