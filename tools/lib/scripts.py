@@ -115,9 +115,8 @@ class Script:
 
 
 def enclosed(cell):
-    """A cell without quotes, with them. The CR of a line's end stays behind it."""
-    end = b"\r" if cell.endswith(b"\r") else b""
-    return b'"' + cell[: len(cell) - len(end)].replace(b'"', b'""') + b'"' + end
+    """A cell without quotes, with them. The CRs of a line's end aren't part of it."""
+    return b'"' + cell.rstrip(b"\r").replace(b'"', b'""') + b'"'
 
 
 def guarded(row):

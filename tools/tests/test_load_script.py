@@ -181,6 +181,8 @@ class Rows(unittest.TestCase):
         found = loaded("a\nx\n \n1,2\n\t\ny\n", "--header", "--rejects", "bad")
         self.assertEqual((found.rows, found.rejects), ([["x"], [" "], ["\t"], ["y"]], b"a\n1,2\n"))
         self.assertEqual(loaded("a\nx\n\r", "--header").rows, [["x"]])
+        found = loaded('a\n"\n\n \r\r', "--header", "--type", "a:string", "--rejects", "bad")
+        self.assertEqual((found.rows, found.rejects), ([[" "]], b'a\n"\n'))
 
     def test_a_byte_order_mark_of_a_file_is_dropped(self):
         self.assertEqual(loaded("\ufeffa,b\n1,x\n").columns, "a:long, b:string")
